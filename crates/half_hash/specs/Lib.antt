@@ -1,0 +1,4 @@
+pub mod Half
+pub mod Hex
+pub mod Prefix
+pub mod Zero

@@ -1,0 +1,116 @@
+//! Hashes of 32 bytes, and their hexadecimal text.
+ghost use Rattle.std.specs.Prelude.{List, ℕ, OnErr, ◌≡◌, ◌≢◌, length, IfOk, MatchBool, MatchResult};
+ghost use Rattle.hex.specs.Hex.{encode_upper, decode_sized};
+ghost use Rattle.half_hash.specs.Zero.{zero_hash, is_zero as all_zero};
+ghost use Rattle.half_hash.specs.Hex.{IsHexOf, HasCause};
+
+use crate::{Blob, Memory};
+use hex::FromHexError;
+use std::alloc::Global;
+use std::marker::Model;
+use thiserror::Error;
+
+/// A hash, or a key. Contracts see its list of bytes, whose order is that of the hashes.
+#[derive(Clone, Copy, Debug, PartialEq, Eq, PartialOrd, Ord)]
+pub struct Hash32 {
+    pub bytes: [u8; 32],
+}
+
+impl Model for Hash32 {
+    ghost use Rattle.std.specs.Prelude.{ℕ, List};
+
+    ghost Value = { List ℕ };
+
+    ghost view = { λ a. a.bytes };
+
+    ghost inverse = { λ bytes. record { bytes = bytes } };
+}
+
+/// Why a text is no hash.
+#[derive(Clone, Copy, Debug, PartialEq, Eq, Error)]
+pub enum HexFault {
+    /// The text has this many bytes, and not 64.
+    #[error("Length")]
+    Length(usize),
+    /// The byte at this place, the first such, is no hexadecimal digit.
+    #[error("Digit")]
+    Digit(usize),
+}
+
+impl Hash32 {
+    /// The hash of an empty branch, and the root of an empty map: 32 zero bytes.
+    pub fn zero() -> Hash32
+        ensures { result ≡ zero_hash }
+    {
+        Hash32 { bytes: [0; 32] }
+    }
+
+    /// Whether all bytes are zero.
+    pub fn is_zero(&self) -> bool
+        ensures { result ≡ all_zero self.now }
+    {
+        self.bytes.iter().all(|b| *b == 0)
+    }
+
+    /// Whether the two hashes are one.
+    pub fn equals(&self, other: &Hash32) -> bool
+        ensures { MatchBool result (self.now ≡ other.now) (self.now ≢ other.now) }
+    {
+        self.bytes.as_slice() == other.bytes.as_slice()
+    }
+
+    /// Tells a proof that a hash has 32 bytes.
+    pub fn known(&self)
+        ensures { length self.now ≡ 32 }
+    {
+        let _bytes = &self.bytes;
+    }
+
+    /// The hash as 64 upper-case digits.
+    pub fn to_hex(&self, alloc: Global) -> Result<Blob, Memory>
+        ensures digits { IfOk result (λ text. text ≡ encode_upper self.now) }
+        // `from_hex` reads them back.
+        ensures back { IfOk result (λ text. IsHexOf text self.now) }
+    {
+        digits_of(alloc, &self.bytes)
+    }
+
+    /// The hash of 64 digits of either case. A text of another length is refused for that, and
+    /// else a byte that is no digit, the first of them.
+    pub fn from_hex(text: &[u8]) -> Result<Hash32, HexFault>
+        ensures exact { MatchResult result (IsHexOf text.now) (HasCause text.now) }
+        // What is refused is the text of no hash.
+        ensures refused { OnErr result ((hash : List ℕ) → IsHexOf text.now hash → ⊥) }
+    {
+        if text.len() != 64 {
+            return Err(HexFault::Length(text.len()));
+        }
+        let mut bytes = [0; 32];
+        match hex::decode_to_slice(text, &mut bytes) {
+            Ok(()) => Ok(Hash32 { bytes }),
+            Err(fault) => Err(cause_of(fault, text)),
+        }
+    }
+}
+
+/// The digits of 32 bytes.
+fn digits_of(alloc: Global, bytes: &[u8]) -> Result<Blob, Memory>
+    requires { length bytes.now ≡ 32 }
+    ensures digits { IfOk result (λ text. text ≡ encode_upper bytes.now) }
+    ensures back { IfOk result (λ text. IsHexOf text bytes.now) }
+{
+    let text = hex::encode_upper(alloc, bytes)?;
+    Ok(Blob::new(text.into_bytes()))
+}
+
+/// Why 64 bytes do not decode.
+fn cause_of(fault: FromHexError, text: &[u8]) -> HexFault
+    requires digits { length text.now ≡ 64 }
+    requires fails { decode_sized text.now 32 ≡ Err fault }
+    ensures { HasCause text.now result }
+{
+    match fault {
+        FromHexError::InvalidHexCharacter { index, .. } => HexFault::Digit(index),
+        _ => unreachable!(),
+    }
+}

@@ -1,0 +1,8 @@
+pub mod Soundness
+pub mod RunLaws
+pub mod SoundKeeps
+pub mod SoundForms
+pub mod SoundCheck
+pub mod SoundOffers
+pub mod SoundSteps
+mod Rows

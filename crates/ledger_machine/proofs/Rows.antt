@@ -1,0 +1,53 @@
+-- A walk through the state's map, computed.
+use Rattle.std.specs.Prelude.{◌≡◌, ℕ, List, [], ◌∷◌, ◌++◌, replicate, refl}
+use Rattle.std.specs.FinMap as map
+use Rattle.std.specs.FinMap.{find as find_by}
+use Rattle.std.proofs.Common.{ap, ◌∙◌}
+use Rattle.std.specs.Ordering.{nat_cmp}
+use Rattle.std.specs.Cmp.Lexicographic.{slice_cmp, nat_list_cmp_total}
+use Rattle.half_hash.specs.Half.{byte_sum_half}
+use Rattle.ledger_spec.specs.declared.Kind.TheVariants.{State}
+use Rattle.ledger_spec.specs.declared.Place.TheVariants.{Node}
+use Rattle.ledger_spec.specs.Bytes.{Bytes, Hash, Lookup}
+use Rattle.ledger_spec.specs.Forms.{Held, inner, leaf, header, form_of, inner_of, header_of, keyed_leaf_of, bare_leaf_of}
+use Rattle.ledger_spec.specs.Findings.{walk, walk_map, walk_ledger, Finding, findings, lacks}
+use Rattle.ledger_machine.specs.State.{form_in, opening}
+
+abbrev at : ℕ → Hash
+at x = x ∷ replicate 31 0
+
+abbrev leaf10 : Held
+leaf10 = leaf State (at 0x10) (1 ∷ 2 ∷ [])
+
+abbrev root10 : Held
+root10 = inner (replicate 1 (replicate 32 0) ++ at 0xFA ∷ replicate 14 (replicate 32 0))
+
+abbrev head10 : Held
+head10 = header (0 ∷ 0 ∷ 0 ∷ 10 ∷ replicate 72 0 ++ at 0xDE ++ replicate 10 0)
+
+-- the walk of a map of entries is that of its look-up, which computes
+pub lookup_of : (es : List (Hash × Bytes)) → map.get (map.from_entries {R = slice_cmp nat_cmp} es) ≡ (λ h. find_by (slice_cmp nat_cmp) h es)
+lookup_of es = λ i h. map.get-from_entries nat_list_cmp_total es h i
+
+abbrev with_root : List (Hash × Bytes)
+with_root = (at 0xDD, form_of head10) ∷ (at 0xDE, form_of root10) ∷ []
+
+abbrev whole10 : List (Hash × Bytes)
+whole10 = (at 0xFA, form_of leaf10) ∷ with_root
+
+abbrev missing_in : List (Hash × Bytes) → List Finding
+missing_in es = findings byte_sum_half (λ h. find_by (slice_cmp nat_cmp) h es) (at 0xDD)
+
+lacks_leaf : missing_in with_root ≡ lacks (Node State (1 ∷ [])) ∷ []
+unfolding walk walk_map walk_ledger inner_of header_of keyed_leaf_of bare_leaf_of
+lacks_leaf = refl
+
+is_whole : missing_in whole10 ≡ []
+unfolding walk walk_map walk_ledger inner_of header_of keyed_leaf_of bare_leaf_of
+is_whole = refl
+
+state_lacks_leaf : findings byte_sum_half (form_in (opening (map.from_entries with_root) 256)) (at 0xDD) ≡ lacks (Node State (1 ∷ [])) ∷ []
+state_lacks_leaf = ap (λ (n : Lookup). findings byte_sum_half n (at 0xDD)) (lookup_of with_root) ∙ lacks_leaf
+
+state_is_whole : findings byte_sum_half (form_in (opening (map.from_entries whole10) 256)) (at 0xDD) ≡ []
+state_is_whole = ap (λ (n : Lookup). findings byte_sum_half n (at 0xDD)) (lookup_of whole10) ∙ is_whole

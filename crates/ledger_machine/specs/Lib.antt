@@ -1,0 +1,16 @@
+pub mod State
+pub mod Sound
+pub mod Scripts
+pub mod Want
+pub mod Peer
+pub mod Check
+pub mod Offers
+pub mod Base
+pub mod Ticks
+pub mod Views
+pub mod Reading
+pub mod Sessions
+pub mod Closing
+pub mod Rotation
+pub mod Steps
+pub mod Runs

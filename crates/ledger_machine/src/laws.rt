@@ -1,0 +1,41 @@
+//! Laws of the machine, each the contract of an empty function.
+ghost use Rattle.std.specs.Prelude.{◌≡◌, ◌++◌, ◌∷◌, [], ℕ, List, Some};
+ghost use Rattle.std.specs.List.{Contains};
+ghost use Rattle.std.specs.FinMap as map;
+ghost use Rattle.ledger_spec.specs.Bytes.{Nodes};
+ghost use Rattle.ledger_spec.specs.Forms.{Held};
+ghost use Rattle.ledger_machine.specs.State.{State, opening};
+ghost use Rattle.ledger_machine.specs.Sound.{Sound, IsStoredAt};
+ghost use Rattle.ledger_machine.specs.Scripts.{IsAcquiring, IsInRange};
+ghost use Rattle.ledger_machine.specs.Steps.{Step};
+ghost use Rattle.ledger_machine.specs.Runs.{Run, Answers};
+ghost use Rattle.ledger_machine.specs.declared.commands.Command.{Command};
+ghost use Rattle.ledger_machine.specs.declared.commands.Line.{Line};
+ghost use Rattle.ledger_machine.specs.declared.journal.Entry.{Entry};
+ghost use Rattle.ledger_machine.specs.declared.replies.Reply.{Reply};
+
+/// A store that has only records, each a form under its own hash, is sound.
+pub fn the_opening_is_sound()
+    ensures { (half : List ℕ → List ℕ) (records : Nodes) (interval : ℕ)
+        → ((h form : List ℕ) → map.get records h ≡ Some form → IsStoredAt half h form)
+        → Sound half (opening records interval) }
+{}
+
+/// A run goes on by one step.
+pub fn a_run_goes_on()
+    ensures { (half : List ℕ → List ℕ) (lines : List Line) (s mid s' : State) (entries : List Entry) (e : Entry)
+        → Run half lines s entries mid → Answers half lines mid e s' → Run half lines s (entries ++ e ∷ []) s' }
+{}
+
+/// Each step of a command that acquires a ledger leads from a sound state to a sound state.
+pub fn steps_keep_the_store_sound()
+    ensures { (half : List ℕ → List ℕ) (s s' : State) (a : ℕ) (c : Command) (reply : Reply) (used : List Held)
+        → IsAcquiring c → IsInRange c → Sound half s → Step half s a c reply used s' → Sound half s' }
+{}
+
+/// So does each run along a journal, where the script's lines are such commands.
+pub fn a_run_keeps_the_store_sound()
+    ensures { (half : List ℕ → List ℕ) (lines : List Line) (s : State) (entries : List Entry) (s' : State)
+        → ((l : Line) → Contains lines l → IsAcquiring l.command × IsInRange l.command)
+        → Sound half s → Run half lines s entries s' → Sound half s' }
+{}

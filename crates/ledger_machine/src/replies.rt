@@ -1,0 +1,217 @@
+//! What is answered.
+ghost use Rattle.std.specs.Prelude.{◌≡◌};
+
+use half_hash::{Blob, Hash32};
+use nib_path::NodeId;
+use shamap_node::{Node, Place};
+use std::marker::Model;
+use std::sync::Arc;
+
+/// Places in order. Contracts see the list of them.
+#[derive(Drop)]
+pub struct Places {
+    places: Vec<Place>,
+}
+
+impl Model for Places {
+    ghost use Rattle.std.specs.Prelude.{List};
+    ghost use Rattle.ledger_spec.specs.declared.Place.{Place};
+
+    ghost Value = { List Place };
+
+    ghost view = { λ a. a.places.items };
+}
+
+impl Places {
+    /// These places.
+    pub fn new(places: Vec<Place>) -> Places
+        ensures { result ≡ places.items }
+    {
+        Places { places }
+    }
+
+    /// The places.
+    pub fn as_slice(&self) -> &[Place]
+        ensures { result.now ≡ self.now }
+    {
+        &self.places
+    }
+}
+
+/// What became of a node that a peer sent.
+#[derive(Drop)]
+pub enum Offered {
+    Good,
+    Duplicate,
+    BadWire(u8),
+    BadHash { wanted: Hash32, found: Hash32 },
+    NoBase,
+    NoParent(NodeId),
+    EmptyBranch(NodeId),
+    UnderLeaf(NodeId),
+    Malformed(u8),
+}
+
+/// What became of a header that a peer sent.
+#[derive(Drop)]
+pub enum HeadOffered {
+    Good,
+    Duplicate,
+    BadLength(usize),
+    BadHash { found: Hash32 },
+}
+
+/// The answers to `want`.
+#[derive(Drop)]
+pub enum WantReply {
+    Opened,
+    Open,
+    Listed,
+    BelowFloor(u32),
+    TooMany,
+}
+
+/// The answers to `peer`.
+#[derive(Drop)]
+pub enum PeerReply {
+    Added,
+    Known,
+    NotOpen,
+}
+
+/// The answers to `base`: an outcome for each part that was given.
+#[derive(Drop)]
+pub enum BaseReply {
+    Parts {
+        header: HeadOffered,
+        state: Option<Offered>,
+        tx: Option<Offered>,
+    },
+    Unasked,
+    NotOpen,
+}
+
+/// The answers to `node`.
+#[derive(Drop)]
+pub enum NodeReply {
+    One(Offered),
+    Unasked,
+    NotOpen,
+}
+
+/// The answers to `check`.
+#[derive(Drop)]
+pub enum CheckReply {
+    Complete,
+    Need { peer: u16, places: Places },
+    Waiting(usize),
+    NoPeer,
+    SeqDiffers { asked: u32, found: u32 },
+    ZeroState,
+    BelowFloor(u32),
+    Malformed { place: Place, rule: u8 },
+    NotOpen,
+}
+
+/// The answers to `tick`.
+#[derive(Drop)]
+pub enum TickReply {
+    Timeout(u8),
+    GaveUp(u8),
+    NotOpen,
+}
+
+/// The answers to `view`.
+#[derive(Drop)]
+pub enum ViewReply {
+    Fine,
+    NotRetained,
+    InUse,
+    TooMany,
+}
+
+/// The answers to `get`; the value is the data of the leaf.
+#[derive(Drop)]
+pub enum GetReply {
+    Value(Arc<Node>),
+    Nothing,
+    NoView,
+}
+
+/// The answers to `page`: leaves, keys rising.
+#[derive(Drop)]
+pub enum PageReply {
+    Items(Vec<Arc<Node>>),
+    NoView,
+}
+
+/// The answers to `edit`.
+#[derive(Drop)]
+pub enum EditReply {
+    Fine,
+    NotRetained,
+    LastSeq,
+    InUse,
+    TooMany,
+}
+
+/// The answers to `del`.
+#[derive(Drop)]
+pub enum DelReply {
+    Fine,
+    Absent,
+    NoSession,
+}
+
+/// The answers to `close`.
+#[derive(Drop)]
+pub enum CloseReply {
+    Closed(Hash32),
+    Listed,
+    BelowFloor(u32),
+    ZeroState,
+    NoSession,
+}
+
+/// The answers to `begin`.
+#[derive(Drop)]
+pub enum BeginReply {
+    Begun { seq: u32, floor: u32 },
+    NotDue,
+    Busy,
+}
+
+/// The answers to `swap`: the new epoch.
+#[derive(Drop)]
+pub enum SwapReply {
+    Swapped(u64),
+    Idle,
+}
+
+/// The answer to a command. Any command may meet a fault of the store or want memory; a `Clash` is a
+/// form under a hash that already has another form, and a `ZeroHash` a form whose hash is zero.
+#[derive(Drop)]
+pub enum Reply {
+    Fault,
+    Memory,
+    Clash { hash: Hash32, old: Blob, new: Blob },
+    ZeroHash(Blob),
+    Want(WantReply),
+    Peer(PeerReply),
+    Base(BaseReply),
+    Node(NodeReply),
+    Check(CheckReply),
+    Tick(TickReply),
+    View(ViewReply),
+    Unview(bool),
+    Get(GetReply),
+    Page(PageReply),
+    Edit(EditReply),
+    Put(bool),
+    Tx(bool),
+    Abandon(bool),
+    Del(DelReply),
+    Close(CloseReply),
+    Begin(BeginReply),
+    Swap(SwapReply),
+}

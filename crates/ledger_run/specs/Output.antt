@@ -1,0 +1,57 @@
+-- What is printed of a run.
+use Rattle.std.specs.Prelude.{ℕ, List, [], ◌∷◌, ◌++◌, Bool, true, false, codes, flat_map, if◌then◌else◌}
+use Rattle.std.specs.Option.{option_map_or}
+use Rattle.std.specs.List.{list_any}
+use Rattle.std.specs.Fmt.{decimal}
+use Rattle.ledger_spec.specs.Bytes.{Bytes}
+use Rattle.ledger_machine.specs.declared.commands.Line.{Line}
+use Rattle.ledger_machine.specs.declared.journal.Entry.{Entry}
+use Rattle.ledger_machine.specs.declared.journal.Totals.{Totals}
+use Rattle.ledger_machine.specs.declared.replies.Reply.{Reply}
+use Rattle.ledger_machine.specs.declared.replies.Reply.TheVariants as says
+use Rattle.ledger_machine.specs.Scripts.{line_of}
+use Rattle.journal_text.specs.Text.{entry_text, summary_text}
+
+-- the line of an entry, which names the command that it answers
+abbrev pub entry_line : List Line → Entry → Bytes
+entry_line lines e = option_map_or (λ l. entry_text l.command e) (line_of lines e.line) []
+
+-- the entries in order, then the summary
+abbrev pub output : List Line → List Entry → Totals → Bytes
+output lines journal totals = flat_map (entry_line lines) journal ++ summary_text totals
+
+abbrev pub usage_text : Bytes
+usage_text = codes "usage: ledger_run replay | swarm" ++ 10 ∷ []
+
+abbrev pub refused_text : ℕ → ℕ → Bytes
+refused_text line cause = codes "refused " ++ decimal line ++ codes " " ++ decimal cause ++ 10 ∷ []
+
+abbrev pub is_clash : Reply → Bool
+is_clash (says.Clash h old new) = true
+is_clash (says.ZeroHash form) = true
+is_clash _ = false
+
+abbrev pub is_fault : Reply → Bool
+is_fault says.Fault = true
+is_fault _ = false
+
+abbrev pub is_memory : Reply → Bool
+is_memory says.Memory = true
+is_memory _ = false
+
+abbrev pub shows_clash : Entry → Bool
+shows_clash e = is_clash e.reply
+
+abbrev pub met_fault : Entry → Bool
+met_fault e = is_fault e.reply
+
+abbrev pub wanted_memory : Entry → Bool
+wanted_memory e = is_memory e.reply
+
+-- the status of a journal that was printed whole: 7 for a clash or a zero hash, else 6 for a fault, else 8 for want of memory, else 0
+abbrev pub status_of : List Entry → ℕ
+status_of journal =
+    if list_any shows_clash journal then 7
+    else if list_any met_fault journal then 6
+    else if list_any wanted_memory journal then 8
+    else 0

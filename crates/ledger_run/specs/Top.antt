@@ -1,0 +1,43 @@
+-- What the top call says.
+use Rattle.std.specs.Prelude.{◌≡◌, ◌⊎◌, ◌+◌, ℕ, List, [], ◌∷◌, Option, Some, IfSome, map, take, codes, true, ◌==◌}
+use Rattle.std.specs.Borrow.{Bor}
+use Rattle.std.specs.List.{list_any}
+use Rattle.std.specs.FinMap as finite
+use Rattle.ledger_spec.specs.Bytes.{Bytes, Half}
+use Rattle.ledger_machine.specs.State.{opening}
+use Rattle.ledger_machine.specs.Sound.{Sound}
+use Rattle.ledger_machine.specs.Runs.{Run, Projects, IsFull}
+use Rattle.store_core.specs.Journal.{Ledger, faults_in}
+use Rattle.store_core.specs.Totals.{totals_of}
+use Rattle.script_form.specs.Grammar.{IsRefused, most_bytes}
+use Rattle.run_io.specs.Bytes.{Rose, Wrote, WrotePart}
+use Rattle.ledger_run.specs.Output.{output}
+
+-- the words are the one word `replay`
+abbrev pub IsReplay : List (Bor (List ℕ)) → Type 0
+IsReplay words = map (λ w. w.now) words ≡ codes "replay" ∷ []
+
+abbrev pub IsOneOf : ℕ → List ℕ → Type 0
+IsOneOf n ns = list_any (λ m. m == n) ns ≡ true
+
+-- The headline: the journal is a run of the store machine from the opening to the actual state; each actor's entries answer its lines
+-- in order and no line is left; and the state is sound: each form is stored under its own hash, and nothing that a retained ledger
+-- names is absent.
+pub record IsWhole (half : Half) (c : Ledger) : Type 0 where
+  pub run : Run half c.lines (opening finite.empty c.interval) c.journal c.state
+  pub projects : Projects c.lines c.journal
+  pub full : IsFull c.lines c.journal
+  pub sound : Sound half c.state
+  pub no_fault : faults_in c.journal ≡ 0
+
+-- what is printed of a core
+abbrev pub text_of : Ledger → Bytes
+text_of c = output c.lines c.journal (totals_of c.journal c.state)
+
+-- the bytes are refused at a line of this number
+abbrev pub IsRefusedAt : Bytes → Type 0
+IsRefusedAt bytes = (line : ℕ) × IsRefused (take (most_bytes + 1) bytes) line
+
+-- the text was written, or a front of it and the sink's count of faults rose
+abbrev pub WroteOrFailed : Option Bytes → Option Bytes → ℕ → ℕ → Bytes → Type 0
+WroteOrFailed old new before now text = Wrote old new text ⊎ (WrotePart old new text × Rose before now)

@@ -1,0 +1,64 @@
+//! `ledger_run replay` reads a script from standard input, runs it over an empty store, and
+//! prints its journal.
+#![tactic(auto)]
+
+mod run;
+#[cfg(test)]
+mod tests;
+
+use half_hash::Half512;
+use run::ledger_run;
+use run_io::{StdSink, StdSource};
+use std::alloc::AllocError;
+use std::process::ExitCode;
+use std::{env, io};
+
+/// The status where memory is wanted before anything else.
+const NO_MEMORY: u8 = 8;
+
+fn main(rt: HostRuntime) -> ExitCode {
+    match words_of(&rt) {
+        Ok(words) => ExitCode::from(run_with(&rt, &words)),
+        Err(fault) => {
+            if fault.kind() == io::ErrorKind::OutOfMemory {
+                ExitCode::from(NO_MEMORY)
+            } else {
+                // Words that are no text are other words than `replay`.
+                ExitCode::from(run_on(&rt, &[]))
+            }
+        }
+    }
+}
+
+/// The words behind the program's name.
+fn words_of(rt: &HostRuntime) -> io::Result<Vec<String>> {
+    let mut words = Vec::new(rt.alloc());
+    let mut args = env::args(rt)?;
+    let _ = args.next();
+    for word in args {
+        words.push(word)?;
+    }
+    Ok(words)
+}
+
+fn run_with(rt: &HostRuntime, words: &[String]) -> u8 {
+    match texts_of(rt, words) {
+        Ok(texts) => run_on(rt, &texts),
+        Err(AllocError) => NO_MEMORY,
+    }
+}
+
+fn texts_of<'a>(rt: &HostRuntime, words: &'a [String]) -> Result<Vec<&'a str>, AllocError> {
+    let mut texts = Vec::new(rt.alloc());
+    for word in words {
+        texts.push(word.as_str())?;
+    }
+    Ok(texts)
+}
+
+/// Runs over standard input and output with SHA-512Half, and gives the status.
+fn run_on(rt: &HostRuntime, words: &[&str]) -> u8 {
+    let mut source = StdSource::new(rt.stdin());
+    let mut sink = StdSink::new(rt.stdout());
+    ledger_run(rt.alloc(), words, Half512, &mut source, &mut sink).status
+}

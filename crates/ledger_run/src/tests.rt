@@ -1,0 +1,100 @@
+use crate::run::ledger_run;
+use half_hash::TinyHash;
+use run_io::{MemSink, MemSource};
+use std::test::Fail;
+
+/// The words, a script, the read and the write that fail (0 for none), and what must come of it.
+type Case = (
+    &'static [&'static str],
+    &'static str,
+    u64,
+    u64,
+    u8,
+    &'static str,
+);
+
+const CASES: [Case; 12] = [
+    (&["replay"], "", 0, 0, 0, NOTHING),
+    (&["replay"], SHORT, 0, 0, 0, ANSWERED),
+    (&["replay"], "0 want 11 7\n", 0, 0, 3, "refused 1 5\n"),
+    (&["replay"], UNKNOWN, 0, 0, 3, "refused 2 5\n"),
+    (&["replay"], TWO_SPACES, 0, 0, 3, "refused 2 5\n"),
+    (&["replay"], OTHER_ACTOR, 0, 0, 3, "refused 2 5\n"),
+    (&["replay"], UNENDED, 0, 0, 3, "refused 2 5\n"),
+    (&["replay"], ZERO, 0, 0, 3, "refused 1 5\n"),
+    (&["replay"], SHORT, 1, 0, 4, ""),
+    (&["replay"], "", 0, 1, 5, ""),
+    (
+        &["swarm"],
+        "",
+        0,
+        0,
+        2,
+        "usage: ledger_run replay | swarm\n",
+    ),
+    (
+        &["replay", "--quiet"],
+        "",
+        0,
+        0,
+        2,
+        "usage: ledger_run replay | swarm\n",
+    ),
+];
+
+const NOTHING: &str = "end complete 0 closed 0 listed 0 floor 0 last - epoch 0\n";
+
+const SHORT: &str =
+    "0 want 1111111111111111111111111111111111111111111111111111111111111111 7\n0 check 1111111111111111111111111111111111111111111111111111111111111111\n0 peer 3 1111111111111111111111111111111111111111111111111111111111111111\n0 peer 0003 1111111111111111111111111111111111111111111111111111111111111111\n0 peer 65535 1111111111111111111111111111111111111111111111111111111111111111\n0 check 1111111111111111111111111111111111111111111111111111111111111111\n0 check 1111111111111111111111111111111111111111111111111111111111111111\n0 want 1111111111111111111111111111111111111111111111111111111111111111 0\n0 peer 1 aBaBaBaBaBaBaBaBaBaBaBaBaBaBaBaBaBaBaBaBaBaBaBaBaBaBaBaBaBaBaBaB\n0 check aBaBaBaBaBaBaBaBaBaBaBaBaBaBaBaBaBaBaBaBaBaBaBaBaBaBaBaBaBaBaBaB\n";
+
+const ANSWERED: &str =
+    "1 0 want opened\n2 0 check nopeer\n3 0 peer added\n4 0 peer known\n5 0 peer added\n6 0 check need 3 header\n7 0 check waiting 1\n8 0 want open\n9 0 peer notopen\n10 0 check notopen\nend complete 0 closed 0 listed 0 floor 0 last - epoch 0\n";
+
+const UNKNOWN: &str =
+    "0 want 1111111111111111111111111111111111111111111111111111111111111111 7\n0 wont 1111111111111111111111111111111111111111111111111111111111111111 7\n";
+
+const TWO_SPACES: &str =
+    "0 want 1111111111111111111111111111111111111111111111111111111111111111 7\n0  check 1111111111111111111111111111111111111111111111111111111111111111\n";
+
+const OTHER_ACTOR: &str =
+    "0 want 1111111111111111111111111111111111111111111111111111111111111111 7\n1 check 1111111111111111111111111111111111111111111111111111111111111111\n0 check 1111111111111111111111111111111111111111111111111111111111111111\n";
+
+const UNENDED: &str =
+    "0 want 1111111111111111111111111111111111111111111111111111111111111111 7\n0 check 1111111111111111111111111111111111111111111111111111111111111111";
+
+const ZERO: &str = "0 check 0000000000000000000000000000000000000000000000000000000000000000\n";
+
+#[test]
+fn scripts_and_their_ends(rt: HostRuntime) -> Result<(), Fail> {
+    let alloc = rt.alloc();
+    for (words, script, failing_read, failing_write, status, printed) in &CASES {
+        let bytes = Vec::from_slice(alloc, script.as_bytes())?;
+        let mut source = MemSource::new(bytes, 7, vec![in alloc; *failing_read]?);
+        let mut sink = MemSink::new(alloc, 4096, vec![in alloc; *failing_write]?)?;
+        let ended = ledger_run(alloc, words, TinyHash, &mut source, &mut sink);
+        assert_eq!(rt; ended.status, *status);
+        assert_eq!(rt; sink.held(), printed.as_bytes());
+    }
+    Ok(())
+}
+
+/// As many lines as fit in the most bytes of a script, and one byte more or none.
+#[test]
+fn the_most_bytes_of_a_script(rt: HostRuntime) -> Result<(), Fail> {
+    let alloc = rt.alloc();
+    let line = "0 check 1111111111111111111111111111111111111111111111111111111111111111\n";
+    for (count, status) in [(14364_usize, 0_u8), (14365, 3)] {
+        let mut bytes = Vec::new(alloc);
+        for _ in 0..count {
+            bytes.extend_from_slice(line.as_bytes())?;
+        }
+        let mut source = MemSource::new(bytes, 65_536, Vec::new(alloc));
+        let mut sink = MemSink::new(alloc, 1 << 20, Vec::new(alloc))?;
+        let ended = ledger_run(alloc, &["replay"], TinyHash, &mut source, &mut sink);
+        assert_eq!(rt; ended.status, status);
+        if status == 3 {
+            assert_eq!(rt; sink.held(), b"refused 14365 5\n".as_slice());
+        }
+    }
+    Ok(())
+}

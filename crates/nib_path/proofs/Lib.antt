@@ -1,0 +1,3 @@
+pub mod Nibbles
+pub mod Places
+pub mod Reading

@@ -1,0 +1,54 @@
+use Rattle.std.proofs.Common.{arith}
+use Rattle.std.proofs.lemmas.List.{append-nil, length-take}
+use Rattle.std.proofs.lemmas.Result.{err_from_is_err_and}
+use Rattle.run_io.proofs.Bytes.{reading_start, reading_step, reading_full, reading_ended, rose_later, took_ended, took_full, took_part}
+use Rattle.run_io.proofs.io.read_all.Goals as goal
+
+pub loop-held-init : goal.loop-held-init
+loop-held-init g c = record { reading = rw c.new-held.ensures.items (reading_start (g.S.Source.left c.args.source.now)); most = omega arith; room = c.in_ok-buf.ensures.len; later = omega arith }
+
+pub loop-held-preserved : goal.loop-held-preserved
+loop-held-preserved g c =
+    let i = c.loop-held.invariant in
+    let n = c.in_ok-n.ensures in
+    record {
+      reading = rw n.held (reading_step _ _ _ _ _ _ _ i.reading n.taken);
+      most = omega (arith, n.len, n.within, length-take c.min-room.result c.deref_mut.result.now, c.min-room.ensures, c.len-in-loop-held.ensures, i.most);
+      room = i.room;
+      later = omega (arith, n.later, i.later);
+    }
+
+pub returns-in_err-n-clause-cause : goal.returns-in_err-n-clause-cause
+returns-in_err-n-clause-cause g c =
+    let p = err_from_is_err_and c.from_residual-in_err-n.result c.from_residual-in_err-n.ensures.1 in
+    rw (p.1, p.2) (λ e. rose_later _ _ _ c.loop-held.invariant.later (c.in_err-n.ensures.cause e))
+
+pub returns-then-n-eq0-clause-read : goal.returns-then-n-eq0-clause-read
+returns-then-n-eq0-clause-read g c =
+    let i = c.loop-held.invariant in
+    let n = c.in_ok-n.ensures in
+    let room = length-take c.min-room.result c.deref_mut.result.now in
+    let all = reading_ended _ _ _ c.loop-held.held.items _ c.in_ok-n.n _ c.args.most i.reading n.taken c.if-n-eq0.true
+    (omega (arith, room, c.deref_mut.ensures.len, i.room, c.min-room.ensures, c.len-in-loop-held.ensures, c.loop-held-test.true, c.len.ensures)) (omega (arith, i.most, c.loop-held.held.ok.0)) in
+    rw (n.held, c.if-n-eq0.true, append-nil) all
+
+pub returns-clause-read : goal.returns-clause-read
+returns-clause-read g c = reading_full _ _ _ _ (omega (arith, c.loop-held-test.false, c.len.ensures, c.loop-held.invariant.most, c.loop-held.held.ok.0)) c.loop-held.invariant.reading
+
+pub returns-clause-rest : goal.returns-clause-rest
+returns-clause-rest g c = took_full _ _ c.loop-held.held.items _ (omega (arith, c.loop-held-test.false, c.len.ensures, c.loop-held.invariant.most, c.loop-held.held.ok.0)) c.loop-held.invariant.reading
+
+pub returns-then-n-eq0-clause-rest : goal.returns-then-n-eq0-clause-rest
+returns-then-n-eq0-clause-rest g c =
+    let i = c.loop-held.invariant in
+    let room = length-take c.min-room.result c.deref_mut.result.now in
+    took_ended _ _ _ c.loop-held.held.items _ c.in_ok-n.n _ c.args.most i.reading c.in_ok-n.ensures.taken c.if-n-eq0.true
+    (omega (arith, room, c.deref_mut.ensures.len, i.room, c.min-room.ensures, c.len-in-loop-held.ensures, c.loop-held-test.true, c.len.ensures)) (omega (arith, i.most, c.loop-held.held.ok.0))
+
+pub returns-in_err-n-clause-part : goal.returns-in_err-n-clause-part
+returns-in_err-n-clause-part g c =
+    let p = err_from_is_err_and c.from_residual-in_err-n.result c.from_residual-in_err-n.ensures.1 in
+    let i = c.loop-held.invariant in
+    let room = length-take c.min-room.result c.deref_mut.result.now in
+    rw p.1 (took_part _ _ _ c.loop-held.held.items _ c.args.most i.reading c.in_err-n.ensures.part
+    (omega (arith, room, c.min-room.ensures, c.len-in-loop-held.ensures, c.loop-held-test.true, c.len.ensures, i.most, c.loop-held.held.ok.0)))

@@ -1,0 +1,9 @@
+use Rattle.std.proofs.Common.{length}
+use Rattle.script_form.proofs.Scripts.{Reads}
+use Rattle.script_form.proofs.script.read_lines.Given as goal
+
+abbrev pub invariant-loop-rest : goal.invariant-loop-rest
+invariant-loop-rest l = Reads l.bytes l.lines.items l.number l.rest
+
+abbrev pub decreases-loop-rest : goal.decreases-loop-rest
+decreases-loop-rest l = length l.rest

@@ -1,0 +1,9 @@
+use Rattle.std.proofs.Common.{List, ℕ, subst}
+use Rattle.script_form.specs.Grammar.{IsScript}
+use Rattle.script_form.proofs.Scripts.{ended_at}
+use Rattle.script_form.proofs.script.read_script.Goals as goal
+
+pub returns-clause-ended : goal.returns-clause-ended
+returns-clause-ended g c =
+    let P : List ℕ → Type 0 = λ v. IsScript v c.in_ok-lines.lines.items in
+    ended_at _ _ c.in-Ok.bytes.items c.in_ok-lines.lines.items c.in-Ok.ensures.rest c.in-Ok.ensures.read (subst P c.deref.ensures.value c.in_ok-lines.ensures.script)

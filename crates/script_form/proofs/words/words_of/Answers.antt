@@ -1,0 +1,21 @@
+use Rattle.std.proofs.Common.{◌≡◌, ◌+◌, ◌<◌, ◌≤◌, ℕ, List, length, take, drop, sym, ◌∙◌, ap, subst, arith}
+use Rattle.std.proofs.lemmas.List.{drop-drop, take_all}
+use Rattle.std.proofs.lemmas.Bool.Decides.{nat_tests}
+use Rattle.script_form.proofs.Cuts.{Cuts, cuts_more, cuts_end}
+use Rattle.script_form.proofs.words.words_of.Goals as goal
+
+pub loop-words-preserved : goal.loop-words-preserved
+loop-words-preserved c =
+    let found = c.piece_end-end.ensures in
+    let parts = c.split_at.ensures in
+    let lt : c.piece_end-end.result < length c.loop-words.rest.now = grind (arith, nat_tests, parts.back_len, c.if-is_empty.false, c.is_empty.ensures) in
+    let rest : c.split_at-in-loop-words.result.1.now ≡ drop (c.piece_end-end.result + 1) c.loop-words.rest.now =
+    c.split_at-in-loop-words.ensures.back ∙ ap (drop 1) parts.back ∙ drop-drop 1 c.piece_end-end.result c.loop-words.rest.now in
+    rw (c.in_ok-push.ensures.items, rest) (cuts_more 32 c.args.text.now c.loop-words.words.items c.split_at.result.0 c.loop-words.rest.now c.piece_end-end.result c.loop-words.invariant lt found.before (found.at lt) parts.front)
+
+pub returns-then-is_empty : goal.returns-then-is_empty
+returns-then-is_empty c =
+    let found = c.piece_end-end.ensures in
+    let parts = c.split_at.ensures in
+    let le : length c.loop-words.rest.now ≤ c.piece_end-end.result = grind (arith, nat_tests, parts.back_len, c.if-is_empty.true, c.is_empty.ensures) in
+    rw c.in_ok-push.ensures.items (cuts_end 32 c.args.text.now c.loop-words.words.items c.split_at.result.0 c.loop-words.rest.now c.loop-words.invariant (λ k lt. found.before k (omega arith)) (parts.front ∙ take_all c.piece_end-end.result c.loop-words.rest.now le))

@@ -1,0 +1,4 @@
+pub mod Servable
+pub mod Words
+pub mod Grammar
+pub mod Faults

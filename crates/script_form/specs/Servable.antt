@@ -1,0 +1,23 @@
+-- The lines that are served at present.
+use Rattle.std.specs.Prelude.{◌≡◌, ◌<◌, ◌^◌, List, length}
+use Rattle.std.specs.List.{All}
+use Rattle.ledger_machine.specs.declared.commands.Command.{Command}
+use Rattle.ledger_machine.specs.declared.commands.Command.TheVariants as command
+use Rattle.ledger_machine.specs.declared.commands.Line.{Line}
+use Rattle.ledger_machine.specs.Scripts.{Rises, IsInRange}
+
+-- the commands that are served at present
+abbrev pub IsServed : Command → Type 0
+IsServed (command.Want t seq) = Unit {0}
+IsServed (command.Peer p t) = Unit {0}
+IsServed (command.Check t) = Unit {0}
+IsServed _ = ⊥
+
+-- lines that a core takes: of known actors, with numbers that rise from 1, in range, served, and waiting for nothing
+pub record AreServable (lines : List Line) : Type 0 where
+  pub actors_known : All (λ l. l.actor < 64) lines
+  pub numbers_rise : Rises 0 lines
+  pub in_range : All (λ l. IsInRange l.command) lines
+  pub served : All (λ l. IsServed l.command) lines
+  pub free : All (λ l. l.after ≡ 0) lines
+  pub few : length lines < 2 ^ 32

@@ -1,0 +1,101 @@
+//! The words of a line, and what single words say.
+ghost use Rattle.std.specs.Prelude.{◌≡◌, ◌≢◌, ◌≤◌, ◌<◌, ◌∷◌, ◌^◌, ℕ, List, Ok, length, map, slice_index, IfOk, MatchBool, MatchOption};
+ghost use Rattle.half_hash.specs.Hex.{IsHexOf};
+ghost use Rattle.script_form.specs.Words.{words_of as text_words, IsNumber, IsTarget, IsBlob, decimal_behind};
+
+use half_hash::{Blob, Hash32, Memory};
+use std::alloc::Global;
+
+/// Where the first separator stands, or the end.
+pub(crate) fn piece_end(bytes: &[u8], separator: u8) -> usize
+    ensures within { result ≤ length bytes.now }
+    ensures before { (k : ℕ) → k < result → slice_index bytes.now k ≢ separator }
+    ensures at { result < length bytes.now → slice_index bytes.now result ≡ separator }
+{
+    for (i, b) in bytes.iter().enumerate() {
+        if *b == separator {
+            return i;
+        }
+    }
+    bytes.len()
+}
+
+/// The words of a text, which are separated by one space each.
+pub fn words_of(alloc: Global, text: &[u8]) -> Result<Vec<&[u8]>, Memory>
+    ensures { IfOk result (λ words. map (λ w. w.now) words.items ≡ text_words text.now) }
+{
+    let mut words = Vec::new(alloc);
+    let mut rest = text;
+    loop {
+        let end = piece_end(rest, b' ');
+        let (word, behind) = rest.split_at(end);
+        words.push(word)?;
+        if behind.is_empty() {
+            return Ok(words);
+        }
+        rest = behind.split_at(1).1;
+    }
+}
+
+/// Whether two texts are one.
+pub(crate) fn is_text(word: &[u8], text: &[u8]) -> bool
+    ensures { MatchBool result (word.now ≡ text.now) (word.now ≢ text.now) }
+{
+    word == text
+}
+
+/// The number of 1 to 20 decimal digits that a word is, where it is at most `most`.
+pub fn number(word: &[u8], most: u64) -> Option<u64>
+    ensures { MatchOption result ((n : ℕ) → IsNumber word.now most n → ⊥) (IsNumber word.now most) }
+{
+    if word.is_empty() || word.len() > 20 {
+        return None;
+    }
+    let mut value: u64 = 0;
+    for digit in word {
+        if !digit.is_ascii_digit() {
+            return None;
+        }
+        let next = u128::from(value) * 10 + u128::from(*digit - b'0');
+        if next > u128::from(most) {
+            return None;
+        }
+        value = next as u64;
+    }
+    Some(value)
+}
+
+/// The hash of 64 hexadecimal digits.
+pub fn hash_word(word: &[u8]) -> Option<Hash32>
+    ensures { MatchOption result ((hash : List ℕ) → IsHexOf word.now hash → ⊥) (IsHexOf word.now) }
+{
+    match Hash32::from_hex(word) {
+        Ok(hash) => Some(hash),
+        Err(_) => None,
+    }
+}
+
+/// The target that a word names: a hash that isn't zero.
+pub(crate) fn target_word(word: &[u8]) -> Option<Hash32>
+    ensures { MatchOption result ((hash : List ℕ) → IsTarget word.now hash → ⊥) (IsTarget word.now) }
+{
+    let hash = hash_word(word)?;
+    if hash.is_zero() { None } else { Some(hash) }
+}
+
+/// The bytes of hexadecimal digits, two for each, or of `-` for none.
+pub fn blob_word(alloc: Global, word: &[u8]) -> Result<Option<Blob>, Memory>
+    ensures { IfOk result (λ found. MatchOption found ((bytes : List ℕ) → IsBlob word.now bytes → ⊥) (IsBlob word.now)) }
+{
+    if is_text(word, b"-") {
+        return Ok(Some(Blob::new(Vec::new(alloc))));
+    }
+    if word.is_empty() {
+        return Ok(None);
+    }
+    match hex::decode(alloc, word) {
+        Ok(bytes) => Ok(Some(Blob::new(bytes))),
+        Err(hex::FromHexError::OutOfMemory) => Err(Memory),
+        Err(_) => Ok(None),
+    }
+}

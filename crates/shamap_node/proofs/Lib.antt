@@ -1,0 +1,4 @@
+pub mod Hashes
+pub mod Inners
+pub mod Reading
+pub mod Seen

@@ -1,0 +1,17 @@
+use Rattle.std.proofs.Common.{arith, ◌≡◌, ◌<◌, length, length-set, ◌∙◌}
+use Rattle.shamap_node.proofs.Hashes.{read_step, left_step, read_all}
+use Rattle.shamap_node.proofs.forms.hashes_in.Goals as goal
+
+pub loop-b-preserved : goal.loop-b-preserved
+loop-b-preserved c =
+    let lt : c.loop-b.b < length c.loop-b.hashes = omega arith in
+    record {
+      size = length-set c.loop-b.hashes c.loop-b.b c.hash_from.result ∙ c.loop-b.invariant.size;
+      left = left_step c.loop-b.b c.loop-b.rest.now _ c.args.body.now c.loop-b.invariant.left c.split_at.ensures.back;
+      read = read_step c.loop-b.hashes c.loop-b.b c.hash_from.result c.loop-b.rest.now _ c.args.body.now lt c.loop-b.invariant.left c.split_at.ensures.front c.hash_from.ensures c.loop-b.invariant.read;
+    }
+
+pub returns : goal.returns
+returns c =
+    let end : c.loop-b.b ≡ 16 = omega arith in
+    read_all c.loop-b.hashes 16 c.loop-b.b c.args.body.now c.loop-b.invariant.size end c.loop-b.invariant.read

@@ -1,0 +1,9 @@
+use Rattle.shamap_node.proofs.Reading.{same_reading}
+use Rattle.shamap_node.proofs.Seen.{held_by_form}
+use Rattle.shamap_node.proofs.forms.one_form.Goals as goal
+
+pub returns-clause-one : goal.returns-clause-one
+returns-clause-one c = same_reading
+
+pub returns-clause-held : goal.returns-clause-held
+returns-clause-held c = held_by_form

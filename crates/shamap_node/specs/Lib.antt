@@ -1,0 +1,4 @@
+pub mod Items
+pub mod Nodes
+pub mod Causes
+pub mod Laws

@@ -1,0 +1,298 @@
+//! Prefix forms: written, read and hashed.
+ghost use Rattle.std.specs.Prelude.{◌≡◌, ◌≢◌, ◌++◌, ◌-◌, ◌≤◌, length, take, drop, IfErr, IfOk, IsTrue, MatchResult, None, OnOk, Some, nat_eq};
+ghost use Rattle.std.specs.List.{concat, starts_with};
+ghost use Rattle.std.specs.Option.{option_map};
+ghost use Rattle.std.specs.Int.{w32, from_be_bytes};
+ghost use Rattle.half_hash.specs.Prefix.{prefix_of};
+ghost use Rattle.ledger_spec.specs.Bytes.{hashes_of};
+ghost use Rattle.ledger_spec.specs.Forms.{Held, IsItem, IsInner, Form, form_of, leaf_form, leaf_prefix, inner_of as inner_hashes_of};
+ghost use Rattle.ledger_spec.specs.Forms as spec;
+ghost use Rattle.shamap_node.specs.Nodes.{held};
+ghost use Rattle.shamap_node.specs.Causes.{leaf_cause, keyed_cause, inner_cause, form_cause};
+ghost use Rattle.shamap_node.specs.Laws.{is_node, is_no_node, OneForm, HeldByForm};
+ghost use Rattle.ledger_spec.specs.Findings.{held_of};
+ghost use Rattle.shamap_node.specs.declared.forms.FormFault.TheVariants as faults;
+
+use crate::{DATA_LIMIT, Inner, Item, Kind, Leaf, Node};
+use half_hash::{Blob, Hash32, Memory, NodeHash, Prefix};
+use std::alloc::Global;
+use thiserror::Error;
+
+/// Why bytes are no prefix form of a node.
+#[derive(Clone, Copy, Debug, PartialEq, Eq, Error)]
+pub enum FormFault {
+    /// There are only this many bytes, fewer than a prefix has.
+    #[error("Short")]
+    Short(usize),
+    /// The first four bytes, as a number with the high byte first, are no node's prefix.
+    #[error("Prefix")]
+    Prefix(u32),
+    /// An inner node's prefix, and this many bytes in all, not 516.
+    #[error("InnerLength")]
+    InnerLength(usize),
+    /// An inner node with no branch that is not empty.
+    #[error("EmptyInner")]
+    EmptyInner,
+    /// The prefix of a leaf with its key behind its data, and this many bytes in all, fewer than 36.
+    #[error("LeafShort")]
+    LeafShort(usize),
+    /// A leaf whose key is zero.
+    #[error("ZeroKey")]
+    ZeroKey,
+    /// A leaf with this many bytes of data, more than the limit.
+    #[error("TooLong")]
+    TooLong(usize),
+    /// Memory was refused.
+    #[error("Memory")]
+    Memory,
+}
+
+impl From<Memory> for FormFault {
+    ghost from_gives = { λ _ fault. fault ≡ faults.Memory };
+
+    fn from(_: Memory) -> FormFault {
+        FormFault::Memory
+    }
+}
+
+// Whether the bytes begin with the prefix.
+fn begins(bytes: &[u8], prefix: Prefix) -> bool
+    ensures { result ≡ starts_with nat_eq bytes.now (prefix_of prefix) }
+{
+    bytes.starts_with(&prefix.bytes())
+}
+
+// The prefix of a leaf of this kind.
+fn prefix_for(kind: Kind) -> Prefix
+    ensures { prefix_of result ≡ leaf_prefix kind }
+{
+    match kind {
+        Kind::State => Prefix::Mln,
+        Kind::Tx => Prefix::Snd,
+        Kind::Set => Prefix::Txn,
+    }
+}
+
+// The key as it stands behind the data: none at a bare transaction.
+fn key_part(leaf: &Leaf) -> &[u8]
+    ensures { leaf_form leaf.now.kind leaf.now.item.key leaf.now.item.value ≡ leaf_prefix leaf.now.kind ++ leaf.now.item.value ++ result.now }
+{
+    match leaf.kind {
+        Kind::Set => &[],
+        _ => &leaf.item.key().bytes,
+    }
+}
+
+// The sixteen hashes, joined.
+fn body_of(inner: &Inner) -> [u8; 512]
+    ensures { result ≡ concat inner.now.hashes }
+{
+    let mut body = [0; 512];
+    for b in 0..16u8 {
+        let at = b as usize * 32;
+        body[at..at + 32].copy_from_slice(&inner.branch(b).bytes);
+    }
+    body
+}
+
+// The prefix and two parts, joined.
+fn joined(alloc: Global, prefix: Prefix, front: &[u8], back: &[u8]) -> Result<Blob, Memory>
+    ensures { IfOk result (λ blob. blob ≡ prefix_of prefix ++ front.now ++ back.now) }
+{
+    let mut bytes = Vec::from_slice(alloc, &prefix.bytes())?;
+    bytes.extend_from_slice(front)?;
+    bytes.extend_from_slice(back)?;
+    Ok(Blob::new(bytes))
+}
+
+/// The prefix form of a node: `MIN\0` and the sixteen hashes of an inner node, 516 bytes; `MLN\0`,
+/// data and key of an account state; `SND\0`, data and key of a transaction with metadata; `TXN\0`
+/// and data of a bare transaction.
+pub fn encode_form(alloc: Global, node: &Node) -> Result<Blob, Memory>
+    ensures { IfOk result (λ blob. blob ≡ form_of (held node.now)) }
+{
+    match node {
+        Node::Inner(inner) => joined(alloc, Prefix::Min, &body_of(inner), &[]),
+        Node::Leaf(leaf) => joined(
+            alloc,
+            prefix_for(leaf.kind),
+            leaf.item.data(),
+            key_part(leaf),
+        ),
+    }
+}
+
+/// The hash of a node: that of its prefix form. It takes no memory.
+pub fn hash_of<H: NodeHash>(node: &Node) -> Hash32
+    ensures { result ≡ spec.hash_of H.half (held node.now) }
+{
+    match node {
+        Node::Inner(inner) => H::half_parts(&Prefix::Min.bytes(), &body_of(inner), &[]),
+        Node::Leaf(leaf) => H::half_parts(
+            &prefix_for(leaf.kind).bytes(),
+            leaf.item.data(),
+            key_part(leaf),
+        ),
+    }
+}
+
+// The hash of 32 bytes.
+fn hash_from(piece: &[u8]) -> Hash32
+    requires { length piece.now ≡ 32 }
+    ensures { result ≡ piece.now }
+{
+    let mut bytes = [0; 32];
+    bytes.copy_from_slice(piece);
+    Hash32 { bytes }
+}
+
+// The sixteen hashes that are joined here.
+fn hashes_in(body: &[u8]) -> [Hash32; 16]
+    requires { length body.now ≡ 512 }
+    ensures { result ≡ hashes_of 16 body.now }
+{
+    let mut hashes = [Hash32::zero(); 16];
+    let mut rest = body;
+    for b in 0..16usize {
+        let (front, back) = rest.split_at(32);
+        hashes[b] = hash_from(front);
+        rest = back;
+    }
+    hashes
+}
+
+/// The inner node whose prefix form the bytes are, or none. It takes no memory.
+pub fn inner_of(form: &[u8]) -> Option<Inner>
+    ensures { option_map (λ inner. inner.hashes) result ≡ inner_hashes_of form.now }
+{
+    if form.len() != 516 || !begins(form, Prefix::Min) {
+        return None;
+    }
+    let (_prefix, body) = form.split_at(4);
+    Inner::new(hashes_in(body))
+}
+
+// The item of a key and data, or why they are none.
+fn item_from(alloc: Global, key: Hash32, bytes: &[u8]) -> Result<Item, FormFault>
+    ensures item { IfOk result (λ item. IsItem item.key item.value × (item.key ≡ key) × (item.value ≡ bytes.now)) }
+    ensures cause { IfErr result (λ fault. fault ≢ faults.Memory → leaf_cause (length bytes.now) key ≡ Some fault) }
+{
+    if bytes.len() > DATA_LIMIT {
+        return Err(FormFault::TooLong(bytes.len()));
+    }
+    if key.is_zero() {
+        return Err(FormFault::ZeroKey);
+    }
+    key.known();
+    let value = Blob::from_slice(alloc, bytes)?;
+    Ok(Item::of_parts(key, value))
+}
+
+// The item of a leaf whose key stands behind its data.
+fn keyed_item(alloc: Global, form: &[u8]) -> Result<Item, FormFault>
+    ensures item { IfOk result (λ item. IsItem item.key item.value × (drop 4 form.now ≡ item.value ++ item.key)) }
+    ensures cause { IfErr result (λ fault. fault ≢ faults.Memory → keyed_cause form.now ≡ Some fault) }
+{
+    if form.len() < 36 {
+        return Err(FormFault::LeafShort(form.len()));
+    }
+    let (front, key) = form.split_at(form.len() - 32);
+    let (_prefix, data) = front.split_at(4);
+    Ok(item_from(alloc, hash_from(key), data)?)
+}
+
+// The item of a bare transaction.
+fn bare_item<H: NodeHash>(alloc: Global, form: &[u8]) -> Result<Item, FormFault>
+    requires { 4 ≤ length form.now }
+    ensures item { IfOk result (λ item. IsItem item.key item.value × (item.key ≡ H.half form.now) × (item.value ≡ drop 4 form.now)) }
+    ensures cause { IfErr result (λ fault. fault ≢ faults.Memory → leaf_cause (length form.now - 4) (H.half form.now) ≡ Some fault) }
+{
+    let (_prefix, data) = form.split_at(4);
+    Ok(item_from(alloc, H::half(form), data)?)
+}
+
+// The inner node behind an inner node's prefix.
+fn inner_behind(form: &[u8]) -> Result<Inner, FormFault>
+    ensures inner { IfOk result (λ inner. IsInner inner.hashes × (drop 4 form.now ≡ concat inner.hashes)) }
+    ensures cause { IfErr result (λ fault. inner_cause form.now ≡ Some fault) }
+{
+    if form.len() != 516 {
+        return Err(FormFault::InnerLength(form.len()));
+    }
+    let (_prefix, body) = form.split_at(4);
+    match Inner::new(hashes_in(body)) {
+        Some(inner) => Ok(inner),
+        None => Err(FormFault::EmptyInner),
+    }
+}
+
+// The first four bytes as a number, the high byte first.
+fn first_word(bytes: &[u8]) -> u32
+    requires { 4 ≤ length bytes.now }
+    ensures { result ≡ from_be_bytes w32 (take 4 bytes.now) }
+{
+    let (front, _rest) = bytes.split_at(4);
+    let mut word = [0; 4];
+    word.copy_from_slice(front);
+    u32::from_be_bytes(word)
+}
+
+// The same as `decode_form`, by the prefix.
+fn node_from<H: NodeHash>(alloc: Global, bytes: &[u8]) -> Result<Node, FormFault>
+    ensures form { IfOk result (λ node. Form H.half (held node) bytes.now) }
+    ensures cause { IfErr result (λ fault. fault ≢ faults.Memory → form_cause H.half bytes.now ≡ Some fault) }
+{
+    if bytes.len() < 4 {
+        return Err(FormFault::Short(bytes.len()));
+    }
+    if begins(bytes, Prefix::Min) {
+        return Ok(Node::Inner(inner_behind(bytes)?));
+    }
+    if begins(bytes, Prefix::Mln) {
+        let item = keyed_item(alloc, bytes)?;
+        return Ok(Node::Leaf(Leaf {
+            kind: Kind::State,
+            item,
+        }));
+    }
+    if begins(bytes, Prefix::Snd) {
+        let item = keyed_item(alloc, bytes)?;
+        return Ok(Node::Leaf(Leaf {
+            kind: Kind::Tx,
+            item,
+        }));
+    }
+    if begins(bytes, Prefix::Txn) {
+        let item = bare_item::<H>(alloc, bytes)?;
+        return Ok(Node::Leaf(Leaf {
+            kind: Kind::Set,
+            item,
+        }));
+    }
+    Err(FormFault::Prefix(first_word(bytes)))
+}
+
+/// The node whose prefix form the bytes are, or the first thing that is wrong with them: fewer than
+/// four bytes, an unknown prefix, and then by the prefix an inner node's length and that it has a
+/// branch, or a leaf's length, that its data is not too long, and that its key is not zero.
+pub fn decode_form<H: NodeHash>(alloc: Global, bytes: &[u8]) -> Result<Node, FormFault>
+    ensures form { IfOk result (λ node. Form H.half (held node) bytes.now) }
+    ensures fits { OnOk result (form_cause H.half bytes.now ≡ None) }
+    ensures cause { IfErr result (λ fault. fault ≢ faults.Memory → form_cause H.half bytes.now ≡ Some fault) }
+
+    // a node's form is read as that node, if there is memory
+    ensures back { (n : Held) → IsTrue (is_node n) → Form H.half n bytes.now → MatchResult result (λ node. held node ≡ n) (λ fault. fault ≡ faults.Memory) }
+
+    // the same as what the bytes hold
+    ensures seen { IfOk result (λ node. held_of H.half bytes.now ≡ Some (held node)) }
+    ensures none { IfErr result (λ fault. fault ≢ faults.Memory → IsTrue (is_no_node (held_of H.half bytes.now))) }
+{
+    node_from::<H>(alloc, bytes)
+}
+
+/// For proofs: bytes are the prefix form of at most one node or header, the one that they hold. It does
+/// nothing.
+pub fn one_form()
+    ensures one { OneForm }
+    ensures held { HeldByForm }
+{}

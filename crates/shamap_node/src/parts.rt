@@ -1,0 +1,131 @@
+//! An item and an inner node, with the fact that each of them keeps.
+ghost use Rattle.std.specs.Prelude.{◌≡◌, ◌==◌, ◌<◌, ◌≤◌, length, count_by, IsTrue, MatchOption, MatchResult};
+ghost use Rattle.std.specs.List.{list_all, list_any, slice_index_or};
+ghost use Rattle.half_hash.specs.Zero.{zero_hash, is_zero as all_zero, is_nonzero};
+ghost use Rattle.ledger_spec.specs.Forms.{IsItem, IsInner};
+
+use half_hash::{Blob, Hash32};
+use thiserror::Error;
+
+/// The most bytes of an item's data.
+pub const DATA_LIMIT: usize = 1_048_576;
+
+/// A key that isn't zero, with data of 0 to 1,048,576 bytes.
+#[derive(Debug, Drop)]
+pub struct Item {
+    key: Hash32,
+    value: Blob,
+    ghost valid: { IsItem key value },
+}
+
+/// Why a key and data are no item.
+#[derive(Clone, Copy, Debug, PartialEq, Eq, Error)]
+pub enum ItemFault {
+    /// The key is zero.
+    #[error("ZeroKey")]
+    ZeroKey,
+    /// The data has this many bytes, more than the limit.
+    #[error("TooLong")]
+    TooLong(usize),
+}
+
+impl Item {
+    ghost use Rattle.shamap_node.specs.Items.{Keeps, HasItemCause};
+
+    /// The item of this key and data. A zero key is refused, and else data that is too long.
+    pub fn new(key: Hash32, value: Blob) -> Result<Item, ItemFault>
+        ensures { MatchResult result (λ item. Keeps item key value) (HasItemCause key value) }
+    {
+        if key.is_zero() {
+            return Err(ItemFault::ZeroKey);
+        }
+        let size = value.bytes().len();
+        if size > DATA_LIMIT {
+            return Err(ItemFault::TooLong(size));
+        }
+        key.known();
+        Ok(Item { key, value })
+    }
+
+    // The item of a key and data that are known to make one.
+    pub(crate) fn of_parts(key: Hash32, value: Blob) -> Item
+        requires { IsItem key value }
+        ensures { Keeps result key value }
+    {
+        Item { key, value }
+    }
+
+    /// The key.
+    pub fn key(&self) -> &Hash32
+        ensures { result.now ≡ self.now.key }
+    {
+        &self.key
+    }
+
+    /// The data.
+    pub fn data(&self) -> &[u8]
+        ensures { result.now ≡ self.now.value }
+    {
+        self.value.bytes()
+    }
+}
+
+/// Sixteen branches, at least one of them not empty.
+#[derive(Clone, Copy, Debug)]
+pub struct Inner {
+    hashes: [Hash32; 16],
+    ghost valid: { IsInner hashes },
+}
+
+impl Inner {
+    /// The inner node with these branches, or none where all sixteen are zero.
+    pub fn new(hashes: [Hash32; 16]) -> Option<Inner>
+        ensures { MatchOption result (IsTrue (list_all all_zero hashes)) (λ inner. (inner.hashes ≡ hashes) × IsTrue (list_any is_nonzero hashes)) }
+    {
+        if !has_branch(&hashes) {
+            return None;
+        }
+        known_sizes(&hashes);
+        Some(Inner { hashes })
+    }
+
+    /// The hash at a branch; zero where the branch is empty.
+    pub fn branch(&self, b: u8) -> Hash32
+        requires { b < 16 }
+        ensures { result ≡ slice_index_or self.now.hashes b zero_hash }
+    {
+        self.hashes[b as usize]
+    }
+
+    /// The number of branches that are not empty.
+    pub fn count(&self) -> u8
+        ensures number { result ≡ count_by is_nonzero self.now.hashes }
+        ensures most { result ≤ 16 }
+    {
+        nonzero_count(&self.hashes) as u8
+    }
+}
+
+// Whether some hash is not zero.
+fn has_branch(hashes: &[Hash32]) -> bool
+    ensures { result ≡ list_any is_nonzero hashes.now }
+{
+    hashes.iter().any(|h| !h.is_zero())
+}
+
+// The number of hashes that are not zero.
+fn nonzero_count(hashes: &[Hash32]) -> usize
+    ensures number { result ≡ count_by is_nonzero hashes.now }
+    ensures most { result ≤ length hashes.now }
+{
+    hashes.iter().filter(|h| !h.is_zero()).count()
+}
+
+// For proofs: each hash has 32 bytes.
+fn known_sizes(hashes: &[Hash32])
+    ensures { IsTrue (list_all (λ h. length h == 32) hashes.now) }
+{
+    for h in hashes {
+        h.known();
+    }
+}

@@ -1,0 +1,242 @@
+-- How a journal grows, and what a core keeps meanwhile.
+use Rattle.std.proofs.Common.{◌≡◌, ℕ, zero, suc, Option, Some, None, ◌+◌, ◌-◌, Result, Ok, ◌<◌, ◌≤◌, List, [], ◌∷◌, ◌++◌, map, length, take, drop, get_or, Bool, true, false, cond, refl, sym, ◌∙◌, ap, subst, arith, length-append, set, length-set, ◌≢◌, get_or-set_same, get_or-set_other}
+use Rattle.std.specs.Prelude.{◌==◌, slice_index}
+use Rattle.std.specs.List.{filter, find, All}
+use Rattle.std.specs.Result.{is_ok}
+use Rattle.std.proofs.lemmas.Option.{slice_get_read}
+use Rattle.std.proofs.Math.Seq.{take-add}
+use Rattle.std.proofs.lemmas.Bool.Decides.{nat_tests}
+use Rattle.std.proofs.lemmas.List.{append-nil, get_or_read, get_or_default, get_or-take, get_or-drop, length-map, map-append, take_more, take-append-drop}
+use Rattle.std.proofs.lemmas.List.Elements.{filter-append, All-append}
+use mathlib.Core.List.{IsPrefix}
+use Rattle.std.specs.FinMap as finite
+use Rattle.std.proofs.Common.{◌⊎◌, inl, inr, IsTrue}
+use Rattle.ledger_machine.specs.declared.replies.Reply.TheVariants as says
+use Rattle.ledger_spec.specs.Bytes.{Half}
+use Rattle.ledger_machine.specs.State.{State, opening}
+use Rattle.ledger_machine.specs.Steps.{Step}
+use Rattle.ledger_machine.specs.Runs.{Answers, Run, used_by, answered_by, Projects, Waits}
+use Rattle.ledger_machine.specs.Scripts.{numbers_of}
+use Rattle.script_form.specs.Servable.{AreServable, IsServed}
+use Rattle.ledger_machine.specs.Sound.{Sound}
+use Rattle.ledger_machine.proofs.RunLaws.{run_more}
+use Rattle.store_core.specs.Journal.{IsDone, Kept, IsNext, Rose, RoseBy, faults_in, is_fault}
+use Rattle.ledger_machine.specs.declared.commands.Line.{Line}
+use Rattle.ledger_machine.specs.declared.journal.Entry.{Entry}
+use Rattle.ledger_machine.specs.declared.commands.Command.{Command}
+use Rattle.ledger_machine.specs.declared.replies.Reply.{Reply}
+use Rattle.shamap_node.specs.Nodes.{held}
+use Rattle.shamap_node.specs.declared.Node.{Node}
+use Rattle.std.specs.declared.sync.Arc.{Arc}
+use Rattle.std.proofs.Common.{Global}
+use Rattle.store_core.proofs.Counting.{total-le, total-lt, part, parts}
+
+pub numbers-append : (a : ℕ) (xs ys : List Line) → numbers_of a (xs ++ ys) ≡ numbers_of a xs ++ numbers_of a ys
+numbers-append a xs ys = ap (map (λ (l : Line). l.number)) (filter-append (λ (l : Line). l.actor == a) xs ys) ∙ map-append (λ (l : Line). l.number) (filter (λ l. l.actor == a) xs) (filter (λ l. l.actor == a) ys)
+
+pub answered-append : (a : ℕ) (xs ys : List Entry) → answered_by a (xs ++ ys) ≡ answered_by a xs ++ answered_by a ys
+answered-append a xs ys = ap (map (λ (e : Entry). e.line)) (filter-append (λ (e : Entry). e.actor == a) xs ys) ∙ map-append (λ (e : Entry). e.line) (filter (λ e. e.actor == a) xs) (filter (λ e. e.actor == a) ys)
+
+-- the entries of an actor, and one more of it or of another
+answered_more : (a : ℕ) (es : List Entry) (e : Entry) → e.actor ≡ a → answered_by a (es ++ e ∷ []) ≡ answered_by a es ++ e.line ∷ []
+answered_more a es e is =
+    let yes : (e.actor == a) ≡ true = grind (arith, nat_tests) in
+    answered-append a es (e ∷ []) ∙ rw yes refl
+
+answered_other : (a : ℕ) (es : List Entry) (e : Entry) → (e.actor == a) ≡ false → answered_by a (es ++ e ∷ []) ≡ answered_by a es
+answered_other a es e apart = answered-append a es (e ∷ []) ∙ rw apart (append-nil (answered_by a es))
+
+-- the lines of an actor up to its next one, and with that one
+numbers_next : (lines : List Line) (from a at : ℕ) (line : Line) → IsNext lines from a at → line ≡ get_or lines at line → numbers_of a (take (at + 1) lines) ≡ numbers_of a (take from lines) ++ line.number ∷ []
+numbers_next lines from a at line next is =
+    let yes : (line.actor == a) ≡ true = let same : line.actor ≡ a = next.actor line is in grind (arith, nat_tests) in
+    ap (numbers_of a) (take_more lines at line next.within ∙ ap (λ (l : Line). take at lines ++ l ∷ []) (sym is))
+    ∙ numbers-append a (take at lines) (line ∷ []) ∙ ap (λ (w : List ℕ). w ++ numbers_of a (line ∷ [])) next.none ∙ rw yes refl
+
+numbers-take-le : (a n : ℕ) (lines : List Line) → length (numbers_of a (take n lines)) ≤ length (numbers_of a lines)
+numbers-take-le a n lines =
+    omega (arith, ap length (ap (numbers_of a) (sym (take-append-drop n lines)) ∙ numbers-append a (take n lines) (drop n lines)), length-append (numbers_of a (take n lines)) (numbers_of a (drop n lines)))
+
+answered_part : (a : ℕ) (es : List Entry) → part (λ e. e.actor) es a ≡ length (answered_by a es)
+answered_part a es = sym (length-map (filter (λ e. e.actor == a) es) (λ (e : Entry). e.line))
+
+numbers_part : (a : ℕ) (ls : List Line) → part (λ l. l.actor) ls a ≡ length (numbers_of a ls)
+numbers_part a ls = sym (length-map (filter (λ l. l.actor == a) ls) (λ (l : Line). l.number))
+
+faults_push : (es : List Entry) (e : Entry) → faults_in (es ++ e ∷ []) ≡ faults_in es + is_fault e.reply
+faults_push [] e = omega arith
+faults_push (x ∷ es) e = omega (arith, faults_push es e)
+
+fault_or_none : (r : Reply) → (r ≡ says.Fault) ⊎ (is_fault r ≡ 0)
+fault_or_none says.Fault = inl refl
+fault_or_none says.Memory = inr refl
+fault_or_none (says.Clash h o n) = inr refl
+fault_or_none (says.ZeroHash f) = inr refl
+fault_or_none (says.Want r) = inr refl
+fault_or_none (says.Peer r) = inr refl
+fault_or_none (says.Base r) = inr refl
+fault_or_none (says.Node r) = inr refl
+fault_or_none (says.Check r) = inr refl
+fault_or_none (says.Tick r) = inr refl
+fault_or_none (says.View r) = inr refl
+fault_or_none (says.Unview r) = inr refl
+fault_or_none (says.Get r) = inr refl
+fault_or_none (says.Page r) = inr refl
+fault_or_none (says.Edit r) = inr refl
+fault_or_none (says.Put r) = inr refl
+fault_or_none (says.Tx r) = inr refl
+fault_or_none (says.Abandon r) = inr refl
+fault_or_none (says.Del r) = inr refl
+fault_or_none (says.Close r) = inr refl
+fault_or_none (says.Begin r) = inr refl
+fault_or_none (says.Swap r) = inr refl
+
+-- a count that rises with each fault bounds the faults; it never passes the last value of a u64
+bound_more : (es : List Entry) (e : Entry) (opened now now' : ℕ) → RoseBy (faults_in es) opened now → now ≤ now' → (e.reply ≡ says.Fault → Rose now now') → RoseBy (faults_in (es ++ e ∷ [])) opened now'
+bound_more es e opened now now' (inr top) later cause = inr (omega arith)
+bound_more es e opened now now' (inl b) later cause =
+    elim (fault_or_none e.reply) [
+      | inl is ↦ elim (cause is) [
+        | inl rose ↦ inl (omega (arith, faults_push es e, ap is_fault is))
+        | inr top ↦ inr (omega (arith, top))
+      ]
+      | inr none ↦ inl (omega (arith, faults_push es e, none))
+    ]
+
+-- what is found has what all have
+found_has : (P : Line → Type 0) (test : Line → Bool) (lines : List Line) (l : Line) → find test lines ≡ Some l → All P lines → P l
+found_has P test [] l e all = cc
+found_has P test (x ∷ xs) l e all =
+    elim (test x) as (λ b. cond b (Some x) (find test xs) ≡ Some l → P l) [
+      | true ↦ λ h. let same : x ≡ l = cc in subst P same (all 0 x (omega arith))
+      | false ↦ λ h. found_has P test xs l h (λ k d lt. all (suc k) d (omega arith))
+    ] e
+
+-- lines that wait for nothing
+waits_free : (lines : List Line) → All (λ l. l.after ≡ 0) lines → (done : List ℕ) (entries : List Entry) → Waits lines done entries
+waits_free lines free done [] = tt
+waits_free lines free done (e ∷ rest) =
+    ((λ l found waits. absurd (waits (found_has (λ l. l.after ≡ 0) (λ l. l.number == e.line) lines l found free))), waits_free lines free (e.line ∷ done) rest)
+
+-- the entry answers the line that is next
+pub answers : (half : Half) (lines : List Line) (s s' : State) (line : Line) (e : Entry) (from at : ℕ) → IsNext lines from e.actor at → line ≡ get_or lines at line → e.line ≡ line.number → e.actor ≡ e.actor → Step half s e.actor line.command e.reply (used_by e) s' → Answers half lines s e s'
+answers half lines s s' line e from at next is number _ step = record { place = at; line = line; stands = slice_get_read lines (length lines) at line refl next.within is; number = number; actor = sym (next.actor line is); step = step }
+
+module _ (half : Half) (lines : List Line) (cursors : List ℕ) (journal : List Entry) (capacity interval : ℕ) (told : Bool) (opened now : ℕ) (s : State) (k : Kept half lines cursors journal capacity interval told opened now s) where
+  at_most : (a : ℕ) → a < 64 → part (λ e. e.actor) journal a ≤ part (λ l. l.actor) lines a
+  at_most a lt = omega (arith, answered_part a journal, numbers_part a lines, ap length (k.done a lt), numbers-take-le a (slice_index cursors a) lines)
+
+  pub kept_few : length journal ≤ length lines
+  kept_few = omega (arith, parts 64 (λ (e : Entry). e.actor) journal k.known, parts 64 (λ (l : Line). l.actor) lines k.servable.actors_known, total-le 64 _ _ at_most)
+
+  joins : (a : ℕ) → a < 64 → answered_by a journal ++ numbers_of a (drop (slice_index cursors a) lines) ≡ numbers_of a lines
+  joins a lt =
+      ap (λ (w : List ℕ). w ++ numbers_of a (drop (slice_index cursors a) lines)) (k.done a lt)
+      ∙ sym (numbers-append a (take (slice_index cursors a) lines) (drop (slice_index cursors a) lines)) ∙ ap (numbers_of a) (take-append-drop (slice_index cursors a) lines)
+
+  pub kept_projects : Projects lines journal
+  kept_projects = record { fronts = λ a lt. (numbers_of a (drop (slice_index cursors a) lines), joins a lt); waits = waits_free lines k.servable.free [] journal }
+
+  pub kept_done : (a : ℕ) → a < 64 → numbers_of a (drop (slice_index cursors a) lines) ≡ [] → IsDone lines journal a
+  kept_done a lt none = sym (append-nil (answered_by a journal)) ∙ ap (λ (w : List ℕ). answered_by a journal ++ w) (sym none) ∙ joins a lt
+
+  pub kept_served : (at : ℕ) → at < length lines → (line : Line) → line ≡ get_or lines at line → IsServed line.command
+  kept_served at lt line is = let P : Line → Type 0 = λ l. IsServed l.command in subst P (sym is) (k.servable.served at line lt)
+
+  module _ (a at : ℕ) (lt : a < 64) (next : IsNext lines (slice_index cursors a) a at) (line : Line) (is : line ≡ get_or lines at line) where
+    fewer : part (λ e. e.actor) journal a < part (λ l. l.actor) lines a
+    fewer = omega (arith, answered_part a journal, numbers_part a lines, ap length (k.done a lt), ap length (numbers_next lines _ a at line next is), length-append (numbers_of a (take (slice_index cursors a) lines)) (line.number ∷ []), numbers-take-le a (at + 1) lines)
+
+    -- there is room for the entry of a line that is left
+    pub kept_less : length journal < length lines
+    kept_less = omega (arith, parts 64 (λ (e : Entry). e.actor) journal k.known, parts 64 (λ (l : Line). l.actor) lines k.servable.actors_known, total-lt 64 _ _ at_most a lt fewer)
+
+    pub kept_step : (e : Entry) (s' : State) (c now' : ℕ) → e.line ≡ line.number → e.actor ≡ a → (IsTrue told → Step half s e.actor line.command e.reply (used_by e) s') → (IsTrue told → Sound half s') → capacity ≤ c → now ≤ now' → (e.reply ≡ says.Fault → Rose now now') → Kept half lines (set cursors a (at + 1)) (journal ++ e ∷ []) c interval told opened now' s'
+    kept_step e s' c now' number actor step sound more later cause = record {
+      sound = sound;
+      run = λ t. run_more half lines (opening finite.empty interval) s s' journal e (k.run t) (record { place = at; line = line; stands = slice_get_read lines (length lines) at line refl next.within is; number = number; actor = actor ∙ sym (next.actor line is); step = step t });
+      cursor_count = length-set cursors a (at + 1) ∙ k.cursor_count;
+      behind = λ b l. elim (b == a) as (λ t. (b == a) ≡ t → slice_index (set cursors a (at + 1)) b ≤ length lines) [
+        | true ↦ λ t. let same : b ≡ a = grind (arith, nat_tests) in let n : a < length cursors = omega (arith, k.cursor_count) in rw (same, get_or-set_same) (omega (arith, next.within))
+        | false ↦ λ t. let other : b ≢ a = grind (arith, nat_tests) in rw get_or-set_other (k.behind b l)
+      ] refl;
+      done = λ b l. elim (b == a) as (λ t. (b == a) ≡ t → answered_by b (journal ++ e ∷ []) ≡ numbers_of b (take (slice_index (set cursors a (at + 1)) b) lines)) [
+        | true ↦ λ t.
+            let same : b ≡ a = grind (arith, nat_tests) in
+            let n : a < length cursors = omega (arith, k.cursor_count) in
+            rw (same, get_or-set_same) (answered_more a journal e actor ∙ ap (λ (w : List ℕ). w ++ e.line ∷ []) (k.done a lt)
+            ∙ ap (λ (n : ℕ). numbers_of a (take (slice_index cursors a) lines) ++ n ∷ []) number ∙ sym (numbers_next lines _ a at line next is))
+        | false ↦ λ t.
+            let other : b ≢ a = grind (arith, nat_tests) in
+            let apart : (e.actor == b) ≡ false = grind (arith, nat_tests) in
+            rw get_or-set_other (answered_other b journal e apart ∙ k.done b l)
+      ] refl;
+      known = All-append (λ (x : Entry). x.actor < 64) journal (e ∷ []) k.known (one e (omega arith));
+      servable = k.servable;
+      room = omega (arith, k.room);
+      fault_bound = bound_more journal e opened now now' k.fault_bound later cause;
+    }
+      where
+        one : (e : Entry) → e.actor < 64 → All (λ (x : Entry). x.actor < 64) (e ∷ [])
+        one e l zero d in_it = l
+        one e l (suc i) d in_it = absurd (omega arith)
+
+-- what is found from a place on
+pub next_found : (lines : List Line) (from i a : ℕ) → from + i < length lines → numbers_of a (take i (drop from lines)) ≡ [] → ((line : Line) → line ≡ get_or lines (from + i) line → line.actor ≡ a) → IsNext lines from a (from + i)
+next_found lines from i a lt none actor = record {
+  later = omega arith;
+  within = lt;
+  actor = actor;
+  none = ap (numbers_of a) (take-add from i lines) ∙ numbers-append a (take from lines) (take i (drop from lines)) ∙ ap (λ (w : List ℕ). numbers_of a (take from lines) ++ w) none ∙ append-nil (numbers_of a (take from lines));
+}
+
+-- the same place, found in a copy of the lines
+pub moved : (lines ls : List Line) (cursors : List ℕ) (from a at : ℕ) → ls ≡ lines → from ≡ get_or cursors a from → a < length cursors → IsNext ls from a at → IsNext lines (slice_index cursors a) a at
+moved lines ls cursors from a at same start lt next =
+    let e : from ≡ slice_index cursors a = get_or_read cursors a from lt start 0 in
+    let P : List Line → Type 0 = λ w. IsNext w from a at in
+    let Q : ℕ → Type 0 = λ n. IsNext lines n a at in
+    subst Q e (subst P same next)
+
+pub moved_end : (lines ls : List Line) (cursors : List ℕ) (from a : ℕ) → ls ≡ lines → from ≡ get_or cursors a from → a < length cursors → numbers_of a (drop from ls) ≡ [] → numbers_of a (drop (slice_index cursors a) lines) ≡ []
+moved_end lines ls cursors from a same start lt none =
+    let e : from ≡ slice_index cursors a = get_or_read cursors a from lt start 0 in
+    ap (λ (n : ℕ). numbers_of a (drop n lines)) (sym e) ∙ ap (λ (w : List Line). numbers_of a (drop from w)) (sym same) ∙ none
+
+-- what a loop over the lines from a place on reads
+pub read_actor : (lines : List Line) (from i a : ℕ) (d : Line) → from + i < length lines → (get_or (take (length lines - from) (drop from lines)) i d).actor ≡ a → (line : Line) → line ≡ get_or lines (from + i) line → line.actor ≡ a
+read_actor lines from i a d lt is line at =
+    ap (λ (l : Line). l.actor) (at ∙ get_or_default lines (from + i) line d lt ∙ sym (get_or-take (length lines - from) (drop from lines) i d (omega arith) ∙ get_or-drop from lines i d)) ∙ is
+
+-- what a push that worked leaves
+pub pushed : {X E : Type 0} (r : Result X E) (x : X) (old new more : List Entry) → new ≡ cond (is_ok r) more old → r ≡ Ok x → new ≡ more
+pushed r x old new more e is = e ∙ ap (λ (b : Bool). cond b more old) (ap is_ok is)
+
+-- a step that used nothing
+pub used_nothing : (half : Half) (s : State) (actor : ℕ) (c : Command) (r : Reply) (s' : State) (used : List (Arc Node Global)) → used ≡ [] → Step half s actor c r [] s' → Step half s actor c r (map (λ a. held a.value) used) s'
+used_nothing half s actor c r s' used none step = let P : List (Arc Node Global) → Type 0 = λ u. Step half s actor c r (map (λ a. held a.value) u) s' in subst P (sym none) step
+
+numbers_none : (a : ℕ) (lines : List Line) (n : ℕ) → n ≡ 0 → numbers_of a (take n lines) ≡ []
+numbers_none a lines n e = ap (λ (k : ℕ). numbers_of a (take k lines)) e
+
+pub kept_open : (half : Half) (lines : List Line) (cursors : List ℕ) (journal : List Entry) (capacity interval : ℕ) (told : Bool) (opened now : ℕ) (s : State)
+    → journal ≡ [] → length cursors ≡ 64 → ((a : ℕ) → a < 64 → slice_index cursors a ≡ 0) → AreServable lines → length lines ≤ capacity → opened ≡ now → (IsTrue told → s ≡ opening finite.empty interval) → (IsTrue told → Sound half s)
+    → Kept half lines cursors journal capacity interval told opened now s
+kept_open half lines cursors journal capacity interval told opened now s none size start_at servable room same start sound =
+    let P : List Entry → Type 0 = λ j. Kept half lines cursors j capacity interval told opened now s in
+    subst P (sym none) (record {
+      run = start;
+      sound = sound;
+      cursor_count = size;
+      behind = λ a l. omega (arith, start_at a l);
+      done = λ a l. sym (numbers_none a lines (slice_index cursors a) (start_at a l));
+      known = λ k d l. absurd (omega (arith, l));
+      servable = servable;
+      room = room;
+      fault_bound = inl (omega (arith, same));
+    })
+
+-- a count that stands at 0 has met no fault
+pub none_failed : (n : ℕ) → RoseBy n 0 0 → n ≡ 0
+none_failed n (inl few) = omega arith
+none_failed n (inr top) = absurd (omega arith)

@@ -1,0 +1,4 @@
+pub mod Counting
+pub mod States
+pub mod Journals
+pub mod Finding

@@ -1,0 +1,12 @@
+use Rattle.std.proofs.Common.{◌≡◌}
+use Rattle.store_core.proofs.Journals.{kept_few, kept_projects, none_failed}
+use Rattle.store_core.proofs.core.Core.journal.Goals as goal
+
+pub returns-clause-projects : goal.returns-clause-projects
+returns-clause-projects g c = rw (← c.self.view_is) (kept_projects _ _ _ _ _ _ _ _ _ _ c.self.invariant)
+
+pub returns-clause-few : goal.returns-clause-few
+returns-clause-few g c = rw (← c.self.view_is) (kept_few _ _ _ _ _ _ _ _ _ _ c.self.invariant)
+
+pub returns-clause-no_fault : goal.returns-clause-no_fault
+returns-clause-no_fault g c = rw (← c.self.view_is) (none_failed _ c.self.invariant.fault_bound)

@@ -1,0 +1,8 @@
+//! The core of the store: a script, the journal of what was answered, and the state after it.
+#![tactic(auto)]
+
+mod acquire;
+mod core;
+mod machine;
+
+pub use core::{Core, Stepped};
