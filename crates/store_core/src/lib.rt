@@ -2,7 +2,7 @@
 #![tactic(auto)]
 
 mod acquire;
-mod core;
 mod machine;
+mod store;
 
-pub use core::{Core, Stepped};
+pub use store::{Core, Stepped};

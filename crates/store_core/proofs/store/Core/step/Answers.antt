@@ -4,7 +4,7 @@ use Rattle.ledger_machine.specs.declared.commands.Line.{Line}
 use Rattle.store_core.specs.Journal.{IsNext}
 use Rattle.store_core.proofs.States.{bare_is_sound}
 use Rattle.store_core.proofs.Journals.{kept_few, kept_less, kept_step, kept_done, kept_served, moved, moved_end, pushed, answers, used_nothing}
-use Rattle.store_core.proofs.core.Core.step.Goals as goal
+use Rattle.store_core.proofs.store.Core.step.Goals as goal
 
 pub returns-in_default-clause-finished : goal.returns-in_default-clause-finished
 returns-in_default-clause-finished g c _ =

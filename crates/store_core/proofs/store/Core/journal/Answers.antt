@@ -1,6 +1,6 @@
 use Rattle.std.proofs.Common.{◌≡◌}
 use Rattle.store_core.proofs.Journals.{kept_few, kept_projects, none_failed}
-use Rattle.store_core.proofs.core.Core.journal.Goals as goal
+use Rattle.store_core.proofs.store.Core.journal.Goals as goal
 
 pub returns-clause-projects : goal.returns-clause-projects
 returns-clause-projects g c = rw (← c.self.view_is) (kept_projects _ _ _ _ _ _ _ _ _ _ c.self.invariant)

@@ -1,6 +1,6 @@
 use Rattle.std.proofs.Common.{◌≡◌, ◌+◌, ◌-◌, ◌/◌, ◌<◌, ◌≤◌, ℕ, length, arith}
 use Rattle.store_core.proofs.Finding.{below_middle, above_middle}
-use Rattle.store_core.proofs.core.first_from.Goals as goal
+use Rattle.store_core.proofs.store.first_from.Goals as goal
 
 pub loop-low-preserved-then-lines-middle : goal.loop-low-preserved-then-lines-middle
 loop-low-preserved-then-lines-middle c =

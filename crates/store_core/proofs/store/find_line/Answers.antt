@@ -2,7 +2,7 @@ use Rattle.std.proofs.Common.{◌≡◌, ◌<◌, ℕ, List, length, sym, ◌∙
 use Rattle.ledger_machine.specs.declared.commands.Line.{Line}
 use Rattle.store_core.specs.Journal.{AllBefore}
 use Rattle.store_core.proofs.Finding.{line_there, line_nowhere, line_past}
-use Rattle.store_core.proofs.core.find_line.Goals as goal
+use Rattle.store_core.proofs.store.find_line.Goals as goal
 
 pub returns-then-at-lines : goal.returns-then-at-lines
 returns-then-at-lines c =

@@ -4,7 +4,7 @@ use Rattle.store_core.proofs.Journals.{kept_open}
 use Rattle.store_core.proofs.States.{bare_is_sound}
 use Rattle.std.proofs.Common.{ap}
 use Rattle.ledger_machine.specs.State.{State}
-use Rattle.store_core.proofs.core.Core.open.Goals as goal
+use Rattle.store_core.proofs.store.Core.open.Goals as goal
 
 pub invariant_of-result : goal.invariant_of-result
 invariant_of-result g c =

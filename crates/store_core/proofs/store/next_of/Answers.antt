@@ -1,7 +1,7 @@
 use Rattle.std.proofs.Common.{◌≡◌, ◌+◌, ◌<◌, length, arith, ap, sym, ◌∙◌}
 use Rattle.ledger_machine.specs.declared.commands.Line.{Line}
 use Rattle.store_core.proofs.Journals.{next_found, read_actor}
-use Rattle.store_core.proofs.core.next_of.Goals as goal
+use Rattle.store_core.proofs.store.next_of.Goals as goal
 
 pub returns-then-line-actor : goal.returns-then-line-actor
 returns-then-line-actor c =

@@ -1,6 +1,6 @@
 use Rattle.std.proofs.Common.{◌-◌, ◌≤◌, length}
 use Rattle.store_core.specs.Journal.{AllBefore, AllFrom}
-use Rattle.store_core.proofs.core.first_from.Given as goal
+use Rattle.store_core.proofs.store.first_from.Given as goal
 
 abbrev pub invariant-loop-low : goal.invariant-loop-low
 invariant-loop-low l = record {
