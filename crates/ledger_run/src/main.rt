@@ -2,6 +2,8 @@
 //! prints its journal.
 #![tactic(auto)]
 
+#[cfg(test)]
+mod rows;
 mod run;
 #[cfg(test)]
 mod tests;

@@ -1,5 +1,5 @@
 -- How the reading of lines goes on.
-use Rattle.std.proofs.Common.{◌≡◌, ◌≢◌, ◌⊎◌, ℕ, zero, suc, Option, Some, None, ◌+◌, ◌-◌, ◌<◌, ◌≤◌, List, [], ◌∷◌, ◌++◌, length, take, drop, get_or, inl, inr, refl, sym, ◌∙◌, ap, subst, arith, append_assoc, length-append}
+use Rattle.std.proofs.Common.{◌≡◌, ◌≢◌, ◌⊎◌, ℕ, suc, Option, Some, None, ◌+◌, ◌-◌, ◌<◌, ◌≤◌, List, [], ◌∷◌, ◌++◌, length, take, drop, get_or, inl, inr, refl, sym, ◌∙◌, ap, subst, arith, append_assoc, length-append}
 use Rattle.std.proofs.lemmas.List.{drop_all, length-take, length-take-le, length-drop}
 use Rattle.std.specs.Option.{IfSome}
 use Rattle.run_io.specs.Bytes.{Took}
@@ -7,7 +7,7 @@ use Rattle.std.proofs.lemmas.Bool.Decides.{nat_tests}
 use Rattle.ledger_machine.specs.declared.commands.Command.{Command}
 use Rattle.ledger_machine.specs.declared.commands.Line.{Line}
 use Rattle.script_form.specs.Words.{pieces}
-use Rattle.script_form.specs.Grammar.{Says, AreLines, IsLine, IsScript, IsRefused, IsBad, ended, most_bytes}
+use Rattle.script_form.specs.Grammar.{Says, AreLines, IsLine, IsScript, IsRefused, ended, most_bytes}
 use Rattle.script_form.proofs.Cuts.{cut_at, cut_none}
 
 -- one line more

@@ -1,22 +1,27 @@
 -- The lines of a script are lines that a core takes.
-use Rattle.std.proofs.Common.{◌≡◌, ℕ, zero, suc, ◌+◌, ◌<◌, ◌≤◌, List, [], ◌∷◌, ◌++◌, length, Bool, true, false, cond, refl, sym, ◌∙◌, ap, subst, arith, length-append}
+use Rattle.std.proofs.Common.{◌≡◌, ℕ, zero, suc, ◌+◌, ◌<◌, ◌≤◌, List, [], ◌∷◌, length, true, false, cond, refl, sym, ◌∙◌, ap, subst, arith, length-append}
 use Rattle.std.specs.Prelude.{◌==◌}
 use Rattle.std.specs.List.{All}
 use Rattle.ledger_spec.specs.Bytes.{Bytes}
 use Rattle.ledger_machine.specs.declared.commands.Command.{Command}
 use Rattle.ledger_machine.specs.declared.commands.Command.TheVariants as command
 use Rattle.ledger_machine.specs.declared.commands.Line.{Line}
-use Rattle.ledger_machine.specs.Scripts.{Rises, IsInRange}
+use Rattle.ledger_machine.specs.Scripts.{Rises, IsInRange, IsLedgerMap}
+use Rattle.ledger_spec.specs.declared.Kind.{Kind}
+use Rattle.ledger_spec.specs.declared.Kind.TheVariants.{State}
 use Rattle.script_form.specs.Servable.{IsServed, AreServable}
 use Rattle.script_form.specs.Words.{pieces, onto_first}
-use Rattle.script_form.specs.Grammar.{Says, AreArguments, AreLines, IsLine, IsScript, most_bytes}
+use Rattle.script_form.specs.Grammar.{AreArguments, AreLines, IsLine, IsScript}
+
+a_state_map : (kind : Kind) → kind ≡ State → IsLedgerMap kind
+a_state_map kind is = subst IsLedgerMap (sym is) tt
 
 in_range : (args : List Bytes) (c : Command) → AreArguments args c → IsInRange c
 in_range args (command.Want t seq) are = are.3.nonzero
 in_range args (command.Peer p t) are = are.4.nonzero
 in_range args (command.Check t) are = are.2.nonzero
-in_range args (command.Base p t head state tx) are = absurd are
-in_range args (command.Node p t kind path blob) are = absurd are
+in_range args (command.Base p t head state tx) are = are.6.nonzero
+in_range args (command.Node p t kind path blob) are = (are.6.nonzero, a_state_map kind are.7)
 in_range args (command.Tick t) are = absurd are
 in_range args (command.View v t) are = absurd are
 in_range args (command.Unview v) are = absurd are
@@ -35,8 +40,8 @@ served : (args : List Bytes) (c : Command) → AreArguments args c → IsServed 
 served args (command.Want t seq) are = tt
 served args (command.Peer p t) are = tt
 served args (command.Check t) are = tt
-served args (command.Base p t head state tx) are = are
-served args (command.Node p t kind path blob) are = are
+served args (command.Base p t head state tx) are = tt
+served args (command.Node p t kind path blob) are = tt
 served args (command.Tick t) are = are
 served args (command.View v t) are = are
 served args (command.Unview v) are = are

@@ -2,20 +2,34 @@
 use Rattle.std.specs.Prelude.{◌≡◌, ◌≢◌, ◌⊎◌, ℕ, ◌+◌, ◌<◌, ◌≤◌, List, [], ◌∷◌, ◌++◌, length, codes, Option, None, Some}
 use Rattle.std.specs.List.{flat_map}
 use Rattle.ledger_spec.specs.Bytes.{Bytes}
+use Rattle.ledger_spec.specs.declared.Kind.TheVariants.{State}
 use Rattle.ledger_machine.specs.declared.commands.Command.{Command}
 use Rattle.ledger_machine.specs.declared.commands.Command.TheVariants as command
 use Rattle.ledger_machine.specs.declared.commands.Line.{Line}
 use Rattle.ledger_machine.specs.Scripts.{word_of}
-use Rattle.script_form.specs.Words.{pieces, words_of, IsNumber, IsTarget}
+use Rattle.script_form.specs.Words.{pieces, words_of, IsNumber, IsTarget, IsBlob, IsId}
 
 -- the most bytes of a script
 abbrev pub most_bytes : ℕ
 most_bytes = 1048576
 
--- the words behind the command's word say its arguments; the commands that are read at present are `want`, `peer` and `check`
+-- the words behind a header say the root nodes that are given: none, or that of the state map
+abbrev pub AreParts : List Bytes → Option Bytes → Option Bytes → Type 0
+AreParts [] None None = Unit {0}
+AreParts (word ∷ []) (Some state) None = IsBlob word state
+AreParts _ _ _ = ⊥
+
+-- The words behind the command's word say its arguments. The commands that are read at present are `want`, `peer`, `base` without a
+-- transaction root, `node` of the state map, and `check`.
 abbrev pub AreArguments : List Bytes → Command → Type 0
 AreArguments args (command.Want t seq) = (target : Bytes) × (number : Bytes) × (args ≡ target ∷ number ∷ []) × IsTarget target t × IsNumber number 4294967295 seq
 AreArguments args (command.Peer p t) = (number : Bytes) × (target : Bytes) × (args ≡ number ∷ target ∷ []) × IsNumber number 65535 p × IsTarget target t
+AreArguments args (command.Base p t head state tx) =
+    (number : Bytes) × (target : Bytes) × (header : Bytes) × (parts : List Bytes) × (args ≡ number ∷ target ∷ header ∷ parts)
+    × IsNumber number 65535 p × IsTarget target t × IsBlob header head × AreParts parts state tx
+AreArguments args (command.Node p t kind path blob) =
+    (number : Bytes) × (target : Bytes) × (id : Bytes) × (word : Bytes) × (args ≡ number ∷ target ∷ codes "state" ∷ id ∷ word ∷ [])
+    × IsNumber number 65535 p × IsTarget target t × (kind ≡ State) × IsId id path × IsBlob word blob
 AreArguments args (command.Check t) = (target : Bytes) × (args ≡ target ∷ []) × IsTarget target t
 AreArguments args _ = ⊥
 

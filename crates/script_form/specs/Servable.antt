@@ -10,6 +10,8 @@ use Rattle.ledger_machine.specs.Scripts.{Rises, IsInRange}
 abbrev pub IsServed : Command → Type 0
 IsServed (command.Want t seq) = Unit {0}
 IsServed (command.Peer p t) = Unit {0}
+IsServed (command.Base p t head state tx) = Unit {0}
+IsServed (command.Node p t kind path blob) = Unit {0}
 IsServed (command.Check t) = Unit {0}
 IsServed _ = ⊥
 

@@ -3,6 +3,7 @@ use Rattle.std.specs.Prelude.{◌≡◌, ◌⊎◌, ℕ, ◌+◌, ◌-◌, ◌*�
 use Rattle.std.specs.List.{list_all}
 use Rattle.std.specs.Char.{is_ascii_digit}
 use Rattle.hex.specs.Hex.{decode_of}
+use Rattle.nib_path.specs.Paths.{IsPath, wire_of}
 use Rattle.half_hash.specs.Hex.{IsHexOf}
 use Rattle.ledger_spec.specs.Bytes.{Bytes, Hash, is_nonzero}
 
@@ -41,3 +42,9 @@ pub record IsTarget (word : Bytes) (target : Hash) : Type 0 where
 -- bytes: two hexadecimal digits each, at least one byte, or `-` for none
 abbrev pub IsBlob : Bytes → Bytes → Type 0
 IsBlob word bytes = ((word ≡ 45 ∷ []) × (bytes ≡ [])) ⊎ ((0 < length word) × (decode_of word ≡ Ok bytes))
+
+-- a node ID: 66 hexadecimal digits of its wire form
+pub record IsId (word : Bytes) (path : List ℕ) : Type 0 where
+  pub digits : length word ≡ 66
+  pub is_path : IsPath path
+  pub value : decode_of word ≡ Ok (wire_of path)

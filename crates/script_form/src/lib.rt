@@ -7,4 +7,4 @@ mod words;
 
 pub use line::command_of;
 pub use script::{MOST_BYTES, ScriptFault, read_script};
-pub use words::{blob_word, hash_word, number, words_of};
+pub use words::{blob_word, hash_word, id_word, number, words_of};

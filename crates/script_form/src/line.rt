@@ -1,12 +1,14 @@
 //! What a line says.
-ghost use Rattle.std.specs.Prelude.{◌≡◌, ◌∷◌, ℕ, List, codes, map, IfOk, IfNone, IfSome, MatchOption};
-ghost use Rattle.script_form.specs.Grammar.{Says, AreWords, AreArguments};
+ghost use Rattle.std.specs.Prelude.{◌≡◌, ◌∷◌, ℕ, List, None, Option, codes, map, IfOk, IfNone, IfSome, MatchOption};
+ghost use Rattle.script_form.specs.Grammar.{Says, AreWords, AreArguments, AreParts};
+ghost use Rattle.ledger_spec.specs.declared.Kind.{Kind};
 ghost use Rattle.ledger_machine.specs.Scripts.{word_of};
 ghost use Rattle.ledger_machine.specs.declared.commands.Command.{Command};
 
-use crate::words::{is_text, number, target_word, words_of};
-use half_hash::Memory;
+use crate::words::{blob_word, id_word, is_text, number, target_word, words_of};
+use half_hash::{Blob, Memory};
 use ledger_machine::Command;
+use shamap_node::Kind;
 use std::alloc::Global;
 
 /// The command that a line of the strict form says: a word `0`, the command's word and its
@@ -15,28 +17,34 @@ pub fn command_of(alloc: Global, text: &[u8]) -> Result<Option<Command>, Memory>
     ensures { IfOk result (λ found. MatchOption found ((c : Command) → Says text.now c → ⊥) (Says text.now)) }
 {
     let words = words_of(alloc, text)?;
-    Ok(command_in(&words))
+    command_in(alloc, &words)
 }
 
-fn command_in(words: &[&[u8]]) -> Option<Command>
-    ensures { MatchOption result ((c : Command) → AreWords (map (λ w. w.now) words.now) c → ⊥) (AreWords (map (λ w. w.now) words.now)) }
+fn command_in(alloc: Global, words: &[&[u8]]) -> Result<Option<Command>, Memory>
+    ensures { IfOk result (λ found. MatchOption found ((c : Command) → AreWords (map (λ w. w.now) words.now) c → ⊥) (AreWords (map (λ w. w.now) words.now))) }
 {
     let [actor, verb, arguments @ ..] = words else {
-        return None;
+        return Ok(None);
     };
     if !is_text(actor, b"0") {
-        return None;
+        return Ok(None);
     }
     if is_text(verb, b"want") {
-        return want_of(arguments);
+        return Ok(want_of(arguments));
     }
     if is_text(verb, b"peer") {
-        return peer_of(arguments);
+        return Ok(peer_of(arguments));
+    }
+    if is_text(verb, b"base") {
+        return base_of(alloc, arguments);
+    }
+    if is_text(verb, b"node") {
+        return node_of(alloc, arguments);
     }
     if is_text(verb, b"check") {
-        return check_of(arguments);
+        return Ok(check_of(arguments));
     }
-    None
+    Ok(None)
 }
 
 fn want_of(arguments: &[&[u8]]) -> Option<Command>
@@ -78,4 +86,78 @@ fn check_of(arguments: &[&[u8]]) -> Option<Command>
     };
     let target = target_word(target)?;
     Some(Command::Check { target })
+}
+
+fn base_of(alloc: Global, arguments: &[&[u8]]) -> Result<Option<Command>, Memory>
+    ensures some { IfOk result (λ found. IfSome found (λ c. (word_of c ≡ codes "base") × AreArguments (map (λ w. w.now) arguments.now) c)) }
+    ensures none { IfOk result (λ found. IfNone found ((p : ℕ) (t head : List ℕ) (state tx : Option (List ℕ)) → AreArguments (map (λ w. w.now) arguments.now) (Command.Base p t head state tx) → ⊥)) }
+{
+    let [peer, target, header, parts @ ..] = arguments else {
+        return Ok(None);
+    };
+    let Some(peer) = number(peer, 65_535) else {
+        return Ok(None);
+    };
+    let Some(target) = target_word(target) else {
+        return Ok(None);
+    };
+    let Some(header) = blob_word(alloc, header)? else {
+        return Ok(None);
+    };
+    let Some(state) = parts_of(alloc, parts)? else {
+        return Ok(None);
+    };
+    Ok(Some(Command::Base {
+        peer: peer as u16,
+        target,
+        header,
+        state,
+        tx: None,
+    }))
+}
+
+/// The root node of the state map, where it is given.
+fn parts_of(alloc: Global, parts: &[&[u8]]) -> Result<Option<Option<Blob>>, Memory>
+    ensures some { IfOk result (λ found. IfSome found (λ state. AreParts (map (λ w. w.now) parts.now) state None)) }
+    ensures none { IfOk result (λ found. IfNone found ((state tx : Option (List ℕ)) → AreParts (map (λ w. w.now) parts.now) state tx → ⊥)) }
+{
+    match parts {
+        [] => Ok(Some(None)),
+        [state] => match blob_word(alloc, state)? {
+            Some(state) => Ok(Some(Some(state))),
+            None => Ok(None),
+        },
+        _ => Ok(None),
+    }
+}
+
+fn node_of(alloc: Global, arguments: &[&[u8]]) -> Result<Option<Command>, Memory>
+    ensures some { IfOk result (λ found. IfSome found (λ c. (word_of c ≡ codes "node") × AreArguments (map (λ w. w.now) arguments.now) c)) }
+    ensures none { IfOk result (λ found. IfNone found ((p : ℕ) (t : List ℕ) (kind : Kind) (path blob : List ℕ) → AreArguments (map (λ w. w.now) arguments.now) (Command.Node p t kind path blob) → ⊥)) }
+{
+    let [peer, target, kind, id, blob] = arguments else {
+        return Ok(None);
+    };
+    if !is_text(kind, b"state") {
+        return Ok(None);
+    }
+    let Some(peer) = number(peer, 65_535) else {
+        return Ok(None);
+    };
+    let Some(target) = target_word(target) else {
+        return Ok(None);
+    };
+    let Some(id) = id_word(id) else {
+        return Ok(None);
+    };
+    let Some(blob) = blob_word(alloc, blob)? else {
+        return Ok(None);
+    };
+    Ok(Some(Command::Node {
+        peer: peer as u16,
+        target,
+        kind: Kind::State,
+        id,
+        blob,
+    }))
 }

@@ -1,9 +1,10 @@
 //! The words of a line, and what single words say.
 ghost use Rattle.std.specs.Prelude.{◌≡◌, ◌≢◌, ◌≤◌, ◌<◌, ◌∷◌, ◌^◌, ℕ, List, Ok, length, map, slice_index, IfOk, MatchBool, MatchOption};
 ghost use Rattle.half_hash.specs.Hex.{IsHexOf};
-ghost use Rattle.script_form.specs.Words.{words_of as text_words, IsNumber, IsTarget, IsBlob, decimal_behind};
+ghost use Rattle.script_form.specs.Words.{words_of as text_words, IsNumber, IsTarget, IsBlob, IsId, decimal_behind};
 
 use half_hash::{Blob, Hash32, Memory};
+use nib_path::NodeId;
 use std::alloc::Global;
 
 /// Where the first separator stands, or the end.
@@ -81,6 +82,24 @@ pub(crate) fn target_word(word: &[u8]) -> Option<Hash32>
 {
     let hash = hash_word(word)?;
     if hash.is_zero() { None } else { Some(hash) }
+}
+
+/// The node ID of 66 hexadecimal digits, its wire form.
+pub fn id_word(word: &[u8]) -> Option<NodeId>
+    ensures { MatchOption result ((path : List ℕ) → IsId word.now path → ⊥) (IsId word.now) }
+{
+    if word.len() != 66 {
+        return None;
+    }
+    let mut bytes = [0; 33];
+    if hex::decode_to_slice(word, &mut bytes).is_err() {
+        return None;
+    }
+    let Ok(id) = NodeId::from_wire(&bytes) else {
+        return None;
+    };
+    id.known();
+    Some(id)
 }
 
 /// The bytes of hexadecimal digits, two for each, or of `-` for none.

@@ -1,5 +1,5 @@
 -- How a journal grows, and what a core keeps meanwhile.
-use Rattle.std.proofs.Common.{◌≡◌, ℕ, zero, suc, Option, Some, None, ◌+◌, ◌-◌, Result, Ok, ◌<◌, ◌≤◌, List, [], ◌∷◌, ◌++◌, map, length, take, drop, get_or, Bool, true, false, cond, refl, sym, ◌∙◌, ap, subst, arith, length-append, set, length-set, ◌≢◌, get_or-set_same, get_or-set_other}
+use Rattle.std.proofs.Common.{◌≡◌, ℕ, zero, suc, Some, None, ◌+◌, ◌-◌, Result, Ok, ◌<◌, ◌≤◌, List, [], ◌∷◌, ◌++◌, map, length, take, drop, get_or, Bool, true, false, cond, refl, sym, ◌∙◌, ap, subst, arith, length-append, set, length-set, ◌≢◌, get_or-set_same, get_or-set_other}
 use Rattle.std.specs.Prelude.{◌==◌, slice_index}
 use Rattle.std.specs.List.{filter, find, All}
 use Rattle.std.specs.Result.{is_ok}
@@ -8,17 +8,19 @@ use Rattle.std.proofs.Math.Seq.{take-add}
 use Rattle.std.proofs.lemmas.Bool.Decides.{nat_tests}
 use Rattle.std.proofs.lemmas.List.{append-nil, get_or_read, get_or_default, get_or-take, get_or-drop, length-map, map-append, take_more, take-append-drop}
 use Rattle.std.proofs.lemmas.List.Elements.{filter-append, All-append}
-use mathlib.Core.List.{IsPrefix}
 use Rattle.std.specs.FinMap as finite
 use Rattle.std.proofs.Common.{◌⊎◌, inl, inr, IsTrue}
 use Rattle.ledger_machine.specs.declared.replies.Reply.TheVariants as says
-use Rattle.ledger_spec.specs.Bytes.{Half}
+use Rattle.ledger_spec.specs.Bytes.{Half, Hash, Bytes}
 use Rattle.ledger_machine.specs.State.{State, opening}
 use Rattle.ledger_machine.specs.Steps.{Step}
-use Rattle.ledger_machine.specs.Runs.{Answers, Run, used_by, answered_by, Projects, Waits}
-use Rattle.ledger_machine.specs.Scripts.{numbers_of}
+use Rattle.ledger_machine.specs.Runs.{Answers, used_by, answered_by, Projects, Waits}
+use Rattle.ledger_machine.specs.Scripts.{numbers_of, IsInRange, IsAcquiring}
 use Rattle.script_form.specs.Servable.{AreServable, IsServed}
-use Rattle.ledger_machine.specs.Sound.{Sound}
+use Rattle.ledger_machine.specs.Sound.{Sound, IsStoredAt}
+use Rattle.ledger_machine.proofs.Soundness.{opening_is_sound}
+use Rattle.ledger_spec.specs.Maps.{hash_cmp}
+use Rattle.ledger_machine.specs.declared.commands.Command.TheVariants as command
 use Rattle.ledger_machine.proofs.RunLaws.{run_more}
 use Rattle.store_core.specs.Journal.{IsDone, Kept, IsNext, Rose, RoseBy, faults_in, is_fault}
 use Rattle.ledger_machine.specs.declared.commands.Line.{Line}
@@ -143,6 +145,9 @@ module _ (half : Half) (lines : List Line) (cursors : List ℕ) (journal : List 
   pub kept_served : (at : ℕ) → at < length lines → (line : Line) → line ≡ get_or lines at line → IsServed line.command
   kept_served at lt line is = let P : Line → Type 0 = λ l. IsServed l.command in subst P (sym is) (k.servable.served at line lt)
 
+  pub kept_in_range : (at : ℕ) → at < length lines → (line : Line) → line ≡ get_or lines at line → IsInRange line.command
+  kept_in_range at lt line is = let P : Line → Type 0 = λ l. IsInRange l.command in subst P (sym is) (k.servable.in_range at line lt)
+
   module _ (a at : ℕ) (lt : a < 64) (next : IsNext lines (slice_index cursors a) a at) (line : Line) (is : line ≡ get_or lines at line) where
     fewer : part (λ e. e.actor) journal a < part (λ l. l.actor) lines a
     fewer = omega (arith, answered_part a journal, numbers_part a lines, ap length (k.done a lt), ap length (numbers_next lines _ a at line next is), length-append (numbers_of a (take (slice_index cursors a) lines)) (line.number ∷ []), numbers-take-le a (at + 1) lines)
@@ -151,9 +156,10 @@ module _ (half : Half) (lines : List Line) (cursors : List ℕ) (journal : List 
     pub kept_less : length journal < length lines
     kept_less = omega (arith, parts 64 (λ (e : Entry). e.actor) journal k.known, parts 64 (λ (l : Line). l.actor) lines k.servable.actors_known, total-lt 64 _ _ at_most a lt fewer)
 
-    pub kept_step : (e : Entry) (s' : State) (c now' : ℕ) → e.line ≡ line.number → e.actor ≡ a → (IsTrue told → Step half s e.actor line.command e.reply (used_by e) s') → (IsTrue told → Sound half s') → capacity ≤ c → now ≤ now' → (e.reply ≡ says.Fault → Rose now now') → Kept half lines (set cursors a (at + 1)) (journal ++ e ∷ []) c interval told opened now' s'
-    kept_step e s' c now' number actor step sound more later cause = record {
+    pub kept_step : (e : Entry) (s' : State) (c now' : ℕ) → e.line ≡ line.number → e.actor ≡ a → (IsTrue told → Step half s e.actor line.command e.reply (used_by e) s') → (IsTrue told → Sound half s') → (IsTrue told → length s'.listed ≤ suc (length s.listed)) → capacity ≤ c → now ≤ now' → (e.reply ≡ says.Fault → Rose now now') → Kept half lines (set cursors a (at + 1)) (journal ++ e ∷ []) c interval told opened now' s'
+    kept_step e s' c now' number actor step sound few more later cause = record {
       sound = sound;
+      listed_few = λ t. omega (arith, few t, k.listed_few t, length-append journal (e ∷ []));
       run = λ t. run_more half lines (opening finite.empty interval) s s' journal e (k.run t) (record { place = at; line = line; stands = slice_get_read lines (length lines) at line refl next.within is; number = number; actor = actor ∙ sym (next.actor line is); step = step t });
       cursor_count = length-set cursors a (at + 1) ∙ k.cursor_count;
       behind = λ b l. elim (b == a) as (λ t. (b == a) ≡ t → slice_index (set cursors a (at + 1)) b ≤ length lines) [
@@ -219,14 +225,22 @@ used_nothing half s actor c r s' used none step = let P : List (Arc Node Global)
 numbers_none : (a : ℕ) (lines : List Line) (n : ℕ) → n ≡ 0 → numbers_of a (take n lines) ≡ []
 numbers_none a lines n e = ap (λ (k : ℕ). numbers_of a (take k lines)) e
 
+-- nothing stands in the empty map
+none_stored : (half : Half) (h : Hash) (form : Bytes) → finite.get {R = hash_cmp} finite.empty h ≡ Some form → IsStoredAt half h form
+none_stored half h form e = absurd (no_some (sym (finite.get-empty hash_cmp h) ∙ e))
+  where
+    no_some : {X : Type 0} {x : X} → None ≡ Some x → ⊥
+    no_some e = cc
+
 pub kept_open : (half : Half) (lines : List Line) (cursors : List ℕ) (journal : List Entry) (capacity interval : ℕ) (told : Bool) (opened now : ℕ) (s : State)
-    → journal ≡ [] → length cursors ≡ 64 → ((a : ℕ) → a < 64 → slice_index cursors a ≡ 0) → AreServable lines → length lines ≤ capacity → opened ≡ now → (IsTrue told → s ≡ opening finite.empty interval) → (IsTrue told → Sound half s)
+    → journal ≡ [] → length cursors ≡ 64 → ((a : ℕ) → a < 64 → slice_index cursors a ≡ 0) → AreServable lines → length lines ≤ capacity → opened ≡ now → (IsTrue told → s ≡ opening finite.empty interval)
     → Kept half lines cursors journal capacity interval told opened now s
-kept_open half lines cursors journal capacity interval told opened now s none size start_at servable room same start sound =
+kept_open half lines cursors journal capacity interval told opened now s none size start_at servable room same start =
     let P : List Entry → Type 0 = λ j. Kept half lines cursors j capacity interval told opened now s in
     subst P (sym none) (record {
       run = start;
-      sound = sound;
+      sound = λ t. subst (Sound half) (sym (start t)) (opening_is_sound half finite.empty interval (none_stored half));
+      listed_few = λ t. omega (arith, ap (λ (x : State). length x.listed) (start t));
       cursor_count = size;
       behind = λ a l. omega (arith, start_at a l);
       done = λ a l. sym (numbers_none a lines (slice_index cursors a) (start_at a l));
@@ -235,6 +249,15 @@ kept_open half lines cursors journal capacity interval told opened now s none si
       room = room;
       fault_bound = inl (omega (arith, same));
     })
+
+-- the commands that are served acquire a ledger
+pub served_acquires : (c : Command) → IsServed c → IsAcquiring c
+served_acquires (command.Want t seq) served = tt
+served_acquires (command.Peer p t) served = tt
+served_acquires (command.Base p t head state tx) served = tt
+served_acquires (command.Node p t kind path blob) served = tt
+served_acquires (command.Check t) served = tt
+served_acquires _ served = absurd served
 
 -- a count that stands at 0 has met no fault
 pub none_failed : (n : ℕ) → RoseBy n 0 0 → n ≡ 0

@@ -2,3 +2,5 @@ pub mod Counting
 pub mod States
 pub mod Journals
 pub mod Finding
+pub mod Asking
+pub mod Listing

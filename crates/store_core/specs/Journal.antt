@@ -43,12 +43,13 @@ Rose before now = (before + 1 ≤ now) ⊎ (2 ^ 64 - 1 ≤ now)
 abbrev pub RoseBy : ℕ → ℕ → ℕ → Type 0
 RoseBy n before now = (before + n ≤ now) ⊎ (2 ^ 64 - 1 ≤ now)
 
--- What a core keeps: where its store tells what it holds, its journal is a run that led to a sound state; each actor's cursor stands
--- behind the lines that it has answered; the journal has room for an entry of each line; and each `fault` has a rise of the store's
--- count of its own.
+-- What a core keeps: where its store tells what it holds, its journal is a run that led to a sound state, and no more ledgers are
+-- listed than it has entries; each actor's cursor stands behind the lines that it has answered; the journal has room for an entry of
+-- each line; and each `fault` has a rise of the store's count of its own.
 pub record Kept (half : Half) (lines : List Line) (cursors : List ℕ) (journal : List Entry) (capacity interval : ℕ) (told : Bool) (opened now : ℕ) (state : State) : Type 0 where
   pub run : IsTrue told → Run half lines (opening finite.empty interval) journal state
   pub sound : IsTrue told → Sound half state
+  pub listed_few : IsTrue told → length state.listed ≤ length journal
   pub cursor_count : length cursors ≡ actors
   pub behind : (a : ℕ) → a < actors → slice_index cursors a ≤ length lines
   pub done : (a : ℕ) → a < actors → answered_by a journal ≡ numbers_of a (take (slice_index cursors a) lines)

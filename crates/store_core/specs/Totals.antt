@@ -1,5 +1,5 @@
 -- The numbers of a run's summary.
-use Rattle.std.specs.Prelude.{ℕ, Bool, true, false, List, length, count_by}
+use Rattle.std.specs.Prelude.{Bool, true, false, List, length, count_by}
 use Rattle.ledger_machine.specs.declared.journal.Entry.{Entry}
 use Rattle.ledger_machine.specs.declared.journal.Totals.{Totals}
 use Rattle.ledger_machine.specs.declared.replies.Reply.{Reply}

@@ -1,19 +1,24 @@
 //! One acquisition: the asked sequence, its peers in order of turn, their charges, and what was asked.
-ghost use Rattle.std.specs.Prelude.{◌≡◌, ◌<◌, OnOk, OnErr, IfOk, ◌++◌, ◌∷◌, [], length};
+ghost use Rattle.std.specs.Prelude.{◌≡◌, ◌≢◌, OnOk, OnErr, IfOk, [], take};
 ghost use Rattle.std.specs.Ordering.{nat_cmp};
-ghost use Rattle.std.specs.List.{list_any, filter};
-ghost use Rattle.ledger_spec.specs.Maps.{has_in, insert_in};
-ghost use Rattle.ledger_spec.specs.declared.Place.TheVariants.{Header};
+ghost use Rattle.std.specs.List.{list_any};
+ghost use Rattle.ledger_spec.specs.Bytes.{same_bytes};
+ghost use Rattle.ledger_spec.specs.Maps.{has_in};
 ghost use Rattle.ledger_machine.specs.State.{fresh};
 ghost use Rattle.ledger_machine.specs.Peer.{with_peer};
-ghost use Rattle.ledger_machine.specs.Check.{missing_reply, after_ask, same_place};
+ghost use Rattle.ledger_machine.specs.Base.{is_present as stands_present};
+ghost use Rattle.ledger_machine.specs.Check.{missing_reply, after_ask, same_place, most_asked, unasked as not_asked};
 
 use half_hash::Memory;
 use ledger_machine::{CheckReply, Places};
+use nib_path::NodeId;
 use shamap_node::Place;
 use std::alloc::Global;
 use std::collections::BTreeMap;
 use std::marker::Model;
+
+/// The most places that are asked for at a time.
+const MOST_ASKED: usize = 128;
 
 #[derive(Drop)]
 pub(crate) struct Acquire {
@@ -46,6 +51,20 @@ impl Acquire {
         }
     }
 
+    /// The sequence that was asked for, 0 where any will do.
+    pub(crate) fn seq(&self) -> u32
+        ensures { result ≡ self.now.seq }
+    {
+        self.seq
+    }
+
+    /// Whether the peer serves the acquisition.
+    pub(crate) fn is_present(&self, peer: u16) -> bool
+        ensures { result ≡ stands_present peer self.now }
+    {
+        self.present.contains(&peer)
+    }
+
     /// Whether the peer was added, also when it was dropped since.
     pub(crate) fn was_added(&self, peer: u16) -> bool
         ensures { result ≡ has_in nat_cmp self.now.charges peer }
@@ -66,21 +85,21 @@ impl Acquire {
         Ok(())
     }
 
-    /// Asks the first peer for the header, the one missing place.
-    pub(crate) fn ask(&mut self, alloc: Global) -> Result<CheckReply, Memory>
-        ensures reply { IfOk result (λ r. r ≡ missing_reply self.old (Header ∷ [])) }
+    /// Asks the first peer for the first missing places that were not asked yet.
+    pub(crate) fn ask(&mut self, alloc: Global, missing: &[Place]) -> Result<CheckReply, Memory>
+        requires { missing.now ≢ [] }
+        ensures reply { IfOk result (λ r. r ≡ missing_reply self.old missing.now) }
         ensures after { IfOk result (λ r. self.new ≡ after_ask r self.old) }
         ensures err { OnErr result (self.new ≡ self.old) }
     {
         if self.present.is_empty() {
             return Ok(CheckReply::NoPeer);
         }
-        if asks_header(&self.asked) {
-            return Ok(CheckReply::Waiting(1));
+        let places = unasked(alloc, &self.asked, missing)?;
+        if places.is_empty() {
+            return Ok(CheckReply::Waiting(missing.len()));
         }
-        let mut places = Vec::with_capacity(alloc, 1)?;
-        places.push(Place::Header)?;
-        self.asked.push(Place::Header)?;
+        self.asked.extend_from_slice(&places)?;
         let peer = self.present[0];
         self.present.rotate_left(1);
         Ok(CheckReply::Need {
@@ -90,9 +109,40 @@ impl Acquire {
     }
 }
 
-/// Whether the header is among the places.
-fn asks_header(places: &[Place]) -> bool
-    ensures { result ≡ list_any (same_place Header) places.now }
+/// The first places that are not among those that were asked.
+fn unasked(alloc: Global, asked: &[Place], missing: &[Place]) -> Result<Vec<Place>, Memory>
+    ensures { IfOk result (λ places. places.items ≡ take most_asked (not_asked asked.now missing.now)) }
 {
-    places.iter().any(|p| matches!(p, Place::Header))
+    let mut places = Vec::new(alloc);
+    for place in missing {
+        if places.len() < MOST_ASKED && !is_among(asked, place) {
+            places.push(*place)?;
+        }
+    }
+    Ok(places)
+}
+
+/// Whether the place is among these.
+fn is_among(places: &[Place], place: &Place) -> bool
+    ensures { result ≡ list_any (same_place place.now) places.now }
+{
+    places.iter().any(|other| same(place, other))
+}
+
+fn same(place: &Place, other: &Place) -> bool
+    ensures { result ≡ same_place place.now other.now }
+{
+    match (place, other) {
+        (Place::Header, Place::Header) => true,
+        (Place::Node { kind, id }, Place::Node { kind: k, id: i }) => kind == k && same_id(id, i),
+        _ => false,
+    }
+}
+
+fn same_id(id: &NodeId, other: &NodeId) -> bool
+    ensures { result ≡ same_bytes id.now other.now }
+{
+    id.known();
+    other.known();
+    id == other
 }

@@ -2,6 +2,7 @@
 #![tactic(auto)]
 
 mod acquire;
+mod header;
 mod machine;
 mod store;
 

@@ -94,7 +94,6 @@ impl<H: NodeHash> Core<H> {
         };
         let line = &self.script.lines[at];
         let reply = self.machine.answer(alloc, actor, &line.command);
-        self.machine.known();
         let entry = Entry {
             line: line.number,
             actor,
@@ -123,6 +122,8 @@ impl<H: NodeHash> Core<H> {
         ensures few { length self.now.journal ≤ length self.now.lines }
         // Each `fault` has a rise of the store's count of its own.
         ensures faults { RoseBy (faults_in self.now.journal) self.now.opened self.now.faults }
+        ensures listed { length self.now.state.listed ≤ length self.now.journal }
+
         // The store in memory never fails.
         ensures no_fault { faults_in self.now.journal ≡ 0 }
     {
@@ -145,7 +146,7 @@ impl<H: NodeHash> Core<H> {
         Totals {
             complete: complete_in(journal) as u32,
             closed: closed_in(journal) as u32,
-            listed: 0,
+            listed: self.machine.listed() as u32,
             floor: self.machine.floor(),
             last: self.machine.last(),
             epoch: 0,

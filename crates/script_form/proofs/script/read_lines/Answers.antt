@@ -1,9 +1,8 @@
-use Rattle.std.proofs.Common.{◌≡◌, ◌+◌, ◌<◌, ◌≤◌, ℕ, List, length, take, drop, refl, sym, ◌∙◌, ap, subst, inl, inr, arith}
+use Rattle.std.proofs.Common.{◌≡◌, ◌+◌, ◌<◌, ℕ, List, length, drop, refl, ◌∙◌, ap, subst, inl, inr, arith}
 use Rattle.std.proofs.lemmas.List.{drop-drop}
 use Rattle.std.proofs.lemmas.Bool.Decides.{nat_tests}
 use Rattle.ledger_machine.specs.declared.commands.Command.{Command}
 use Rattle.script_form.specs.Grammar.{Says}
-use Rattle.script_form.specs.Faults.{HasLineCause}
 use Rattle.script_form.proofs.Scripts.{reads_end, reads_more, refused_unended, refused_line, over_size}
 use Rattle.script_form.proofs.Servable.{are_servable}
 use Rattle.script_form.proofs.script.read_lines.Goals as goal

@@ -1,4 +1,4 @@
-use Rattle.std.proofs.Common.{◌≡◌, ◌+◌, ◌*◌, ◌-◌, ◌<◌, get_or, arith, rules, length, ap, ◌∙◌, sym}
+use Rattle.std.proofs.Common.{◌+◌, ◌*◌, ◌<◌, arith, rules, length, ap, ◌∙◌}
 use Rattle.script_form.proofs.Numbers.{decimal_more, digits_more, too_much}
 use Rattle.script_form.proofs.words.number.Goals as goal
 

@@ -1,7 +1,7 @@
-use Rattle.std.proofs.Common.{◌≡◌, ◌+◌, ◌<◌, ◌≤◌, ℕ, List, length, take, drop, sym, ◌∙◌, ap, subst, arith}
+use Rattle.std.proofs.Common.{◌≡◌, ◌+◌, ◌<◌, ◌≤◌, length, drop, ◌∙◌, ap, arith}
 use Rattle.std.proofs.lemmas.List.{drop-drop, take_all}
 use Rattle.std.proofs.lemmas.Bool.Decides.{nat_tests}
-use Rattle.script_form.proofs.Cuts.{Cuts, cuts_more, cuts_end}
+use Rattle.script_form.proofs.Cuts.{cuts_more, cuts_end}
 use Rattle.script_form.proofs.words.words_of.Goals as goal
 
 pub loop-words-preserved : goal.loop-words-preserved

@@ -1,5 +1,4 @@
-use Rattle.std.proofs.Common.{◌≡◌, ◌<◌, ℕ, List, length, sym, ◌∙◌, ap, subst, arith}
-use Rattle.ledger_machine.specs.declared.commands.Line.{Line}
+use Rattle.std.proofs.Common.{◌<◌, ℕ, length, subst, arith}
 use Rattle.store_core.specs.Journal.{AllBefore}
 use Rattle.store_core.proofs.Finding.{line_there, line_nowhere, line_past}
 use Rattle.store_core.proofs.store.find_line.Goals as goal

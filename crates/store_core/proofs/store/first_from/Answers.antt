@@ -1,4 +1,4 @@
-use Rattle.std.proofs.Common.{◌≡◌, ◌+◌, ◌-◌, ◌/◌, ◌<◌, ◌≤◌, ℕ, length, arith}
+use Rattle.std.proofs.Common.{◌+◌, ◌-◌, ◌/◌, ◌<◌, length, arith}
 use Rattle.store_core.proofs.Finding.{below_middle, above_middle}
 use Rattle.store_core.proofs.store.first_from.Goals as goal
 

@@ -1,4 +1,4 @@
-use Rattle.std.proofs.Common.{◌≡◌, ◌+◌, ◌<◌, length, arith, ap, sym, ◌∙◌}
+use Rattle.std.proofs.Common.{◌+◌, ◌<◌, length, arith, ap, sym, ◌∙◌}
 use Rattle.ledger_machine.specs.declared.commands.Line.{Line}
 use Rattle.store_core.proofs.Journals.{next_found, read_actor}
 use Rattle.store_core.proofs.store.next_of.Goals as goal

@@ -1,20 +1,49 @@
-use Rattle.std.proofs.Common.{◌≡◌, sym, ◌∙◌, ap, Some}
-use Rattle.ledger_machine.specs.State.{State, stored_seq}
-use Rattle.store_core.proofs.States.{set_same, same_wanted, on_err, ask_reply_is, asked_after, nothing_in}
+use Rattle.std.proofs.Common.{◌≡◌, ◌≢◌, sym, ◌∙◌, ap, Some, Option, ℕ, [], option_copied, rules}
+use Rattle.std.proofs.lemmas.Grind.{common_steps}
+use Rattle.ledger_machine.specs.declared.replies.CheckReply.TheVariants as check
+use Rattle.ledger_machine.specs.Check.{missing_reply}
+use Rattle.ledger_spec.specs.Maps.{hash_cmp, get_in}
+use Rattle.ledger_machine.specs.State.{Acquisition}
+use Rattle.store_core.specs.Refusals.{asked_reply}
+use Rattle.store_core.proofs.States.{check_refused, check_found, found_reply, asked_after}
 use Rattle.store_core.proofs.machine.Machine.check.Goals as goal
 
-pub returns-in_err-reply-clause-err : goal.returns-in_err-reply-clause-err
-returns-in_err-reply-clause-err g c =
-    on_err c.from_residual.result (same_wanted _ _ c.self.view_is _ ((c.get_mut.follows.holds c.ask.new.self).0
-    ∙ set_same _ _ _ (sym c.in-Some.ensures.value ∙ ap Some (sym c.in_err-reply.ensures.err))))
+-- the header refuses the ledger
+pub returns-in-Some-fault_of-clause-reply : goal.returns-in-Some-fault_of-clause-reply
+returns-in-Some-fault_of-clause-reply g c =
+    sym (check_refused g.H.NodeHash.half c.args.self.now c.args.target.now c.in-Some.acquire.now c.seq.result (option_copied c.get-2.result) c.fault_of.result
+    (rw (← c.self.view_is) (sym c.in-Some.ensures.value)) c.seq.ensures (rw (← c.self.view_is) c.get-2.ensures) (rw (← c.self.view_is) c.fault_of.ensures.verdict) c.in-Some-fault_of.fault c.in-Some-fault_of.is)
 
--- nothing is stored, so the header is asked for
+-- a place is broken
+pub returns-in-Some-broken-clause-reply : goal.returns-in-Some-broken-clause-reply
+returns-in-Some-broken-clause-reply g c =
+    ap (λ (n : ℕ). check.Malformed c.in-Some-broken.place n) c.number.ensures
+    ∙ ap (found_reply c.in-Some.acquire.now c.in_ok-broken.field-0.missing.items) (sym c.in-Some-broken.is)
+    ∙ sym (check_found g.H.NodeHash.half c.args.self.now c.args.target.now c.in-Some.acquire.now c.seq.result (option_copied c.get-2.result) c.fault_of.result
+    (rw (← c.self.view_is) (sym c.in-Some.ensures.value)) c.seq.ensures (rw (← c.self.view_is) c.get-2.ensures) (rw (← c.self.view_is) c.fault_of.ensures.verdict) c.in_default-fault_of.is
+    c.in_ok-broken.field-0.missing.items c.in_ok-broken.field-0.broken (rw (← c.self.view_is) c.in_ok-broken.ensures.found.missing) (rw (← c.self.view_is) c.in_ok-broken.ensures.found.broken))
+
+-- nothing is missing
+pub returns-then-is_empty-clause-reply : goal.returns-then-is_empty-clause-reply
+returns-then-is_empty-clause-reply g c =
+    let none : c.in_ok-broken.field-0.missing.items ≡ [] = search (rules, common_steps) in
+    sym ((check_found g.H.NodeHash.half c.args.self.now c.args.target.now c.in-Some.acquire.now c.seq.result (option_copied c.get-2.result) c.fault_of.result
+    (rw (← c.self.view_is) (sym c.in-Some.ensures.value)) c.seq.ensures (rw (← c.self.view_is) c.get-2.ensures) (rw (← c.self.view_is) c.fault_of.ensures.verdict) c.in_default-fault_of.is
+    c.in_ok-broken.field-0.missing.items c.in_ok-broken.field-0.broken (rw (← c.self.view_is) c.in_ok-broken.ensures.found.missing) (rw (← c.self.view_is) c.in_ok-broken.ensures.found.broken))
+    ∙ ap (found_reply c.in-Some.acquire.now c.in_ok-broken.field-0.missing.items) c.in_default-broken.is ∙ ap (missing_reply c.in-Some.acquire.now) none)
+
+-- places are missing
 pub returns-clause-reply : goal.returns-clause-reply
 returns-clause-reply g c =
-    let none = nothing_in c.args.self.now c.args.target.now (ap (λ (s : State). s.nodes) (sym c.self.view_is) ∙ c.self.invariant.0) in
-    c.in_ok-reply.ensures.reply ∙ sym (ask_reply_is g.H.NodeHash.half c.args.self.now c.args.target.now c.in-Some.acquire.now none (rw (← c.self.view_is) (sym c.in-Some.ensures.value)))
+    let at : get_in hash_cmp c.args.self.now.wanted c.args.target.now ≡ Some c.in-Some.acquire.now = rw (← c.self.view_is) (sym c.in-Some.ensures.value) in
+    let same : c.deref.result.now ≡ c.in_ok-broken.field-0.missing.items = search (rules, common_steps) in
+    sym ((check_found g.H.NodeHash.half c.args.self.now c.args.target.now c.in-Some.acquire.now c.seq.result (option_copied c.get-2.result) c.fault_of.result
+    (rw (← c.self.view_is) (sym c.in-Some.ensures.value)) c.seq.ensures (rw (← c.self.view_is) c.get-2.ensures) (rw (← c.self.view_is) c.fault_of.ensures.verdict) c.in_default-fault_of.is
+    c.in_ok-broken.field-0.missing.items c.in_ok-broken.field-0.broken (rw (← c.self.view_is) c.in_ok-broken.ensures.found.missing) (rw (← c.self.view_is) c.in_ok-broken.ensures.found.broken))
+    ∙ ap (found_reply c.in-Some.acquire.now c.in_ok-broken.field-0.missing.items) c.in_default-broken.is ∙ ap (missing_reply c.in-Some.acquire.now) (sym same)
+    ∙ sym (c.in_ok-ask.ensures.reply ∙ ap (λ (o : Option Acquisition). asked_reply o c.deref.result.now) at))
 
 pub returns-clause-after : goal.returns-clause-after
 returns-clause-after g c =
-    asked_after _ _ c.self.view_is c.args.target.now c.in-Some.acquire.now c.ask.new.self (stored_seq c.args.self.now c.args.target.now) c.in_ok-reply.reply _ (sym c.in-Some.ensures.value) c.in_ok-reply.ensures.reply c.in_ok-reply.ensures.after
-    (c.get_mut.follows.holds c.ask.new.self).0
+    let some : c.deref.result.now ≢ [] = search (rules, common_steps) in
+    c.in_ok-ask.ensures.after ∙ asked_after c.args.self.now c.args.target.now c.in-Some.acquire.now _ c.deref.result.now c.in_ok-ask.field-0 (rw (← c.self.view_is) (sym c.in-Some.ensures.value)) some c.in_ok-ask.ensures.reply

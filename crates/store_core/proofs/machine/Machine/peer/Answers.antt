@@ -1,4 +1,4 @@
-use Rattle.std.proofs.Common.{◌≡◌, sym, ◌∙◌, ap, Some}
+use Rattle.std.proofs.Common.{sym, ◌∙◌, ap, Some}
 use Rattle.store_core.proofs.States.{set_same, same_wanted, on_err}
 use Rattle.store_core.proofs.machine.Machine.peer.Goals as goal
 

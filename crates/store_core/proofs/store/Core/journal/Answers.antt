@@ -1,4 +1,3 @@
-use Rattle.std.proofs.Common.{◌≡◌}
 use Rattle.store_core.proofs.Journals.{kept_few, kept_projects, none_failed}
 use Rattle.store_core.proofs.store.Core.journal.Goals as goal
 

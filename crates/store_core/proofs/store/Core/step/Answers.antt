@@ -1,9 +1,7 @@
-use Rattle.std.proofs.Common.{◌≡◌, ◌<◌, ℕ, ◌+◌, List, length, ◌++◌, ◌∷◌, [], refl, sym, ◌∙◌, ap, inl, arith, length-append}
-use Rattle.std.specs.Vec.{vec_len}
-use Rattle.ledger_machine.specs.declared.commands.Line.{Line}
-use Rattle.store_core.specs.Journal.{IsNext}
-use Rattle.store_core.proofs.States.{bare_is_sound}
-use Rattle.store_core.proofs.Journals.{kept_few, kept_less, kept_step, kept_done, kept_served, moved, moved_end, pushed, answers, used_nothing}
+use Rattle.std.proofs.Common.{length, refl, ap, arith, length-append}
+use Rattle.ledger_machine.proofs.SoundSteps.{acquiring_step_sound}
+use Rattle.store_core.proofs.Listing.{step_few}
+use Rattle.store_core.proofs.Journals.{kept_few, kept_less, kept_step, kept_done, kept_served, kept_in_range, served_acquires, moved, moved_end, pushed, answers, used_nothing}
 use Rattle.store_core.proofs.store.Core.step.Goals as goal
 
 pub returns-in_default-clause-finished : goal.returns-in_default-clause-finished
@@ -18,6 +16,12 @@ answer-reply-requires-clause-served g c _ _ =
     let next = moved _ _ c.self.inside.cursors.items _ _ _ c.deref.ensures.value c.index-from.ensures (omega (arith, k.cursor_count, c.requires)) c.in-Some.ensures in
     kept_served _ _ _ _ _ _ _ _ _ _ k _ next.within c.index-line.result.now c.index-line.ensures
 
+pub answer-reply-requires-clause-in_range : goal.answer-reply-requires-clause-in_range
+answer-reply-requires-clause-in_range g c _ _ =
+    let k = c.self.invariant in
+    let next = moved _ _ c.self.inside.cursors.items _ _ _ c.deref.ensures.value c.index-from.ensures (omega (arith, k.cursor_count, c.requires)) c.in-Some.ensures in
+    kept_in_range _ _ _ _ _ _ _ _ _ _ k _ next.within c.index-line.result.now c.index-line.ensures
+
 pub unwrap-requires : goal.unwrap-requires
 unwrap-requires g c =
     let k = c.self.invariant in
@@ -28,10 +32,13 @@ pub invariant_of-self : goal.invariant_of-self
 invariant_of-self g c =
     let k = c.self.invariant in
     let next = moved _ _ c.self.inside.cursors.items _ _ _ c.deref.ensures.value c.index-from.ensures (omega (arith, k.cursor_count, c.requires)) c.in-Some.ensures in
-    let bare = c.known.ensures in
+    let line = c.index-line.result.now in
+    let served = served_acquires _ (kept_served _ _ _ _ _ _ _ _ _ _ k _ next.within line c.index-line.ensures) in
+    let range = kept_in_range _ _ _ _ _ _ _ _ _ _ k _ next.within line c.index-line.ensures in
+    let step = c.answer-reply.ensures.step in
     rw (pushed c.push.result _ _ _ _ c.push.ensures.items c.unwrap.ensures)
     (kept_step _ _ _ _ _ _ _ _ _ _ k c.args.actor _ c.requires next c.index-line.result.now c.index-line.ensures _ _ _ _ refl refl (λ _. used_nothing _ _ _ _ _ _ _ c.new.ensures.items c.answer-reply.ensures.step)
-    (λ _. bare_is_sound _ _ bare.empty bare.none_listed bare.none_viewed bare.none_edited) c.push.ensures.capacity (omega arith) (λ fault. absurd (c.answer-reply.ensures.no_fault fault)))
+    (λ t. acquiring_step_sound _ _ _ _ _ _ _ served range (k.sound t) step) (λ _. step_few _ _ _ _ _ _ _ served range step) c.push.ensures.capacity (omega arith) (λ fault. absurd (c.answer-reply.ensures.no_fault fault)))
 
 pub returns-clause-answered : goal.returns-clause-answered
 returns-clause-answered g c _ =

@@ -1,0 +1,348 @@
+//! Worked scripts of base replies and nodes, over the hash that adds the bytes.
+use crate::run::ledger_run;
+use half_hash::{Blob, Half512, Hash32, TinyHash};
+use ledger_header::Header;
+use run_io::{MemSink, MemSource};
+use shamap_node::{Inner, Item, Kind, Leaf, Node, encode_form, hash_of};
+use std::alloc::Global;
+use std::test::Fail;
+
+/// A script, the status, and the journal, in short: `[xx]` is the byte xx and 31 zero bytes, `_` is 32
+/// zero bytes, `@` the header of ledger 10, and `#` the root of its state map.
+const ROWS: [(&str, u8, &str); 9] = [
+    (WHOLE, 0, WHOLE_SAYS),
+    (COMPRESSED, 0, COMPRESSED_SAYS),
+    (VIEWED, 3, "refused 9 5\n"),
+    (LEAVES_CLASH, 7, LEAVES_CLASH_SAYS),
+    (HEADERS_CLASH, 7, HEADERS_CLASH_SAYS),
+    (HEADERS, 0, HEADERS_SAYS),
+    (REFUSED, 0, REFUSED_SAYS),
+    (TWO_LEAVES, 0, TWO_LEAVES_SAYS),
+    (BROKEN, 0, BROKEN_SAYS),
+];
+
+const WHOLE: &str = "0 want [DD] 10
+0 peer 5 [DD]
+0 check [DD]
+0 base 5 [DD] @ #
+0 check [DD]
+0 node 5 [DD] state [10]01 0102[10]01
+0 node 5 [DD] state [10]01 0102[10]01
+0 check [DD]
+0 check [DD]
+";
+
+const WHOLE_SAYS: &str = "1 0 want opened
+2 0 peer added
+3 0 check need 5 header
+4 0 base good / good
+5 0 check need 5 state:[10]01
+6 0 node good
+7 0 node duplicate
+8 0 check complete
+9 0 check notopen
+end complete 1 closed 0 listed 1 floor 0 last 10 epoch 0
+";
+
+/// The root in the form of its branches alone, which isn't read.
+const COMPRESSED: &str = "0 want [DD] 10
+0 peer 5 [DD]
+0 check [DD]
+0 base 5 [DD] @ [FA]0103
+0 check [DD]
+";
+
+const COMPRESSED_SAYS: &str = "1 0 want opened
+2 0 peer added
+3 0 check need 5 header
+4 0 base good / bad wire 2
+5 0 check need 5 state:_00
+end complete 0 closed 0 listed 0 floor 0 last - epoch 0
+";
+
+const VIEWED: &str = "0 want [DD] 10
+0 peer 5 [DD]
+0 check [DD]
+0 base 5 [DD] @ #
+0 check [DD]
+0 node 5 [DD] state [10]01 0102[10]01
+0 node 5 [DD] state [10]01 0102[10]01
+0 check [DD]
+0 view 7 [DD]
+";
+
+const LEAVES_CLASH: &str = "0 want [DD] 10
+0 peer 5 [DD]
+0 check [DD]
+0 base 5 [DD] @ #
+0 check [DD]
+0 node 5 [DD] state [10]01 0102[10]01
+0 node 5 [DD] state [10]01 0201[10]01
+0 check [DD]
+";
+
+const LEAVES_CLASH_SAYS: &str = "1 0 want opened
+2 0 peer added
+3 0 check need 5 header
+4 0 base good / good
+5 0 check need 5 state:[10]01
+6 0 node good
+7 0 node clash [FA] 4D4C4E000102[10] 4D4C4E000201[10]
+8 0 check complete
+end complete 1 closed 0 listed 1 floor 0 last 10 epoch 0
+";
+
+const HEADERS_CLASH: &str = "0 want [DD] 0
+0 peer 5 [DD]
+0 base 5 [DD] @
+0 base 5 [DD] 000A00000000000000000000__[DE]00000000000000000000
+";
+
+const HEADERS_CLASH_SAYS: &str = "1 0 want opened
+2 0 peer added
+3 0 base good
+4 0 base clash [DD] 4C575200@ 4C575200000A00000000000000000000__[DE]00000000000000000000
+end complete 0 closed 0 listed 0 floor 0 last - epoch 0
+";
+
+const HEADERS: &str = "0 want [DD] 9
+0 peer 5 [DD]
+0 base 5 [DD] 0000000A #
+0 base 5 [DD] 0000000B0000000000000000__[DE]00000000000000000000
+0 base 6 [DD] @
+0 base 5 [9C] @
+0 base 5 [DD] @
+0 base 5 [DD] @
+0 check [DD]
+0 base 5 [DD] @
+0 want [F6] 1
+0 peer 5 [F6]
+0 base 5 [F6] 000000010000000000000000___00000000000000000000 #
+0 check [F6]
+0 check [F6]
+";
+
+const HEADERS_SAYS: &str = "1 0 want opened
+2 0 peer added
+3 0 base bad length 4 / nobase
+4 0 base bad hash [DE]
+5 0 base unasked
+6 0 base notopen
+7 0 base good
+8 0 base duplicate
+9 0 check seqdiffers 9 10
+10 0 base notopen
+11 0 want opened
+12 0 peer added
+13 0 base good / emptybranch _00
+14 0 check zerostate
+15 0 check notopen
+end complete 0 closed 0 listed 0 floor 0 last - epoch 0
+";
+
+/// Nodes that aren't stored, each for another reason.
+const REFUSED: &str = "0 want [DD] 10
+0 peer 5 [DD]
+0 node 5 [DD] state [10]01 0102[10]01
+0 base 5 [DD] @ #
+0 node 6 [DD] state [10]01 0102[10]01
+0 node 5 [9C] state [10]01 0102[10]01
+0 node 5 [DD] state [10]02 0102[10]01
+0 node 5 [DD] state [20]01 0102[10]01
+0 node 5 [DD] state [10]01 0103[10]01
+0 node 5 [DD] state [10]01 -
+0 node 5 [DD] state [10]01 0004
+0 node 5 [DD] state [10]01 0002
+0 node 5 [DD] state [10]01 ________________02
+0 node 5 [DD] state [10]01 0001
+0 node 5 [DD] state [10]01 _01
+0 node 5 [DD] state [10]01 0102[10]01
+0 node 5 [DD] state [10]02 0102[10]01
+";
+
+const REFUSED_SAYS: &str = "1 0 want opened
+2 0 peer added
+3 0 node nobase
+4 0 base good / good
+5 0 node unasked
+6 0 node notopen
+7 0 node noparent [10]01
+8 0 node emptybranch [20]01
+9 0 node bad hash [FB]
+10 0 node bad wire 1
+11 0 node bad wire 2
+12 0 node bad wire 3
+13 0 node bad wire 8
+14 0 node bad wire 9
+15 0 node bad wire 10
+16 0 node good
+17 0 node underleaf [10]01
+end complete 0 closed 0 listed 0 floor 0 last - epoch 0
+";
+
+/// Two leaves below one inner node.
+const TWO_LEAVES: &str = "0 want [9C] 11
+0 peer 5 [9C]
+0 peer 6 [9C]
+0 base 5 [9C] 0000000B0000000000000000[DD]_[BF]00000000000000000000 _[DB]______________02
+0 node 5 [9C] state [10]02 0102[10]01
+0 check [9C]
+0 node 5 [9C] state [10]01 [FA][FD]______________02
+0 check [9C]
+0 check [9C]
+0 node 6 [9C] state [10]02 0102[10]01
+0 node 6 [9C] state [11]02 05[11]01
+0 check [9C]
+";
+
+const TWO_LEAVES_SAYS: &str = "1 0 want opened
+2 0 peer added
+3 0 peer added
+4 0 base good / good
+5 0 node noparent [10]01
+6 0 check need 5 state:[10]01
+7 0 node good
+8 0 check need 6 state:[10]02 state:[11]02
+9 0 check waiting 2
+10 0 node good
+11 0 node good
+12 0 check complete
+end complete 1 closed 0 listed 1 floor 0 last 11 epoch 0
+";
+
+/// A leaf on another branch, one alone below an inner node, one at the root, and a node that is no header.
+const BROKEN: &str = "0 want [DD] 10
+0 peer 5 [DD]
+0 base 5 [DD] @ __[FA]_____________02
+0 node 5 [DD] state [20]01 0102[10]01
+0 check [DD]
+0 check [DD]
+0 want [C3] 0
+0 peer 5 [C3]
+0 base 5 [C3] 0000000A0000000000000000__[C4]00000000000000000000 _[E0]______________02
+0 node 5 [C3] state [10]01 [FC]_______________02
+0 node 5 [C3] state [10]02 05[10]01
+0 check [C3]
+0 want [FE] 0
+0 peer 5 [FE]
+0 base 5 [FE] 0000000A0000000000000000__[FF]00000000000000000000 08[10]01
+0 check [FE]
+0 want [FA] 0
+0 check [FA]
+";
+
+const BROKEN_SAYS: &str = "1 0 want opened
+2 0 peer added
+3 0 base good / good
+4 0 node malformed 2
+5 0 check malformed state:[20]01 2
+6 0 check notopen
+7 0 want opened
+8 0 peer added
+9 0 base good / good
+10 0 node good
+11 0 node malformed 3
+12 0 check malformed state:[10]02 3
+13 0 want opened
+14 0 peer added
+15 0 base good / malformed 5
+16 0 check malformed state:_00 5
+17 0 want opened
+18 0 check malformed header 6
+end complete 0 closed 0 listed 0 floor 0 last - epoch 0
+";
+
+#[test]
+fn rows(rt: HostRuntime) -> Result<(), Fail> {
+    let alloc = rt.alloc();
+    for (script, status, says) in &ROWS {
+        let bytes = expand(alloc, script)?;
+        let mut source = MemSource::new(bytes, 500, Vec::new(alloc));
+        let mut sink = MemSink::new(alloc, 16384, Vec::new(alloc))?;
+        let ended = ledger_run(alloc, &["replay"], TinyHash, &mut source, &mut sink);
+        let says = expand(alloc, says)?;
+        assert_eq!(rt; sink.held(), says.as_slice(), "{script}");
+        assert_eq!(rt; ended.status, *status, "{script}");
+    }
+    Ok(())
+}
+
+/// The text that is written in short.
+fn expand(alloc: Global, short: &str) -> Result<Vec<u8>, Fail> {
+    let mut text = Vec::new(alloc);
+    for byte in short.bytes() {
+        match byte {
+            b'@' => expand_into(
+                &mut text,
+                "0000000A0000000000000000__[DE]00000000000000000000",
+            )?,
+            b'#' => expand_into(&mut text, "_[FA]______________02")?,
+            other => add(&mut text, other)?,
+        }
+    }
+    Ok(text)
+}
+
+fn expand_into(text: &mut Vec<u8>, short: &str) -> Result<(), Fail> {
+    for byte in short.bytes() {
+        add(text, byte)?;
+    }
+    Ok(())
+}
+
+fn add(text: &mut Vec<u8>, byte: u8) -> Result<(), Fail> {
+    let zeros = [b'0'; 64];
+    match byte {
+        b'[' => (),
+        b']' => text.extend_from_slice(&zeros[..62])?,
+        b'_' => text.extend_from_slice(&zeros)?,
+        other => text.push(other)?,
+    }
+    Ok(())
+}
+
+/// A ledger of one account, made by the library over the ledger's own hash.
+#[test]
+fn a_ledger_that_is_made_here(rt: HostRuntime) -> Result<(), Fail> {
+    let alloc = rt.alloc();
+    let key = Hash32 { bytes: [0x3C; 32] };
+    let item = Item::new(key, Blob::from_slice(alloc, b"account")?).or(Err("item"))?;
+    let leaf = Node::Leaf(Leaf {
+        kind: Kind::State,
+        item,
+    });
+    let mut branches = [Hash32::zero(); 16];
+    branches[3] = hash_of::<Half512>(&leaf);
+    let root = Node::Inner(Inner::new(branches).ok_or("inner")?);
+    let header = Header {
+        seq: 7,
+        drops: 100,
+        parent: key,
+        tx_root: Hash32::zero(),
+        state_root: hash_of::<Half512>(&root),
+        parent_close: 1,
+        close: 2,
+        resolution: 10,
+        flags: 0,
+    };
+    let target = digits(alloc, &header.hash::<Half512>().bytes)?;
+    let head = digits(alloc, &header.encode())?;
+    let root = digits(alloc, &encode_form(alloc, &root)?.bytes()[4..])?;
+    let leaf = digits(alloc, &encode_form(alloc, &leaf)?.bytes()[4..])?;
+    let zeros = digits(alloc, &[0; 31])?;
+    let script = format!(in alloc; "0 want {target} 7\n0 peer 9 {target}\n0 base 9 {target} {head} {root}02\n0 node 9 {target} state 30{zeros}01 {leaf}01\n0 check {target}\n")?;
+    let mut source = MemSource::new(
+        Vec::from_slice(alloc, script.as_bytes())?,
+        500,
+        Vec::new(alloc),
+    );
+    let mut sink = MemSink::new(alloc, 4096, Vec::new(alloc))?;
+    let ended = ledger_run(alloc, &["replay"], Half512, &mut source, &mut sink);
+    assert_eq!(rt; sink.held(), b"1 0 want opened\n2 0 peer added\n3 0 base good / good\n4 0 node good\n5 0 check complete\nend complete 1 closed 0 listed 1 floor 0 last 7 epoch 0\n".as_slice());
+    assert_eq!(rt; ended.status, 0);
+    Ok(())
+}
+
+fn digits(alloc: Global, bytes: &[u8]) -> Result<String, Fail> {
+    Ok(hex::encode_upper(alloc, bytes)?)
+}

@@ -1,0 +1,5 @@
+pub mod Noting
+pub mod LeafForms
+pub mod Below
+pub mod Walking
+pub mod Ledgers

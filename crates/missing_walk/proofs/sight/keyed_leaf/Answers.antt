@@ -1,0 +1,9 @@
+use Rattle.std.proofs.Common.{◌∙◌}
+use Rattle.missing_walk.proofs.LeafForms.{keyed, not_keyed}
+use Rattle.missing_walk.proofs.sight.keyed_leaf.Goals as goal
+
+pub returns-then-not-is_keyed : goal.returns-then-not-is_keyed
+returns-then-not-is_keyed c = not_keyed c.args.kind c.args.form.now c.if-not-is_keyed.ensures
+
+pub returns : goal.returns
+returns c = keyed c.args.kind c.args.form.now c.hash_from.result _ c.if-not-is_keyed.ensures (c.hash_from.ensures ∙ c.split_at.ensures.back) c.leaf_with.ensures

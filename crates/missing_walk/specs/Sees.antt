@@ -1,0 +1,94 @@
+-- What a search keeps while it runs, and how a finding changes it.
+use Rattle.std.specs.Prelude.{◌≡◌, ℕ, ◌<◌, ◌||◌, Bool, true, false, is_some, nat_le, if◌then◌else◌, List, [], ◌∷◌, ◌++◌, length, Option, None, Some, Result, Ok, Err}
+use Rattle.std.specs.List.{filter_map, flat_map, range_with_len, slice_index_or}
+use Rattle.ledger_spec.specs.declared.Kind.{Kind}
+use Rattle.ledger_spec.specs.declared.Place.{Place}
+use Rattle.ledger_spec.specs.declared.ShapeFault.{ShapeFault}
+use Rattle.ledger_spec.specs.declared.Kind.TheVariants.{State, Tx}
+use Rattle.ledger_spec.specs.Bytes.{Bytes, Hash, Half, Lookup, zero_hash}
+use Rattle.ledger_spec.specs.Header.{state_root_of, tx_root_of}
+use Rattle.ledger_spec.specs.Forms.{Held, inner, leaf}
+use Rattle.ledger_spec.specs.Findings.{Sight, missing, broken, sound, Met, walk, walk_map, Finding, lacks, breaks, finding_at}
+use Rattle.ledger_machine.specs.Check.{missing_of, first_broken}
+use Rattle.missing_walk.specs.declared.Found.{Found}
+use Rattle.missing_walk.specs.declared.sight.Sight.{Sight as Look}
+use Rattle.missing_walk.specs.declared.sight.Sight.TheVariants as look
+
+-- the missing places so far, and the broken place that ended the search
+pub record Seen : Type 0 where
+  pub missing : List Place
+  pub broken : Option (Place × ShapeFault)
+
+abbrev pub shown : Found → Seen
+shown f = record { missing = f.missing.items; broken = f.broken }
+
+abbrev pub nothing_seen : Seen
+nothing_seen = record { missing = []; broken = None }
+
+-- the search ends at a broken place, or at this many missing ones
+abbrev pub most_missing : ℕ
+most_missing = 256
+
+abbrev pub is_over : Seen → Bool
+is_over s = is_some s.broken || nat_le most_missing (length s.missing)
+
+-- with one finding more
+abbrev pub noted : Seen → Finding → Seen
+noted s (lacks place) = record s { missing = s.missing ++ place ∷ [] }
+noted s (breaks place fault) = record s { broken = Some (place, fault) }
+
+-- a search that is over takes no more
+abbrev pub note : Seen → Finding → Seen
+note s f = if is_over s then s else noted s f
+
+-- after the findings of a part of the walk
+abbrev pub sees : Seen → List Finding → Seen
+sees s [] = s
+sees s (f ∷ rest) = sees (note s f) rest
+
+-- a place is missing
+abbrev pub HasMissing : Seen → Type 0
+HasMissing s = 0 < length s.missing
+
+-- what a part of the walk does: it notes its findings, or memory was refused, and only for a missing place
+abbrev pub Notes : {T E : Type 0} → Result T E → Seen → Seen → List Finding → Type 0
+Notes (Ok x) before after found = after ≡ sees before found
+Notes (Err e) before after found = HasMissing (sees before found)
+
+abbrev pub finding_of : Met → Option Finding
+finding_of m = finding_at m.place m.sight
+
+-- the findings at a place and below it
+unfoldable pub found_below : Half → Lookup → Kind → ℕ → Option (List Hash) → List ℕ → Hash → List Finding
+found_below half nodes kind left parent path h = filter_map finding_of (walk half nodes kind left parent path h)
+
+-- the findings below the first n branches of an inner node, whose branches have `left` levels below them
+unfoldable pub found_in : Half → Lookup → Kind → ℕ → List Hash → List ℕ → ℕ → List Finding
+found_in half nodes kind left hashes path n =
+    flat_map (λ b. found_below half nodes kind left (Some hashes) (path ++ b ∷ []) (slice_index_or hashes b zero_hash)) (range_with_len 0 n)
+
+-- the result shows the missing places and the broken one of these findings
+pub record IsSeen (found : List Finding) (f : Found) : Type 0 where
+  pub missing : f.missing.items ≡ filter_map missing_of found
+  pub broken : f.broken ≡ first_broken found
+
+-- a leaf as one with no data; no rule of shape looks at the data
+abbrev pub without_data : Held → Held
+without_data (leaf kind key bytes) = leaf kind key []
+without_data n = n
+
+abbrev pub is_sound_leaf : Sight → Bool
+is_sound_leaf (sound (leaf kind key bytes)) = true
+is_sound_leaf _ = false
+
+-- what the code says of a sight; it keeps no leaf
+abbrev pub Shows : Look → Sight → Type 0
+Shows look.Missing s = s ≡ missing
+Shows (look.Broken fault) s = s ≡ broken fault
+Shows (look.Inner i) s = s ≡ sound (inner i.hashes)
+Shows look.Leaf s = is_sound_leaf s ≡ true
+
+-- the findings in the two maps that a header names
+unfoldable pub found_in_maps : Half → Lookup → Bytes → List Finding
+found_in_maps half nodes bytes =
+    filter_map finding_of (walk_map half nodes State (state_root_of bytes) ++ walk_map half nodes Tx (tx_root_of bytes))

@@ -1,0 +1,158 @@
+//! What is seen at one place.
+ghost use Rattle.std.specs.Prelude.{◌≡◌, ◌+◌, ◌&&◌, [], if◌then◌else◌, length, nat_eq, nat_le, None, Some};
+ghost use Rattle.std.specs.Option.{option_map};
+ghost use Rattle.std.specs.List.{starts_with};
+ghost use Rattle.std.specs.FinMap as map;
+ghost use Rattle.half_hash.specs.Prefix.{prefix_of};
+ghost use Rattle.ledger_spec.specs.declared.Kind.TheVariants as kinds;
+ghost use Rattle.ledger_spec.specs.Bytes.{is_nonzero};
+ghost use Rattle.ledger_spec.specs.Forms.{leaf, leaf_prefix, data_limit, keyed_leaf_of, bare_leaf_of, leaf_of};
+ghost use Rattle.ledger_spec.specs.Rules.{fault_of};
+ghost use Rattle.ledger_spec.specs.Findings.{seen_as, judged, held_of, sight_of, sound as belongs};
+ghost use Rattle.shamap_node.specs.Nodes.{held, held_leaf, hashes_above};
+ghost use Rattle.missing_walk.specs.Sees.{Shows, without_data};
+
+use crate::header::{hash_from, header_bytes};
+use half_hash::{Blob, Hash32, NodeHash, Prefix};
+use ledger_spec::{Kind, ShapeFault};
+use nib_path::NodeId;
+use node_table::NodeTable;
+use shamap_node::{DATA_LIMIT, Inner, Item, Leaf, Node, inner_of, shape};
+use std::alloc::Global;
+
+/// What is seen at a place: its hash isn't stored, it breaks a rule, or it holds what belongs there.
+pub(crate) enum Sight {
+    Missing,
+    Broken(ShapeFault),
+    Inner(Inner),
+    Leaf,
+}
+
+/// What is seen at a place below this parent, in a map of this kind, at this path. It takes no memory: the
+/// allocator is that of the empty data of a leaf.
+pub(crate) fn look<H: NodeHash>(
+    alloc: Global,
+    nodes: &NodeTable,
+    kind: Kind,
+    parent: Option<&Inner>,
+    id: &NodeId,
+    hash: &Hash32,
+) -> Sight
+    ensures { Shows result (sight_of H.half (λ n. fault_of n (hashes_above parent.entry) kind id.now) (map.get nodes.now hash.now)) }
+{
+    match nodes.get(hash) {
+        Some(form) => judge::<H>(alloc, form.bytes(), kind, parent, id),
+        None => Sight::Missing,
+    }
+}
+
+// What is seen where this form is stored.
+fn judge<H: NodeHash>(
+    alloc: Global,
+    form: &[u8],
+    kind: Kind,
+    parent: Option<&Inner>,
+    id: &NodeId,
+) -> Sight
+    ensures { Shows result (judged (λ n. fault_of n (hashes_above parent.entry) kind id.now) (held_of H.half form.now)) }
+{
+    if let Some(inner) = inner_of(form) {
+        return judge_node(&Node::Inner(inner), kind, parent, id);
+    }
+    if header_bytes(form).is_some() {
+        return Sight::Broken(ShapeFault::Foreign);
+    }
+    match leaf_in::<H>(alloc, form) {
+        Some(leaf) => judge_node(&Node::Leaf(leaf), kind, parent, id),
+        None => Sight::Broken(ShapeFault::Foreign),
+    }
+}
+
+// What is seen where this node stands.
+fn judge_node(node: &Node, kind: Kind, parent: Option<&Inner>, id: &NodeId) -> Sight
+    ensures { Shows result (seen_as (held node.now) (fault_of (held node.now) (hashes_above parent.entry) kind id.now)) }
+{
+    match shape(node, parent, kind, id) {
+        Ok(()) => sound(node),
+        Err(fault) => Sight::Broken(fault),
+    }
+}
+
+// What is seen where this node belongs.
+fn sound(node: &Node) -> Sight
+    ensures { Shows result (belongs (held node.now)) }
+{
+    match node {
+        Node::Inner(inner) => Sight::Inner(*inner),
+        Node::Leaf(_) => Sight::Leaf,
+    }
+}
+
+// The leaf whose form the bytes are, without its data, since no rule looks at the data.
+fn leaf_in<H: NodeHash>(alloc: Global, form: &[u8]) -> Option<Leaf>
+    ensures { option_map held_leaf result ≡ option_map without_data (leaf_of H.half form.now) }
+{
+    if let Some(leaf) = keyed_leaf(alloc, form, Kind::State) {
+        return Some(leaf);
+    }
+    if let Some(leaf) = keyed_leaf(alloc, form, Kind::Tx) {
+        return Some(leaf);
+    }
+    bare_leaf::<H>(alloc, form)
+}
+
+// The same of a leaf of this kind whose key stands behind its data.
+fn keyed_leaf(alloc: Global, form: &[u8], kind: Kind) -> Option<Leaf>
+    ensures { option_map held_leaf result ≡ option_map without_data (keyed_leaf_of kind form.now) }
+{
+    if !is_keyed(form, kind) {
+        return None;
+    }
+    let (_front, key) = form.split_at(form.len() - 32);
+    leaf_with(alloc, kind, hash_from(key))
+}
+
+// The same of a bare transaction.
+fn bare_leaf<H: NodeHash>(alloc: Global, form: &[u8]) -> Option<Leaf>
+    ensures { option_map held_leaf result ≡ option_map without_data (bare_leaf_of H.half form.now) }
+{
+    if !is_bare(form) {
+        return None;
+    }
+    leaf_with(alloc, Kind::Set, H::half(form))
+}
+
+// The leaf of this key with no data, which takes no memory, unless the key is zero.
+fn leaf_with(alloc: Global, kind: Kind, key: Hash32) -> Option<Leaf>
+    ensures { option_map held_leaf result ≡ (if is_nonzero key then Some (leaf kind key []) else None) }
+{
+    match Item::new(key, Blob::new(Vec::new(alloc))) {
+        Ok(item) => Some(Leaf { kind, item }),
+        Err(_) => None,
+    }
+}
+
+// Whether the bytes begin with the prefix of such leaves, and are neither too few nor too many.
+fn is_keyed(form: &[u8], kind: Kind) -> bool
+    ensures { result ≡ (starts_with nat_eq form.now (leaf_prefix kind) && nat_le 36 (length form.now) && nat_le (length form.now) (36 + data_limit)) }
+{
+    form.starts_with(&prefix_for(kind).bytes()) && form.len() >= 36 && form.len() <= 36 + DATA_LIMIT
+}
+
+// The same of a bare transaction.
+fn is_bare(form: &[u8]) -> bool
+    ensures { result ≡ (starts_with nat_eq form.now (leaf_prefix kinds.Set) && nat_le (length form.now) (4 + data_limit)) }
+{
+    form.starts_with(&prefix_for(Kind::Set).bytes()) && form.len() <= 4 + DATA_LIMIT
+}
+
+// The prefix of a leaf of this kind.
+fn prefix_for(kind: Kind) -> Prefix
+    ensures { prefix_of result ≡ leaf_prefix kind }
+{
+    match kind {
+        Kind::State => Prefix::Mln,
+        Kind::Tx => Prefix::Snd,
+        Kind::Set => Prefix::Txn,
+    }
+}

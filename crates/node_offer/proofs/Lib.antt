@@ -1,0 +1,3 @@
+pub mod States
+pub mod Storing
+pub mod Walking

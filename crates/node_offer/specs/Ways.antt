@@ -1,0 +1,37 @@
+-- What the answers on the way to a place stand for.
+use Rattle.std.specs.Prelude.{ℕ, Bool, true, false, if◌then◌else◌, List, Option, None, Some, Result, Ok, Err}
+use Rattle.ledger_spec.specs.Bytes.{Bytes, Hash, is_zero}
+use Rattle.ledger_spec.specs.Spots as way
+use Rattle.ledger_spec.specs.Spots.{into}
+use Rattle.shamap_node.specs.declared.parts.Inner.{Inner}
+use Rattle.ledger_machine.specs.declared.replies.Offered.{Offered}
+use Rattle.ledger_machine.specs.declared.replies.Offered.TheVariants as offered
+use Rattle.node_offer.specs.declared.spots.Spot.{Spot}
+use Rattle.node_offer.specs.declared.spots.Spot.TheVariants as spots
+
+-- the branches of the inner node above, if there is one
+abbrev pub hashes_of_parent : Option Inner → Option (List Hash)
+hashes_of_parent None = None
+hashes_of_parent (Some inner) = Some inner.hashes
+
+abbrev pub spot : Spot → way.Spot
+spot (spots.Wanted h parent) = way.wanted h (hashes_of_parent parent)
+spot spots.NoBase = way.no_base
+spot (spots.NoParent path) = way.no_parent path
+spot (spots.EmptyBranch path) = way.empty_branch path
+spot (spots.UnderLeaf path) = way.under_leaf path
+
+-- one level down from a place with this hash, given what is stored under it
+abbrev pub step_down : List ℕ → (List Hash → way.Spot) → Hash → Option Bytes → way.Spot
+step_down path on h form = if is_zero h then way.empty_branch path else into path on form
+
+-- the same, from the inner node there, or what stands in the way
+abbrev pub step_of : Result Inner Spot → (List Hash → way.Spot) → way.Spot
+step_of (Ok inner) on = on inner.hashes
+step_of (Err s) on = spot s
+
+-- what became of a node with the wanted hash: whether it is new, and the rule that it breaks
+abbrev pub offered_as : Bool → Option ℕ → Offered
+offered_as false rule = offered.Duplicate
+offered_as true None = offered.Good
+offered_as true (Some number) = offered.Malformed number
