@@ -5,4 +5,8 @@ pub mod SoundForms
 pub mod SoundCheck
 pub mod SoundOffers
 pub mod SoundSteps
+pub mod Ways
+pub mod Receipts
+pub mod Closure
+pub mod Completeness
 mod Rows

@@ -1,8 +1,8 @@
--- A walk through the state's map, computed.
-use Rattle.std.specs.Prelude.{◌≡◌, ℕ, List, [], ◌∷◌, ◌++◌, replicate, refl}
+-- A walk through the state's map, and what answers say was received, computed.
+use Rattle.std.specs.Prelude.{◌≡◌, ℕ, List, [], ◌∷◌, ◌++◌, replicate, refl, None}
 use Rattle.std.specs.FinMap as map
 use Rattle.std.specs.FinMap.{find as find_by}
-use Rattle.std.proofs.Common.{ap, ◌∙◌}
+use Rattle.std.proofs.Common.{ap, ◌∙◌, inl}
 use Rattle.std.specs.Ordering.{nat_cmp}
 use Rattle.std.specs.Cmp.Lexicographic.{slice_cmp, nat_list_cmp_total}
 use Rattle.half_hash.specs.Half.{byte_sum_half}
@@ -11,7 +11,15 @@ use Rattle.ledger_spec.specs.declared.Place.TheVariants.{Node}
 use Rattle.ledger_spec.specs.Bytes.{Bytes, Hash, Lookup}
 use Rattle.ledger_spec.specs.Forms.{Held, inner, leaf, header, form_of, inner_of, header_of, keyed_leaf_of, bare_leaf_of}
 use Rattle.ledger_spec.specs.Findings.{walk, walk_map, walk_ledger, Finding, findings, lacks}
+use Rattle.ledger_spec.specs.Wire.{read_wire}
+use Rattle.ledger_machine.specs.declared.commands.Command.TheVariants as command
+use Rattle.ledger_machine.specs.declared.replies.Offered.TheVariants as offered
+use Rattle.ledger_machine.specs.declared.replies.HeadOffered.TheVariants as head
+use Rattle.ledger_machine.specs.declared.replies.BaseReply.TheVariants as base
+use Rattle.ledger_machine.specs.declared.replies.NodeReply.TheVariants as node
+use Rattle.ledger_machine.specs.declared.replies.Reply.TheVariants as says
 use Rattle.ledger_machine.specs.State.{form_in, opening}
+use Rattle.ledger_machine.specs.Receipts.{Receives}
 
 abbrev at : ℕ → Hash
 at x = x ∷ replicate 31 0
@@ -22,8 +30,11 @@ leaf10 = leaf State (at 0x10) (1 ∷ 2 ∷ [])
 abbrev root10 : Held
 root10 = inner (replicate 1 (replicate 32 0) ++ at 0xFA ∷ replicate 14 (replicate 32 0))
 
+abbrev bytes10 : Bytes
+bytes10 = 0 ∷ 0 ∷ 0 ∷ 10 ∷ replicate 72 0 ++ at 0xDE ++ replicate 10 0
+
 abbrev head10 : Held
-head10 = header (0 ∷ 0 ∷ 0 ∷ 10 ∷ replicate 72 0 ++ at 0xDE ++ replicate 10 0)
+head10 = header bytes10
 
 -- the walk of a map of entries is that of its look-up, which computes
 pub lookup_of : (es : List (Hash × Bytes)) → map.get (map.from_entries {R = slice_cmp nat_cmp} es) ≡ (λ h. find_by (slice_cmp nat_cmp) h es)
@@ -51,3 +62,11 @@ state_lacks_leaf = ap (λ (n : Lookup). findings byte_sum_half n (at 0xDD)) (loo
 
 state_is_whole : findings byte_sum_half (form_in (opening (map.from_entries whole10) 256)) (at 0xDD) ≡ []
 state_is_whole = ap (λ (n : Lookup). findings byte_sum_half n (at 0xDD)) (lookup_of whole10) ∙ is_whole
+
+-- the header that a base reply brings, and the leaf that a node reply brings, are received
+received_header : Receives byte_sum_half (at 0xDD) (command.Base 5 (at 0xDD) bytes10 None None) (says.Base (base.Parts head.Good None None)) head10
+received_header = (refl, inl (tt, refl))
+
+received_leaf : Receives byte_sum_half (at 0xDD) (command.Node 5 (at 0xDD) State (1 ∷ []) ((1 ∷ 2 ∷ []) ++ at 0x10 ++ 1 ∷ [])) (says.Node (node.One offered.Good)) leaf10
+unfolding read_wire
+received_leaf = (refl, (tt, refl))

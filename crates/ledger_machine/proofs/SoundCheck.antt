@@ -1,10 +1,10 @@
 -- A ledger that a check calls complete is whole, and listing it keeps a state sound.
-use Rattle.std.proofs.Common.{◌≡◌, ◌⊎◌, inl, inr, ⊎_elim, ◌≤◌, ℕ, suc, Bool, true, false, not, cond, if◌then◌else◌, nat_lt, List, [], ◌∷◌, ◌++◌, Option, None, Some, All, Contains, filter_map, refl, sym, ap, ◌∙◌, subst, IsSomeAnd, IsTrue, Ordering, Less, Equal, Greater}
+use Rattle.std.proofs.Common.{◌≡◌, ◌⊎◌, inl, inr, ⊎_elim, ◌≤◌, ℕ, suc, Bool, true, false, not, cond, if◌then◌else◌, ◌==◌, ◌&&◌, nat_lt, List, [], ◌∷◌, ◌++◌, Option, None, Some, All, Contains, filter_map, refl, sym, ap, ◌∙◌, subst, IsSomeAnd, IsTrue, Ordering, Less, Equal, Greater}
 use Rattle.std.specs.Option.{option_map_or, option_and_then}
 use Rattle.std.specs.Ordering.{eq_by_cmp, match_ordering}
 use Rattle.std.specs.Map.{keys_of, values_of}
 use Rattle.std.specs.BTreeMap.{insert_entry}
-use Rattle.std.proofs.lemmas.Bool.{ltb-false}
+use Rattle.std.proofs.lemmas.Bool.{ltb-false, eqb-true}
 use Rattle.std.proofs.lemmas.Map.Lookups.{exact_bytes}
 use Rattle.std.proofs.lemmas.Map.Views.{All-keys-insert_entry}
 use Rattle.std.proofs.lemmas.List.Elements.{All-contains_itself, All-weaker, All-contains, Contains-append_cases, Contains-append_left, Contains-append_right}
@@ -23,6 +23,7 @@ use Rattle.ledger_machine.specs.declared.replies.CheckReply.TheVariants as check
 use Rattle.ledger_machine.specs.State.{State, Acquisition, form_in, retained, bases, ended, listed_with, stored_seq}
 use Rattle.ledger_machine.specs.Check.{need_or_wait, ask_reply, missing_of, first_broken, search_reply, header_verdict, check_given, check_reply, after_ask, after_check}
 use Rattle.ledger_machine.specs.Sound.{Sound, IsWholeLedger}
+use Rattle.ledger_machine.specs.Complete.{IsAcceptable}
 use Rattle.ledger_machine.proofs.SoundKeeps.{keeps_sound, with_wanted_keeps, ended_keeps}
 use Rattle.ledger_machine.proofs.SoundForms.{some_same, same_hash}
 
@@ -59,11 +60,11 @@ up_to_none room (breaks place fault ∷ rest) e = absurd (no_cons e)
 
 -- an answer that is complete passed each test before it
 tests_complete : (a b c : Bool) (x y z rest : CheckReply) → (x ≡ check.Complete → ⊥) → (y ≡ check.Complete → ⊥) → (z ≡ check.Complete → ⊥)
-    → (if a then x else if b then y else if c then z else rest) ≡ check.Complete → (b ≡ false) × (c ≡ false) × (rest ≡ check.Complete)
+    → (if a then x else if b then y else if c then z else rest) ≡ check.Complete → (a ≡ false) × (b ≡ false) × (c ≡ false) × (rest ≡ check.Complete)
 tests_complete true b c x y z rest nx ny nz e = absurd (nx e)
 tests_complete false true c x y z rest nx ny nz e = absurd (ny e)
 tests_complete false false true x y z rest nx ny nz e = absurd (nz e)
-tests_complete false false false x y z rest nx ny nz e = (refl, refl, e)
+tests_complete false false false x y z rest nx ny nz e = (refl, refl, refl, e)
 
 -- another sequence isn't complete
 differs_ends : {asked found : ℕ} → check.SeqDiffers asked found ≡ check.Complete → ⊥
@@ -81,37 +82,55 @@ below_ends e = cc
 not_open_ends : check.NotOpen ≡ check.Complete → ⊥
 not_open_ends e = cc
 
--- a header that may be listed: with a state map, and not below the floor
-abbrev pub MayList : ℕ → Bytes → Type 0
-MayList floor h = IsTrue (is_nonzero (state_root_of h)) × (floor ≤ seq_of h)
+-- any sequence was asked for, or this one
+asked_for : (a b : Bool) → (not a && not b) ≡ false → (a ≡ true) ⊎ (b ≡ true)
+asked_for true b e = inl refl
+asked_for false true e = inr refl
+asked_for false false e = cc
 
--- a header that lets a check be complete may be listed
-pub header_complete : (asked floor : ℕ) (h : Bytes) (rest : CheckReply) → header_verdict asked floor h rest ≡ check.Complete → MayList floor h × (rest ≡ check.Complete)
+-- a header that lets a check be complete is acceptable
+pub header_complete : (asked floor : ℕ) (h : Bytes) (rest : CheckReply) → header_verdict asked floor h rest ≡ check.Complete → IsAcceptable asked floor h × (rest ≡ check.Complete)
 header_complete asked floor h rest e =
-    let open_ : (is_zero (state_root_of h) ≡ false) × (nat_lt (seq_of h) floor ≡ false) × (rest ≡ check.Complete) =
-    tests_complete _ (is_zero (state_root_of h)) (nat_lt (seq_of h) floor) (check.SeqDiffers asked (seq_of h)) check.ZeroState (check.BelowFloor floor) rest differs_ends zero_ends below_ends e in
-    ((ap not open_.0, ltb-false (seq_of h) floor open_.1), open_.2)
+    let open_ : ((not (asked == 0) && not (asked == seq_of h)) ≡ false) × (is_zero (state_root_of h) ≡ false) × (nat_lt (seq_of h) floor ≡ false) × (rest ≡ check.Complete) =
+    tests_complete (not (asked == 0) && not (asked == seq_of h)) (is_zero (state_root_of h)) (nat_lt (seq_of h) floor) (check.SeqDiffers asked (seq_of h)) check.ZeroState (check.BelowFloor floor) rest differs_ends
+    zero_ends below_ends e in (
+      record {
+        seq = ⊎_elim (λ any. inl (eqb-true asked 0 any)) (λ own. inr (eqb-true asked (seq_of h) own)) (asked_for (asked == 0) (asked == seq_of h) open_.0);
+        state = ap not open_.1;
+        recent = ltb-false (seq_of h) floor open_.2;
+      },
+      open_.3,
+    )
 
--- and so may what is read as a header
+-- and so is what is read as a header
 pub form_complete : (asked floor : ℕ) (o : Option Bytes) (rest : CheckReply) → option_map_or (λ h. header_verdict asked floor h rest) o (check.Malformed Header 6) ≡ check.Complete
-    → IsSomeAnd o (MayList floor) × (rest ≡ check.Complete)
+    → IsSomeAnd o (IsAcceptable asked floor) × (rest ≡ check.Complete)
 form_complete asked floor None rest e = absurd (malformed_ends e)
 form_complete asked floor (Some h) rest e = header_complete asked floor h rest e
 
+-- what is whole, with an acceptable header
+pub record IsWholeFor (half : Half) (s : State) (t : Hash) (held : Option Bytes) (a : Acquisition) : Type 0 where
+  pub whole : Whole half (form_in s) t
+  pub header : IsSomeAnd (option_and_then header_of held) (IsAcceptable a.seq s.floor)
+
 -- a complete check, given what is stored under the target, and the acquisition
-pub given_complete : (half : Half) (s : State) (t : Hash) (held : Option Bytes) (a : Option Acquisition) → form_in s t ≡ held → check_given half s t held a ≡ check.Complete
-    → Whole half (form_in s) t × IsSomeAnd (option_and_then header_of held) (MayList s.floor)
-given_complete half s t held None is e = absurd (not_open_ends e)
-given_complete half s t None (Some a) is e =
+pub given_complete : (half : Half) (s : State) (t : Hash) (held : Option Bytes) (a : Acquisition) → form_in s t ≡ held → check_given half s t held (Some a) ≡ check.Complete → IsWholeFor half s t held a
+given_complete half s t None a is e =
     let whole : Whole half (form_in s) t = up_to_none 255 (findings half (form_in s) t) (search_complete a _ e) in
     absurd (whole_stored half (form_in s) t whole is)
-given_complete half s t (Some form) (Some a) is e =
-    let verdict : IsSomeAnd (header_of form) (MayList s.floor) × (_ ≡ check.Complete) = form_complete a.seq s.floor (header_of form) _ e in
-    (up_to_none 255 (findings half (form_in s) t) (search_complete a _ verdict.1), verdict.0)
+given_complete half s t (Some form) a is e =
+    let verdict : IsSomeAnd (header_of form) (IsAcceptable a.seq s.floor) × (_ ≡ check.Complete) = form_complete a.seq s.floor (header_of form) _ e in
+    record { whole = up_to_none 255 (findings half (form_in s) t) (search_complete a _ verdict.1); header = verdict.0 }
 
--- a complete ledger is whole, with a state map, and not below the floor
-pub check_complete : (half : Half) (s : State) (t : Hash) → check_reply half s t ≡ check.Complete → Whole half (form_in s) t × IsSomeAnd (header_in (form_in s) t) (MayList s.floor)
-check_complete half s t e = given_complete half s t (form_in s t) (get_in hash_cmp s.wanted t) refl e
+-- a complete ledger is open, whole, and acceptable for what was asked
+pub check_complete : (half : Half) (s : State) (t : Hash) → check_reply half s t ≡ check.Complete
+    → (a : Acquisition) × (get_in hash_cmp s.wanted t ≡ Some a) × IsWholeFor half s t (form_in s t) a
+check_complete half s t e = at (get_in hash_cmp s.wanted t) refl e
+  where
+    at : (o : Option Acquisition) → get_in hash_cmp s.wanted t ≡ o → check_given half s t (form_in s t) o ≡ check.Complete
+        → (a : Acquisition) × (get_in hash_cmp s.wanted t ≡ Some a) × IsWholeFor half s t (form_in s t) a
+    at None is e = absurd (not_open_ends e)
+    at (Some a) is e = (a, is, given_complete half s t (form_in s t) a refl e)
 
 -- a look-up that an entry ends, or not
 first_found : {X : Type 0} (b : Bool) (A : Type 0) (x v : X) (rest : Option X) → (b ≡ true → A) → cond b (Some x) rest ≡ Some v → (A × (v ≡ x)) ⊎ (rest ≡ Some v)
@@ -178,19 +197,19 @@ listed_sound half s t seq sound whole above same = record {
   base_seq = sound.base_seq;
 }
 
--- the stored sequence of a header that may be listed
-pub stored_seq_fits : (floor : ℕ) (o : Option Bytes) → IsSomeAnd o (MayList floor)
+-- the stored sequence of an acceptable header
+pub stored_seq_fits : (asked floor : ℕ) (o : Option Bytes) → IsSomeAnd o (IsAcceptable asked floor)
     → IsSomeAnd o (λ h. IsTrue (is_nonzero (state_root_of h))) × (floor ≤ option_map_or seq_of o 0) × IsSomeAnd o (λ h. seq_of h ≡ option_map_or seq_of o 0)
-stored_seq_fits floor None some = absurd some
-stored_seq_fits floor (Some h) some = (some.0, some.1, refl)
+stored_seq_fits asked floor None some = absurd some
+stored_seq_fits asked floor (Some h) some = (some.state, some.recent, refl)
 
 -- the state after a complete ledger is sound
 pub complete_sound : (half : Half) (s : State) (t : Hash) → Sound half s → check_reply half s t ≡ check.Complete → Sound half (ended (listed_with s t (stored_seq s t)) t)
 complete_sound half s t sound e =
-    let is : Whole half (form_in s) t × IsSomeAnd (header_in (form_in s) t) (MayList s.floor) = check_complete half s t e in
+    let is : (a : Acquisition) × (get_in hash_cmp s.wanted t ≡ Some a) × IsWholeFor half s t (form_in s t) a = check_complete half s t e in
     let fits : IsSomeAnd (header_in (form_in s) t) (λ h. IsTrue (is_nonzero (state_root_of h))) × (s.floor ≤ stored_seq s t) × IsSomeAnd (header_in (form_in s) t) (λ h. seq_of h ≡ stored_seq s t) =
-    stored_seq_fits s.floor (header_in (form_in s) t) is.1 in
-    listed_sound half s t (stored_seq s t) sound (record { header = fits.0; whole = is.0 }) fits.1 fits.2
+    stored_seq_fits is.0.seq s.floor (header_in (form_in s) t) is.2.header in
+    listed_sound half s t (stored_seq s t) sound (record { header = fits.0; whole = is.2.whole }) fits.1 fits.2
 
 -- each answer of a check leaves a sound state
 pub check_sound : (half : Half) (s : State) (t : Hash) (r : CheckReply) → check_reply half s t ≡ r → Sound half s → Sound half (after_check s t (stored_seq s t) r)

@@ -18,7 +18,7 @@ use Rattle.ledger_machine.specs.Steps.{Refused, own_forms}
 use Rattle.ledger_machine.proofs.SoundKeeps.{Keeps, keeps_self, keeps_on, keeps_after}
 
 -- nothing isn't something
-none_some : {A : Type 0} {x : A} → None ≡ Some x → ⊥
+pub none_some : {A : Type 0} {x : A} → None ≡ Some x → ⊥
 none_some e = cc
 
 -- what is found at one place is one

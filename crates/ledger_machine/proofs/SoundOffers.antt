@@ -28,7 +28,7 @@ use Rattle.ledger_machine.proofs.SoundKeeps.{Keeps, keeps_self, keeps_on}
 use Rattle.ledger_machine.proofs.SoundForms.{in_nothing, with_form_keeps, with_forms_keeps}
 
 -- the one entry of a list
-in_one : {A : Type 0} (x y : A) → Contains (x ∷ []) y → y ≡ x
+pub in_one : {A : Type 0} (x y : A) → Contains (x ∷ []) y → y ≡ x
 in_one {A} x y c = ⊎_elim (λ no. absurd (in_nothing no)) (λ e. sym e) (Contains-push_cases [] x y c)
 
 -- a duplicate or a clash stores nothing

@@ -55,12 +55,13 @@ after_parts half s t header state tx =
     let s1 = after_head half s header (head_outcome half (form_in s) t header) in
     after_part half (after_part half s1 t kinds.State state) t kinds.Tx tx
 
-abbrev pub base_given : Half → State → ℕ → Hash → Bytes → Option Bytes → Option Bytes → Option Acquisition → Reply
-base_given half s p t header state tx None = says.Base base.NotOpen
-base_given half s p t header state tx (Some a) = if is_present p a then base_outcomes half s t header state tx else says.Base base.Unasked
+-- the answer, given the acquisition of the target
+abbrev pub base_for : Half → State → ℕ → Hash → Bytes → Option Bytes → Option Bytes → Option Acquisition → Reply
+base_for half s p t header state tx None = says.Base base.NotOpen
+base_for half s p t header state tx (Some a) = if is_present p a then base_outcomes half s t header state tx else says.Base base.Unasked
 
 abbrev pub base_reply : Half → State → ℕ → Hash → Bytes → Option Bytes → Option Bytes → Reply
-base_reply half s p t header state tx = base_given half s p t header state tx (get_in hash_cmp s.wanted t)
+base_reply half s p t header state tx = base_for half s p t header state tx (get_in hash_cmp s.wanted t)
 
 abbrev pub after_base : Half → State → Hash → Bytes → Option Bytes → Option Bytes → Reply → State
 after_base half s t header state tx (says.Base (base.Parts h a b)) = after_parts half s t header state tx
@@ -70,13 +71,14 @@ abbrev pub one_reply : Result Offered Clash → Reply
 one_reply (Ok o) = says.Node (node.One o)
 one_reply (Err c) = clash_reply c
 
-abbrev pub node_given : Half → State → ℕ → Hash → Kind → List ℕ → Bytes → Option Acquisition → Reply
-node_given half s p t kind path blob None = says.Node node.NotOpen
-node_given half s p t kind path blob (Some a) =
+-- the same of a node
+abbrev pub node_for : Half → State → ℕ → Hash → Kind → List ℕ → Bytes → Option Acquisition → Reply
+node_for half s p t kind path blob None = says.Node node.NotOpen
+node_for half s p t kind path blob (Some a) =
     if is_present p a then one_reply (node_outcome half (form_in s) t kind path blob) else says.Node node.Unasked
 
 abbrev pub node_reply : Half → State → ℕ → Hash → Kind → List ℕ → Bytes → Reply
-node_reply half s p t kind path blob = node_given half s p t kind path blob (get_in hash_cmp s.wanted t)
+node_reply half s p t kind path blob = node_for half s p t kind path blob (get_in hash_cmp s.wanted t)
 
 abbrev pub after_offer : Half → State → Hash → Kind → List ℕ → Bytes → Reply → State
 after_offer half s t kind path blob (says.Node (node.One o)) = after_node half s t kind path blob

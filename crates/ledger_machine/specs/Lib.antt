@@ -14,3 +14,5 @@ pub mod Closing
 pub mod Rotation
 pub mod Steps
 pub mod Runs
+pub mod Receipts
+pub mod Complete

@@ -1,5 +1,5 @@
 -- The lines of a script: their numbers, and the ranges of what they say.
-use Rattle.std.specs.Prelude.{◌≡◌, ℕ, ◌<◌, ◌≤◌, ◌==◌, List, [], ◌∷◌, map, codes, IsTrue, Option}
+use Rattle.std.specs.Prelude.{ℕ, ◌<◌, ◌≤◌, ◌==◌, List, [], ◌∷◌, map, codes, IsTrue, Option}
 use Rattle.std.specs.List.{filter, find}
 use Rattle.ledger_spec.specs.Bytes.{Bytes, is_nonzero}
 use Rattle.ledger_spec.specs.declared.Kind.{Kind}

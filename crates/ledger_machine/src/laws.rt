@@ -1,17 +1,21 @@
 //! Laws of the machine, each the contract of an empty function.
-ghost use Rattle.std.specs.Prelude.{◌≡◌, ◌++◌, ◌∷◌, [], ℕ, List, Some};
+ghost use Rattle.std.specs.Prelude.{◌≡◌, ◌≢◌, ◌↔◌, ◌++◌, ◌∷◌, [], ℕ, List, Some};
 ghost use Rattle.std.specs.List.{Contains};
 ghost use Rattle.std.specs.FinMap as map;
 ghost use Rattle.ledger_spec.specs.Bytes.{Nodes};
 ghost use Rattle.ledger_spec.specs.Forms.{Held};
-ghost use Rattle.ledger_machine.specs.State.{State, opening};
+ghost use Rattle.ledger_spec.specs.Maps.{hash_cmp, get_in};
+ghost use Rattle.ledger_machine.specs.State.{State, Acquisition, form_in, opening, retained, roots};
 ghost use Rattle.ledger_machine.specs.Sound.{Sound, IsStoredAt};
 ghost use Rattle.ledger_machine.specs.Scripts.{IsAcquiring, IsInRange};
 ghost use Rattle.ledger_machine.specs.Steps.{Step};
 ghost use Rattle.ledger_machine.specs.Runs.{Run, Answers};
+ghost use Rattle.ledger_machine.specs.Receipts.{Receives, IsKept};
+ghost use Rattle.ledger_machine.specs.Complete.{IsAllStored, IsComplete};
 ghost use Rattle.ledger_machine.specs.declared.commands.Command.{Command};
 ghost use Rattle.ledger_machine.specs.declared.commands.Line.{Line};
 ghost use Rattle.ledger_machine.specs.declared.journal.Entry.{Entry};
+ghost use Rattle.ledger_machine.specs.declared.replies.CheckReply.{CheckReply};
 ghost use Rattle.ledger_machine.specs.declared.replies.Reply.{Reply};
 
 /// A store that has only records, each a form under its own hash, is sound.
@@ -38,4 +42,29 @@ pub fn a_run_keeps_the_store_sound()
     ensures { (half : List ℕ → List ℕ) (lines : List Line) (s : State) (entries : List Entry) (s' : State)
         → ((l : Line) → Contains lines l → IsAcquiring l.command × IsInRange l.command)
         → Sound half s → Run half lines s entries s' → Sound half s' }
+{}
+
+/// What an answer says was received for a target stays stored, and reached from what is retained or
+/// open, as long as the target is one of these.
+pub fn what_was_received_stays()
+    ensures { (half : List ℕ → List ℕ) (lines : List Line) (s mid s' : State) (a : ℕ) (c : Command) (reply : Reply) (used : List Held) (entries : List Entry) (t : List ℕ) (n : Held)
+        → ((l : Line) → Contains lines l → IsAcquiring l.command)
+        → Step half s a c reply used mid → Receives half t c reply n
+        → Run half lines mid entries s' → Contains (roots s') t → IsKept half s' (roots s') n }
+{}
+
+/// A check of an open acquisition that meets no fault and has memory answers complete exactly where
+/// each node that the target reaches is stored and the ledger is acceptable: of the asked sequence
+/// or any was asked for, with a state map, not below the floor, and with no rule of shape broken.
+pub fn a_check_is_complete_exactly_where_the_ledger_is()
+    ensures { (half : List ℕ → List ℕ) (s s' : State) (actor : ℕ) (t : List ℕ) (a : Acquisition) (reply : Reply) (used : List Held)
+        → get_in hash_cmp s.wanted t ≡ Some a
+        → Step half s actor (Command.Check t) reply used s' → reply ≢ Reply.Fault → reply ≢ Reply.Memory
+        → (reply ≡ Reply.Check CheckReply.Complete) ↔ IsComplete half s t a.seq }
+{}
+
+/// In a sound state nothing that a retained ledger reaches is absent.
+pub fn nothing_of_a_retained_ledger_is_absent()
+    ensures { (half : List ℕ → List ℕ) (s : State) (t : List ℕ)
+        → Sound half s → Contains (retained s) t → IsAllStored (form_in s) t }
 {}

@@ -8,6 +8,9 @@ mod run;
 #[cfg(test)]
 mod tests;
 
+ghost use Rattle.std.specs.Prelude.{◌≡◌, ◌↔◌, ◌∷◌, [], map, codes, IfOk, string_bytes};
+ghost use Rattle.ledger_run.specs.Top.{IsReplay, IsOneOf};
+
 use half_hash::Half512;
 use run::ledger_run;
 use run_io::{StdSink, StdSource};
@@ -43,14 +46,21 @@ fn words_of(rt: &HostRuntime) -> io::Result<Vec<String>> {
     Ok(words)
 }
 
-fn run_with(rt: &HostRuntime, words: &[String]) -> u8 {
+/// The status of a run with these words.
+fn run_with(rt: &HostRuntime, words: &[String]) -> u8
+    ensures usage { result ≡ 2 → ¬ (map string_bytes words.now ≡ codes "replay" ∷ []) }
+    ensures others { ¬ (map string_bytes words.now ≡ codes "replay" ∷ []) → IsOneOf result (2 ∷ 8 ∷ []) }
+{
     match texts_of(rt, words) {
         Ok(texts) => run_on(rt, &texts),
         Err(AllocError) => NO_MEMORY,
     }
 }
 
-fn texts_of<'a>(rt: &HostRuntime, words: &'a [String]) -> Result<Vec<&'a str>, AllocError> {
+/// The texts of the words.
+fn texts_of<'a>(rt: &HostRuntime, words: &'a [String]) -> Result<Vec<&'a str>, AllocError>
+    ensures { IfOk result (λ texts. map (λ t. t.now) texts.items ≡ map string_bytes words.now) }
+{
     let mut texts = Vec::new(rt.alloc());
     for word in words {
         texts.push(word.as_str())?;
@@ -59,7 +69,9 @@ fn texts_of<'a>(rt: &HostRuntime, words: &'a [String]) -> Result<Vec<&'a str>, A
 }
 
 /// Runs over standard input and output with SHA-512Half, and gives the status.
-fn run_on(rt: &HostRuntime, words: &[&str]) -> u8 {
+fn run_on(rt: &HostRuntime, words: &[&str]) -> u8
+    ensures usage { (result ≡ 2) ↔ ¬ (IsReplay words.now) }
+{
     let mut source = StdSource::new(rt.stdin());
     let mut sink = StdSink::new(rt.stdout());
     ledger_run(rt.alloc(), words, Half512, &mut source, &mut sink).status

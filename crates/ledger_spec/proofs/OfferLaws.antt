@@ -11,11 +11,11 @@ use Rattle.ledger_spec.specs.Wire.{checked_leaf, keyed_leaf, checked_inner, full
 use Rattle.ledger_spec.specs.Spots.{Spot, no_base, no_parent, empty_branch, under_leaf, wanted, spot_from, into, spot_below, spot_of, header_in, header_root}
 
 -- an error isn't a result
-err_ok : {X E : Type 0} {e : E} {x : X} → Err e ≡ Ok x → ⊥
+pub err_ok : {X E : Type 0} {e : E} {x : X} → Err e ≡ Ok x → ⊥
 err_ok e = cc
 
 -- two results that are one hold one thing
-ok_same : {X E : Type 0} {x y : X} → ◌≡◌ {A = Result X E} (Ok x) (Ok y) → x ≡ y
+pub ok_same : {X E : Type 0} {x y : X} → ◌≡◌ {A = Result X E} (Ok x) (Ok y) → x ≡ y
 ok_same e = cc
 
 -- a result behind a test that refuses
@@ -101,23 +101,23 @@ read_offered_held half w n e =
     read_wire_held half w n read.0 read.1
 
 -- what is wanted at one place is one
-wanted_same : {h g : Hash} {p q : Option (List Hash)} → wanted h p ≡ wanted g q → h ≡ g
+pub wanted_same : {h g : Hash} {p q : Option (List Hash)} → wanted h p ≡ wanted g q → h ≡ g
 wanted_same e = cc
 
 -- nothing is wanted at an empty branch
-empty_wanted : {path : List ℕ} {g : Hash} {q : Option (List Hash)} → empty_branch path ≡ wanted g q → ⊥
+pub empty_wanted : {path : List ℕ} {g : Hash} {q : Option (List Hash)} → empty_branch path ≡ wanted g q → ⊥
 empty_wanted e = cc
 
 -- nor without a parent
-no_parent_wanted : {path : List ℕ} {g : Hash} {q : Option (List Hash)} → no_parent path ≡ wanted g q → ⊥
+pub no_parent_wanted : {path : List ℕ} {g : Hash} {q : Option (List Hash)} → no_parent path ≡ wanted g q → ⊥
 no_parent_wanted e = cc
 
 -- nor under a leaf
-under_wanted : {path : List ℕ} {g : Hash} {q : Option (List Hash)} → under_leaf path ≡ wanted g q → ⊥
+pub under_wanted : {path : List ℕ} {g : Hash} {q : Option (List Hash)} → under_leaf path ≡ wanted g q → ⊥
 under_wanted e = cc
 
 -- nor without a header
-no_base_wanted : {g : Hash} {q : Option (List Hash)} → no_base ≡ wanted g q → ⊥
+pub no_base_wanted : {g : Hash} {q : Option (List Hash)} → no_base ≡ wanted g q → ⊥
 no_base_wanted e = cc
 
 -- a place with its hash, where the hash isn't zero

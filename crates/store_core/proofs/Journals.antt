@@ -31,7 +31,7 @@ use Rattle.shamap_node.specs.Nodes.{held}
 use Rattle.shamap_node.specs.declared.Node.{Node}
 use Rattle.std.specs.declared.sync.Arc.{Arc}
 use Rattle.std.proofs.Common.{Global}
-use Rattle.store_core.proofs.Counting.{total-le, total-lt, part, parts}
+use Rattle.store_core.proofs.Counting.{total-le, total-lt, part, parts, none_past}
 
 pub numbers-append : (a : ℕ) (xs ys : List Line) → numbers_of a (xs ++ ys) ≡ numbers_of a xs ++ numbers_of a ys
 numbers-append a xs ys = ap (map (λ (l : Line). l.number)) (filter-append (λ (l : Line). l.actor == a) xs ys) ∙ map-append (λ (l : Line). l.number) (filter (λ l. l.actor == a) xs) (filter (λ l. l.actor == a) ys)
@@ -141,6 +141,12 @@ module _ (half : Half) (lines : List Line) (cursors : List ℕ) (journal : List 
 
   pub kept_done : (a : ℕ) → a < 64 → numbers_of a (drop (slice_index cursors a) lines) ≡ [] → IsDone lines journal a
   kept_done a lt none = sym (append-nil (answered_by a journal)) ∙ ap (λ (w : List ℕ). answered_by a journal ++ w) (sym none) ∙ joins a lt
+
+  -- an actor past the last one has no line
+  pub kept_past : (a : ℕ) → 64 ≤ a → IsDone lines journal a
+  kept_past a past =
+      ap (map (λ (e : Entry). e.line)) (none_past (λ (e : Entry). e.actor) 64 a journal past k.known)
+      ∙ sym (ap (map (λ (l : Line). l.number)) (none_past (λ (l : Line). l.actor) 64 a lines past k.servable.actors_known))
 
   pub kept_served : (at : ℕ) → at < length lines → (line : Line) → line ≡ get_or lines at line → IsServed line.command
   kept_served at lt line is = let P : Line → Type 0 = λ l. IsServed l.command in subst P (sym is) (k.servable.served at line lt)

@@ -4,8 +4,11 @@ ghost use Rattle.std.specs.FinMap as map;
 ghost use Rattle.ledger_machine.specs.Scripts.{Rises, line_of, numbers_of};
 ghost use Rattle.script_form.specs.Servable.{AreServable};
 ghost use Rattle.std.specs.Option.{option_copied};
-ghost use Rattle.ledger_machine.specs.State.{opening};
+ghost use Rattle.std.specs.List.{Contains};
+ghost use Rattle.ledger_spec.specs.Bytes.{Hash};
+ghost use Rattle.ledger_machine.specs.State.{opening, form_in, retained};
 ghost use Rattle.ledger_machine.specs.Sound.{Sound};
+ghost use Rattle.ledger_machine.specs.Complete.{IsAllStored};
 ghost use Rattle.ledger_machine.specs.Runs.{Run, Projects};
 ghost use Rattle.store_core.specs.Journal.{IsDone, Advances, IsNext, AllBefore, AllFrom, RoseBy, faults_in};
 ghost use Rattle.store_core.specs.Totals.{totals_of, is_complete as completes, is_closed as closes};
@@ -80,14 +83,16 @@ impl<H: NodeHash> Core<H> {
         })
     }
 
-    /// Answers the actor's next line.
+    /// Answers the actor's next line. An actor past the last one has none.
     pub fn step(&mut self, alloc: Global, actor: u8) -> Stepped
-        requires { actor < 64 }
         ensures answered { result ≡ Stepped.Answered → Advances H.half true self.old actor self.new }
         ensures finished { result ≡ Stepped.Finished → IsDone self.old.lines self.old.journal actor }
         ensures unchanged { result ≡ Stepped.Finished → self.new ≡ self.old }
         ensures few { length self.new.journal ≤ length self.new.lines }
     {
+        if actor as usize >= self.cursors.len() {
+            return Stepped::Finished;
+        }
         let from = self.cursors[actor as usize];
         let Some(at) = next_of(&self.script.lines, from, actor) else {
             return Stepped::Finished;
@@ -118,6 +123,8 @@ impl<H: NodeHash> Core<H> {
         ensures journal { result.now ≡ self.now.journal }
         ensures run { Run H.half self.now.lines (opening map.empty self.now.interval) self.now.journal self.now.state }
         ensures sound { Sound H.half self.now.state }
+        // Nothing that a retained ledger reaches is absent.
+        ensures present { (t : Hash) → Contains (retained self.now.state) t → IsAllStored (form_in self.now.state) t }
         ensures projects { Projects self.now.lines self.now.journal }
         ensures few { length self.now.journal ≤ length self.now.lines }
         // Each `fault` has a rise of the store's count of its own.

@@ -1,4 +1,4 @@
-use Rattle.std.proofs.Common.{◌≡◌, ℕ, List, [], ◌∷◌, Bor, Bool, true, false, ◌↔◌, ◌<◌, ◌≤◌, map, length, get_or, refl, sym, ◌∙◌, ap, arith}
+use Rattle.std.proofs.Common.{◌≡◌, ℕ, List, [], ◌∷◌, Bor, Bool, true, false, ◌↔◌, map, length, get_or, refl, ap, arith}
 use Rattle.std.specs.Prelude.{IsTrue, nat_eq}
 use Rattle.std.specs.Cmp.Lexicographic.{other_text, same_text, pointwise}
 use Rattle.ledger_run.proofs.run.is_replay.Goals as goal

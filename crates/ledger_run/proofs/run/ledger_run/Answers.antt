@@ -1,4 +1,4 @@
-use Rattle.std.proofs.Common.{◌≡◌, ℕ, [], ◌∷◌, refl, sym, ◌∙◌, ap, subst}
+use Rattle.std.proofs.Common.{ℕ, [], ◌∷◌, refl, sym, ◌∙◌, ap, subst}
 use Rattle.ledger_run.specs.Output.{status_of}
 use Rattle.ledger_run.specs.Top.{IsOneOf}
 use Rattle.ledger_run.proofs.Refusals.{not_refused}

@@ -1,4 +1,4 @@
-use Rattle.std.proofs.Common.{◌≡◌, ◌<◌, ◌≤◌, length, get_or, refl, sym, ◌∙◌, ap, subst, arith}
+use Rattle.std.proofs.Common.{◌<◌, ◌≤◌, length, ◌∙◌, ap, arith}
 use Rattle.run_io.proofs.Bytes.{wrote_front, wrote_part, wrote_more}
 use Rattle.store_core.specs.Totals.{totals_of}
 use Rattle.journal_text.specs.Text.{summary_text}

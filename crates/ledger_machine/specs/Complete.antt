@@ -1,0 +1,32 @@
+-- What the headline says of ledgers.
+use Rattle.std.specs.Prelude.{◌≡◌, ◌⊎◌, ◌≤◌, ℕ, [], ◌∷◌, Some, IsSomeAnd, IsTrue}
+use Rattle.std.specs.List.{Contains}
+use Rattle.ledger_spec.specs.declared.Place.{Place}
+use Rattle.ledger_spec.specs.declared.ShapeFault.{ShapeFault}
+use Rattle.ledger_spec.specs.Bytes.{Bytes, Hash, Half, Lookup, is_nonzero}
+use Rattle.ledger_spec.specs.Header.{seq_of, state_root_of}
+use Rattle.ledger_spec.specs.Reach.{Reach, Stored, kids}
+use Rattle.ledger_spec.specs.Spots.{header_in}
+use Rattle.ledger_spec.specs.Findings.{findings, breaks}
+use Rattle.ledger_machine.specs.State.{State, form_in}
+
+-- nothing that the target reaches is absent: it is stored, and so is each node that a reached form names
+pub record IsAllStored (nodes : Lookup) (t : Hash) : Type 0 where
+  pub own : Stored nodes t
+  pub named : (h k : Hash) (form : Bytes) → Reach nodes (t ∷ []) h → nodes h ≡ Some form → Contains (kids form) k → Stored nodes k
+
+-- no place of the ledger breaks a rule of shape
+abbrev pub IsUnbroken : Half → Lookup → Hash → Type 0
+IsUnbroken half nodes t = (place : Place) (fault : ShapeFault) → Contains (findings half nodes t) (breaks place fault) → ⊥
+
+-- a header of the asked sequence, where one was asked for, with a state map, and not below the floor
+pub record IsAcceptable (asked floor : ℕ) (header : Bytes) : Type 0 where
+  pub seq : (asked ≡ 0) ⊎ (asked ≡ seq_of header)
+  pub state : IsTrue (is_nonzero (state_root_of header))
+  pub recent : floor ≤ seq_of header
+
+-- a ledger that was asked for so is complete: nothing that its header reaches is absent, and it is acceptable
+pub record IsComplete (half : Half) (s : State) (t : Hash) (asked : ℕ) : Type 0 where
+  pub stored : IsAllStored (form_in s) t
+  pub header : IsSomeAnd (header_in (form_in s) t) (IsAcceptable asked s.floor)
+  pub shape : IsUnbroken half (form_in s) t
