@@ -9,4 +9,5 @@ pub mod Ways
 pub mod Receipts
 pub mod Closure
 pub mod Completeness
+pub mod Collisions
 mod Rows

@@ -16,3 +16,4 @@ pub mod Steps
 pub mod Runs
 pub mod Receipts
 pub mod Complete
+pub mod Collisions

@@ -12,6 +12,7 @@ ghost use Rattle.ledger_machine.specs.Steps.{Step};
 ghost use Rattle.ledger_machine.specs.Runs.{Run, Answers};
 ghost use Rattle.ledger_machine.specs.Receipts.{Receives, IsKept};
 ghost use Rattle.ledger_machine.specs.Complete.{IsAllStored, IsComplete};
+ghost use Rattle.ledger_machine.specs.Collisions.{offered_in, Collides, IsClash};
 ghost use Rattle.ledger_machine.specs.declared.commands.Command.{Command};
 ghost use Rattle.ledger_machine.specs.declared.commands.Line.{Line};
 ghost use Rattle.ledger_machine.specs.declared.journal.Entry.{Entry};
@@ -67,4 +68,13 @@ pub fn a_check_is_complete_exactly_where_the_ledger_is()
 pub fn nothing_of_a_retained_ledger_is_absent()
     ensures { (half : List ℕ → List ℕ) (s : State) (t : List ℕ)
         → Sound half s → Contains (retained s) t → IsAllStored (form_in s) t }
+{}
+
+/// Over a store that was empty at first a clash shows two different forms that the script offers,
+/// with one hash. So without such forms no entry is a clash.
+pub fn a_clash_shows_two_forms_with_one_hash()
+    ensures { (half : List ℕ → List ℕ) (lines : List Line) (interval : ℕ) (entries : List Entry) (s' : State) (e : Entry)
+        → ((l : Line) → Contains lines l → IsAcquiring l.command)
+        → Run half lines (opening map.empty interval) entries s'
+        → Contains entries e → IsClash e.reply → Collides half (offered_in half lines) }
 {}

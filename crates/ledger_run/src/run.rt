@@ -1,10 +1,11 @@
 //! The top call: reads a script, runs it, and prints its journal.
 ghost use Rattle.std.specs.Prelude.{None, ◌≡◌, ◌≢◌, ◌↔◌, ◌<◌, ◌≤◌, ◌++◌, ◌∷◌, [], ℕ, List, true, IfOk, IfErr, OnOk, OnErr, IfSome, OnSome, IsSome, IsSomeAnd, IsNone, IsTrue, Some};
 ghost use Rattle.std.specs.List.{list_any};
-ghost use Rattle.run_io.specs.Bytes.{Rose, Wrote, WrotePart};
+ghost use Rattle.run_io.specs.Bytes.{Rose, Took, Wrote, WrotePart};
 ghost use Rattle.script_form.specs.Grammar.{IsScript, IsRefused, most_bytes};
 ghost use Rattle.std.specs.Prelude.{take, ◌+◌};
 ghost use Rattle.ledger_run.specs.Output.{entry_line, usage_text, refused_text, status_of, shows_clash as clash_shown, met_fault as fault_met, wanted_memory as memory_wanted};
+ghost use Rattle.ledger_machine.specs.Collisions.{Collides, offered_in};
 ghost use Rattle.ledger_run.specs.Top.{IsReplay, IsOneOf, IsWhole, IsRefusedAt, WroteOrFailed, text_of};
 
 use half_hash::NodeHash;
@@ -149,6 +150,7 @@ fn wanted_memory(entry: &Entry) -> bool
 /// Prints the line of a refusal, as far as the sink takes it.
 fn refuse<K: Sink>(alloc: Global, line: u32, cause: u8, sink: &mut K) -> u8
     ensures status { IsOneOf result (3 ∷ 8 ∷ []) }
+    ensures silent { result ≡ 8 → sink.new ≡ sink.old }
     ensures text { result ≡ 3 → WroteOrFailed (K.held sink.old) (K.held sink.new) (K.faults sink.old) (K.faults sink.new) (refused_text line cause) }
 {
     let Ok(text) = format!(in alloc; "refused {line} {cause}\n") else {
@@ -194,6 +196,10 @@ pub fn ledger_run<H: NodeHash, S: Source, K: Sink>(
     ensures usage_printed { result.status ≡ 2 → WroteOrFailed (K.held sink.old) (K.held sink.new) (K.faults sink.old) (K.faults sink.new) usage_text }
     ensures refusal_printed { result.status ≡ 3 → IfSome (S.left source.old) (λ bytes. (line : ℕ) × IsRefused (take (most_bytes + 1) bytes) line × WroteOrFailed (K.held sink.old) (K.held sink.new) (K.faults sink.old) (K.faults sink.new) (refused_text line 5)) }
     ensures unwritten { result.status ≡ 4 → sink.new ≡ sink.old }
+    ensures silent { IsNone result.core → result.status ≡ 8 → sink.new ≡ sink.old }
+    // What is read without a run.
+    ensures unread { result.status ≡ 2 → source.new ≡ source.old }
+    ensures taken { result.status ≡ 3 → Took (S.left source.old) (S.left source.new) (most_bytes + 1) }
     // The headline: the journal is a run over the script that was read, whole, to a sound state.
     ensures script { IfSome result.core (λ c. IfSome (S.left source.old) (λ bytes. IsScript (take (most_bytes + 1) bytes) c.lines)) }
     ensures read { IfSome result.core (λ c. IfSome (S.left source.old) (λ _. S.left source.new ≡ Some [])) }
@@ -209,6 +215,8 @@ pub fn ledger_run<H: NodeHash, S: Source, K: Sink>(
     // The status after a run whose text was printed.
     ensures fine { IfSome result.core (λ c. result.status ≡ 0 → status_of c.journal ≡ 0) }
     ensures clash { IfSome result.core (λ c. result.status ≡ 7 → list_any clash_shown c.journal ≡ true) }
+    // Where the forms that the script offers have different hashes it isn't 7.
+    ensures collision { IfSome result.core (λ c. result.status ≡ 7 → Collides H.half (offered_in H.half c.lines)) }
     ensures shown { IfSome result.core (λ c. list_any clash_shown c.journal ≡ true → IsOneOf result.status (5 ∷ 7 ∷ 8 ∷ [])) }
 {
     if !is_replay(words) {

@@ -1,13 +1,13 @@
 -- How a journal grows, and what a core keeps meanwhile.
 use Rattle.std.proofs.Common.{◌≡◌, ℕ, zero, suc, Some, None, ◌+◌, ◌-◌, Result, Ok, ◌<◌, ◌≤◌, List, [], ◌∷◌, ◌++◌, map, length, take, drop, get_or, Bool, true, false, cond, refl, sym, ◌∙◌, ap, subst, arith, length-append, set, length-set, ◌≢◌, get_or-set_same, get_or-set_other}
 use Rattle.std.specs.Prelude.{◌==◌, slice_index}
-use Rattle.std.specs.List.{filter, find, All}
+use Rattle.std.specs.List.{filter, find, All, Contains}
 use Rattle.std.specs.Result.{is_ok}
 use Rattle.std.proofs.lemmas.Option.{slice_get_read}
 use Rattle.std.proofs.Math.Seq.{take-add}
 use Rattle.std.proofs.lemmas.Bool.Decides.{nat_tests}
 use Rattle.std.proofs.lemmas.List.{append-nil, get_or_read, get_or_default, get_or-take, get_or-drop, length-map, map-append, take_more, take-append-drop}
-use Rattle.std.proofs.lemmas.List.Elements.{filter-append, All-append}
+use Rattle.std.proofs.lemmas.List.Elements.{filter-append, All-append, All-contains}
 use Rattle.std.specs.FinMap as finite
 use Rattle.std.proofs.Common.{◌⊎◌, inl, inr, IsTrue}
 use Rattle.ledger_machine.specs.declared.replies.Reply.TheVariants as says
@@ -124,6 +124,15 @@ waits_free lines free done (e ∷ rest) =
 pub answers : (half : Half) (lines : List Line) (s s' : State) (line : Line) (e : Entry) (from at : ℕ) → IsNext lines from e.actor at → line ≡ get_or lines at line → e.line ≡ line.number → e.actor ≡ e.actor → Step half s e.actor line.command e.reply (used_by e) s' → Answers half lines s e s'
 answers half lines s s' line e from at next is number _ step = record { place = at; line = line; stands = slice_get_read lines (length lines) at line refl next.within is; number = number; actor = sym (next.actor line is); step = step }
 
+-- the commands that are served acquire a ledger
+pub served_acquires : (c : Command) → IsServed c → IsAcquiring c
+served_acquires (command.Want t seq) served = tt
+served_acquires (command.Peer p t) served = tt
+served_acquires (command.Base p t head state tx) served = tt
+served_acquires (command.Node p t kind path blob) served = tt
+served_acquires (command.Check t) served = tt
+served_acquires _ served = absurd served
+
 module _ (half : Half) (lines : List Line) (cursors : List ℕ) (journal : List Entry) (capacity interval : ℕ) (told : Bool) (opened now : ℕ) (s : State) (k : Kept half lines cursors journal capacity interval told opened now s) where
   at_most : (a : ℕ) → a < 64 → part (λ e. e.actor) journal a ≤ part (λ l. l.actor) lines a
   at_most a lt = omega (arith, answered_part a journal, numbers_part a lines, ap length (k.done a lt), numbers-take-le a (slice_index cursors a) lines)
@@ -147,6 +156,10 @@ module _ (half : Half) (lines : List Line) (cursors : List ℕ) (journal : List 
   kept_past a past =
       ap (map (λ (e : Entry). e.line)) (none_past (λ (e : Entry). e.actor) 64 a journal past k.known)
       ∙ sym (ap (map (λ (l : Line). l.number)) (none_past (λ (l : Line). l.actor) 64 a lines past k.servable.actors_known))
+
+  -- each line acquires a ledger
+  pub kept_acquires : (l : Line) → Contains lines l → IsAcquiring l.command
+  kept_acquires l among = served_acquires l.command (All-contains (λ x. IsServed x.command) lines l k.servable.served among)
 
   pub kept_served : (at : ℕ) → at < length lines → (line : Line) → line ≡ get_or lines at line → IsServed line.command
   kept_served at lt line is = let P : Line → Type 0 = λ l. IsServed l.command in subst P (sym is) (k.servable.served at line lt)
@@ -255,15 +268,6 @@ kept_open half lines cursors journal capacity interval told opened now s none si
       room = room;
       fault_bound = inl (omega (arith, same));
     })
-
--- the commands that are served acquire a ledger
-pub served_acquires : (c : Command) → IsServed c → IsAcquiring c
-served_acquires (command.Want t seq) served = tt
-served_acquires (command.Peer p t) served = tt
-served_acquires (command.Base p t head state tx) served = tt
-served_acquires (command.Node p t kind path blob) served = tt
-served_acquires (command.Check t) served = tt
-served_acquires _ served = absurd served
 
 -- a count that stands at 0 has met no fault
 pub none_failed : (n : ℕ) → RoseBy n 0 0 → n ≡ 0

@@ -9,6 +9,7 @@ ghost use Rattle.ledger_spec.specs.Bytes.{Hash};
 ghost use Rattle.ledger_machine.specs.State.{opening, form_in, retained};
 ghost use Rattle.ledger_machine.specs.Sound.{Sound};
 ghost use Rattle.ledger_machine.specs.Complete.{IsAllStored};
+ghost use Rattle.ledger_machine.specs.Collisions.{IsClash, Collides, offered_in};
 ghost use Rattle.ledger_machine.specs.Runs.{Run, Projects};
 ghost use Rattle.store_core.specs.Journal.{IsDone, Advances, IsNext, AllBefore, AllFrom, RoseBy, faults_in};
 ghost use Rattle.store_core.specs.Totals.{totals_of, is_complete as completes, is_closed as closes};
@@ -125,6 +126,8 @@ impl<H: NodeHash> Core<H> {
         ensures sound { Sound H.half self.now.state }
         // Nothing that a retained ledger reaches is absent.
         ensures present { (t : Hash) → Contains (retained self.now.state) t → IsAllStored (form_in self.now.state) t }
+        // A clash shows two different forms that the script offers, with one hash.
+        ensures clashes { (e : Entry) → Contains self.now.journal e → IsClash e.reply → Collides H.half (offered_in H.half self.now.lines) }
         ensures projects { Projects self.now.lines self.now.journal }
         ensures few { length self.now.journal ≤ length self.now.lines }
         // Each `fault` has a rise of the store's count of its own.

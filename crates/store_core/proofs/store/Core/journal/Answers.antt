@@ -1,6 +1,7 @@
 use Rattle.std.proofs.Common.{refl}
 use Rattle.ledger_machine.proofs.Completeness.{retained_stored}
-use Rattle.store_core.proofs.Journals.{kept_few, kept_projects, none_failed}
+use Rattle.ledger_machine.proofs.Collisions.{clash_collides}
+use Rattle.store_core.proofs.Journals.{kept_few, kept_projects, kept_acquires, none_failed}
 use Rattle.store_core.proofs.store.Core.journal.Goals as goal
 
 pub returns-clause-projects : goal.returns-clause-projects
@@ -14,3 +15,7 @@ returns-clause-no_fault g c = rw (← c.self.view_is) (none_failed _ c.self.inva
 
 pub returns-clause-present : goal.returns-clause-present
 returns-clause-present g c = rw (← c.self.view_is) (λ t i. retained_stored g.H.NodeHash.half _ t (c.self.invariant.sound refl) i)
+
+pub returns-clause-clashes : goal.returns-clause-clashes
+returns-clause-clashes g c =
+    rw (← c.self.view_is) (λ e among is. clash_collides g.H.NodeHash.half _ _ _ _ e (kept_acquires _ _ _ _ _ _ _ _ _ _ c.self.invariant) (c.self.invariant.run refl) among is)

@@ -1,0 +1,46 @@
+-- Two different forms that a script offers, with one hash.
+use Rattle.std.specs.Prelude.{◌≡◌, ◌≢◌, ℕ, List, [], ◌∷◌, ◌++◌, Option, None, Some, Result, Ok, Err}
+use Rattle.std.specs.List.{flat_map, Contains}
+use Rattle.ledger_spec.specs.Bytes.{Bytes, Half}
+use Rattle.ledger_spec.specs.Forms.{Held, form_of, header_prefix}
+use Rattle.ledger_spec.specs.Wire.{read_offered}
+use Rattle.ledger_machine.specs.declared.commands.Command.{Command}
+use Rattle.ledger_machine.specs.declared.commands.Command.TheVariants as command
+use Rattle.ledger_machine.specs.declared.commands.Line.{Line}
+use Rattle.ledger_machine.specs.declared.replies.Reply.{Reply}
+use Rattle.ledger_machine.specs.declared.replies.Reply.TheVariants as says
+
+-- the form of what is read, where it is read
+abbrev pub form_read : Result Held ℕ → List Bytes
+form_read (Ok n) = form_of n ∷ []
+form_read (Err cause) = []
+
+-- the form of the node that a part is
+abbrev pub part_form : Half → Option Bytes → List Bytes
+part_form half None = []
+part_form half (Some blob) = form_read (read_offered half blob)
+
+-- the forms that a peer's reply offers
+abbrev pub offered_by : Half → Command → List Bytes
+offered_by half (command.Base p t bytes state tx) = (header_prefix ++ bytes) ∷ part_form half state ++ part_form half tx
+offered_by half (command.Node p t kind path blob) = part_form half (Some blob)
+offered_by half _ = []
+
+-- the forms that a script offers
+abbrev pub offered_in : Half → List Line → List Bytes
+offered_in half lines = flat_map (λ l. offered_by half l.command) lines
+
+-- two different ones of these forms have one hash
+pub record Collides (half : Half) (forms : List Bytes) : Type 0 where
+  pub one : Bytes
+  pub other : Bytes
+  pub first : Contains forms one
+  pub second : Contains forms other
+  pub different : one ≢ other
+  pub same : half one ≡ half other
+
+-- the reply shows a form under a hash that has another, or a form whose hash is zero
+abbrev pub IsClash : Reply → Type 0
+IsClash (says.Clash h old new) = Unit {0}
+IsClash (says.ZeroHash form) = Unit {0}
+IsClash _ = ⊥
