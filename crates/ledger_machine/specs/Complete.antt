@@ -1,14 +1,23 @@
 -- What the headline says of ledgers.
-use Rattle.std.specs.Prelude.{◌≡◌, ◌⊎◌, ◌≤◌, ℕ, [], ◌∷◌, Some, IsSomeAnd, IsTrue}
+use Rattle.std.specs.Prelude.{◌≡◌, ◌≢◌, ◌↔◌, ◌⊎◌, ◌≤◌, ℕ, List, [], ◌∷◌, Some, IsSomeAnd, IsTrue}
 use Rattle.std.specs.List.{Contains}
 use Rattle.ledger_spec.specs.declared.Place.{Place}
 use Rattle.ledger_spec.specs.declared.ShapeFault.{ShapeFault}
+use Rattle.ledger_spec.specs.Maps.{hash_cmp, get_in}
 use Rattle.ledger_spec.specs.Bytes.{Bytes, Hash, Half, Lookup, is_nonzero}
 use Rattle.ledger_spec.specs.Header.{seq_of, state_root_of}
 use Rattle.ledger_spec.specs.Reach.{Reach, Stored, kids}
 use Rattle.ledger_spec.specs.Spots.{header_in}
 use Rattle.ledger_spec.specs.Findings.{findings, breaks}
-use Rattle.ledger_machine.specs.State.{State, form_in}
+use Rattle.ledger_machine.specs.declared.commands.Command.{Command}
+use Rattle.ledger_machine.specs.declared.commands.Command.TheVariants as command
+use Rattle.ledger_machine.specs.declared.commands.Line.{Line}
+use Rattle.ledger_machine.specs.declared.journal.Entry.{Entry}
+use Rattle.ledger_machine.specs.declared.replies.CheckReply.TheVariants as check
+use Rattle.ledger_machine.specs.declared.replies.Reply.{Reply}
+use Rattle.ledger_machine.specs.declared.replies.Reply.TheVariants as says
+use Rattle.ledger_machine.specs.State.{State, Acquisition, form_in}
+use Rattle.ledger_machine.specs.Runs.{Run}
 
 -- nothing that the target reaches is absent: it is stored, and so is each node that a reached form names
 pub record IsAllStored (nodes : Lookup) (t : Hash) : Type 0 where
@@ -30,3 +39,14 @@ pub record IsComplete (half : Half) (s : State) (t : Hash) (asked : ℕ) : Type 
   pub stored : IsAllStored (form_in s) t
   pub header : IsSomeAnd (header_in (form_in s) t) (IsAcceptable asked s.floor)
   pub shape : IsUnbroken half (form_in s) t
+
+-- an answer to a check of an open acquisition, which met no fault and had memory, is complete exactly where the ledger is
+abbrev pub IsExact : Half → State → Command → Reply → Type 0
+IsExact half s (command.Check t) reply =
+    (a : Acquisition) → get_in hash_cmp s.wanted t ≡ Some a → reply ≢ says.Fault → reply ≢ says.Memory → (reply ≡ says.Check check.Complete) ↔ IsComplete half s t a.seq
+IsExact half s _ reply = Unit {0}
+
+-- each check of a run is exact in the state before it
+abbrev pub AreExact : (half : Half) (lines : List Line) (s : State) (entries : List Entry) (s' : State) → Run half lines s entries s' → Type 0
+AreExact half lines s [] s' run = Unit {0}
+AreExact half lines s (e ∷ rest) s' run = IsExact half s run.1.line.command e.reply × AreExact half lines run.0 rest s' run.2

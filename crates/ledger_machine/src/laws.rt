@@ -11,7 +11,7 @@ ghost use Rattle.ledger_machine.specs.Scripts.{IsAcquiring, IsInRange};
 ghost use Rattle.ledger_machine.specs.Steps.{Step};
 ghost use Rattle.ledger_machine.specs.Runs.{Run, Answers};
 ghost use Rattle.ledger_machine.specs.Receipts.{Receives, IsKept};
-ghost use Rattle.ledger_machine.specs.Complete.{IsAllStored, IsComplete};
+ghost use Rattle.ledger_machine.specs.Complete.{IsAllStored, IsExact, AreExact};
 ghost use Rattle.ledger_machine.specs.Collisions.{offered_in, Collides, IsClash};
 ghost use Rattle.ledger_machine.specs.declared.commands.Command.{Command};
 ghost use Rattle.ledger_machine.specs.declared.commands.Line.{Line};
@@ -58,10 +58,14 @@ pub fn what_was_received_stays()
 /// each node that the target reaches is stored and the ledger is acceptable: of the asked sequence
 /// or any was asked for, with a state map, not below the floor, and with no rule of shape broken.
 pub fn a_check_is_complete_exactly_where_the_ledger_is()
-    ensures { (half : List ℕ → List ℕ) (s s' : State) (actor : ℕ) (t : List ℕ) (a : Acquisition) (reply : Reply) (used : List Held)
-        → get_in hash_cmp s.wanted t ≡ Some a
-        → Step half s actor (Command.Check t) reply used s' → reply ≢ Reply.Fault → reply ≢ Reply.Memory
-        → (reply ≡ Reply.Check CheckReply.Complete) ↔ IsComplete half s t a.seq }
+    ensures { (half : List ℕ → List ℕ) (s s' : State) (a : ℕ) (c : Command) (reply : Reply) (used : List Held)
+        → Step half s a c reply used s' → IsExact half s c reply }
+{}
+
+/// So does each check of a run.
+pub fn the_checks_of_a_run_are_exact()
+    ensures { (half : List ℕ → List ℕ) (lines : List Line) (s : State) (entries : List Entry) (s' : State) (run : Run half lines s entries s')
+        → AreExact half lines s entries s' run }
 {}
 
 /// In a sound state nothing that a retained ledger reaches is absent.

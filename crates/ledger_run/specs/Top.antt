@@ -7,7 +7,7 @@ use Rattle.ledger_spec.specs.Bytes.{Bytes, Hash, Half}
 use Rattle.ledger_machine.specs.State.{opening, form_in, retained}
 use Rattle.ledger_machine.specs.Sound.{Sound}
 use Rattle.ledger_machine.specs.declared.journal.Entry.{Entry}
-use Rattle.ledger_machine.specs.Complete.{IsAllStored}
+use Rattle.ledger_machine.specs.Complete.{IsAllStored, AreExact}
 use Rattle.ledger_machine.specs.Collisions.{IsClash, Collides, offered_in}
 use Rattle.ledger_machine.specs.Runs.{Run, Projects, IsFull}
 use Rattle.store_core.specs.Journal.{Ledger, faults_in}
@@ -24,12 +24,14 @@ abbrev pub IsOneOf : ℕ → List ℕ → Type 0
 IsOneOf n ns = list_any (λ m. m == n) ns ≡ true
 
 -- The headline: the journal is a run of the store machine from the opening to the actual state; each actor's entries answer its lines
--- in order and no line is left; the state is sound, so each form is stored under its own hash; nothing that a retained ledger reaches
--- is absent; and a clash shows two different forms that the script offers, with one hash.
+-- in order and no line is left; each check is complete exactly where the ledger is; the state is sound, so each form is stored under
+-- its own hash; nothing that a retained ledger reaches is absent; and a clash shows two different forms that the script offers, with
+-- one hash.
 pub record IsWhole (half : Half) (c : Ledger) : Type 0 where
   pub run : Run half c.lines (opening finite.empty c.interval) c.journal c.state
   pub projects : Projects c.lines c.journal
   pub full : IsFull c.lines c.journal
+  pub checks : (run : Run half c.lines (opening finite.empty c.interval) c.journal c.state) → AreExact half c.lines (opening finite.empty c.interval) c.journal c.state run
   pub sound : Sound half c.state
   pub present : (t : Hash) → Contains (retained c.state) t → IsAllStored (form_in c.state) t
   pub clashes : (e : Entry) → Contains c.journal e → IsClash e.reply → Collides half (offered_in half c.lines)

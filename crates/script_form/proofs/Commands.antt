@@ -94,7 +94,7 @@ found_ok words args verb (Ok f) is some none nothing = found words args verb f i
 found_ok words args verb (Err e) is some none nothing = tt
 
 -- one part that is no text of bytes
-pub no_part : (parts : List (Bor Bytes)) (d : Bor Bytes) → length parts ≡ 1 → ((bytes : Bytes) → IsBlob (get_or parts 0 d).now bytes → ⊥) → (state tx : Option Bytes) → AreParts (texts parts) state tx → ⊥
+pub no_part : (given : List (Bor Bytes)) (d : Bor Bytes) → length given ≡ 1 → ((bytes : Bytes) → IsBlob (get_or given 0 d).now bytes → ⊥) → (state tx : Option Bytes) → AreParts (texts given) state tx → ⊥
 no_part [] d one none state tx are = absurd (omega arith)
 no_part (w ∷ []) d one none None None are = are
 no_part (w ∷ []) d one none None (Some x) are = are

@@ -31,7 +31,7 @@ use Rattle.shamap_node.specs.Nodes.{held}
 use Rattle.shamap_node.specs.declared.Node.{Node}
 use Rattle.std.specs.declared.sync.Arc.{Arc}
 use Rattle.std.proofs.Common.{Global}
-use Rattle.store_core.proofs.Counting.{total-le, total-lt, part, parts, none_past}
+use Rattle.store_core.proofs.Counting.{total-le, total-lt, part, parts_total, none_past}
 
 pub numbers-append : (a : ℕ) (xs ys : List Line) → numbers_of a (xs ++ ys) ≡ numbers_of a xs ++ numbers_of a ys
 numbers-append a xs ys = ap (map (λ (l : Line). l.number)) (filter-append (λ (l : Line). l.actor == a) xs ys) ∙ map-append (λ (l : Line). l.number) (filter (λ l. l.actor == a) xs) (filter (λ l. l.actor == a) ys)
@@ -138,7 +138,7 @@ module _ (half : Half) (lines : List Line) (cursors : List ℕ) (journal : List 
   at_most a lt = omega (arith, answered_part a journal, numbers_part a lines, ap length (k.done a lt), numbers-take-le a (slice_index cursors a) lines)
 
   pub kept_few : length journal ≤ length lines
-  kept_few = omega (arith, parts 64 (λ (e : Entry). e.actor) journal k.known, parts 64 (λ (l : Line). l.actor) lines k.servable.actors_known, total-le 64 _ _ at_most)
+  kept_few = omega (arith, parts_total 64 (λ (e : Entry). e.actor) journal k.known, parts_total 64 (λ (l : Line). l.actor) lines k.servable.actors_known, total-le 64 _ _ at_most)
 
   joins : (a : ℕ) → a < 64 → answered_by a journal ++ numbers_of a (drop (slice_index cursors a) lines) ≡ numbers_of a lines
   joins a lt =
@@ -173,7 +173,7 @@ module _ (half : Half) (lines : List Line) (cursors : List ℕ) (journal : List 
 
     -- there is room for the entry of a line that is left
     pub kept_less : length journal < length lines
-    kept_less = omega (arith, parts 64 (λ (e : Entry). e.actor) journal k.known, parts 64 (λ (l : Line). l.actor) lines k.servable.actors_known, total-lt 64 _ _ at_most a lt fewer)
+    kept_less = omega (arith, parts_total 64 (λ (e : Entry). e.actor) journal k.known, parts_total 64 (λ (l : Line). l.actor) lines k.servable.actors_known, total-lt 64 _ _ at_most a lt fewer)
 
     pub kept_step : (e : Entry) (s' : State) (c now' : ℕ) → e.line ≡ line.number → e.actor ≡ a → (IsTrue told → Step half s e.actor line.command e.reply (used_by e) s') → (IsTrue told → Sound half s') → (IsTrue told → length s'.listed ≤ suc (length s.listed)) → capacity ≤ c → now ≤ now' → (e.reply ≡ says.Fault → Rose now now') → Kept half lines (set cursors a (at + 1)) (journal ++ e ∷ []) c interval told opened now' s'
     kept_step e s' c now' number actor step sound few more later cause = record {

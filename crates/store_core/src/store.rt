@@ -8,7 +8,7 @@ ghost use Rattle.std.specs.List.{Contains};
 ghost use Rattle.ledger_spec.specs.Bytes.{Hash};
 ghost use Rattle.ledger_machine.specs.State.{opening, form_in, retained};
 ghost use Rattle.ledger_machine.specs.Sound.{Sound};
-ghost use Rattle.ledger_machine.specs.Complete.{IsAllStored};
+ghost use Rattle.ledger_machine.specs.Complete.{IsAllStored, AreExact};
 ghost use Rattle.ledger_machine.specs.Collisions.{IsClash, Collides, offered_in};
 ghost use Rattle.ledger_machine.specs.Runs.{Run, Projects};
 ghost use Rattle.store_core.specs.Journal.{IsDone, Advances, IsNext, AllBefore, AllFrom, RoseBy, faults_in};
@@ -123,6 +123,8 @@ impl<H: NodeHash> Core<H> {
     pub fn journal(&self) -> &[Entry]
         ensures journal { result.now ≡ self.now.journal }
         ensures run { Run H.half self.now.lines (opening map.empty self.now.interval) self.now.journal self.now.state }
+        // Each check is complete exactly where the ledger is, in the state before it.
+        ensures checks { (run : Run H.half self.now.lines (opening map.empty self.now.interval) self.now.journal self.now.state) → AreExact H.half self.now.lines (opening map.empty self.now.interval) self.now.journal self.now.state run }
         ensures sound { Sound H.half self.now.state }
         // Nothing that a retained ledger reaches is absent.
         ensures present { (t : Hash) → Contains (retained self.now.state) t → IsAllStored (form_in self.now.state) t }

@@ -1,5 +1,5 @@
 use Rattle.std.proofs.Common.{refl}
-use Rattle.ledger_machine.proofs.Completeness.{retained_stored}
+use Rattle.ledger_machine.proofs.Completeness.{retained_stored, run_exact}
 use Rattle.ledger_machine.proofs.Collisions.{clash_collides}
 use Rattle.store_core.proofs.Journals.{kept_few, kept_projects, kept_acquires, none_failed}
 use Rattle.store_core.proofs.store.Core.journal.Goals as goal
@@ -19,3 +19,6 @@ returns-clause-present g c = rw (← c.self.view_is) (λ t i. retained_stored g.
 pub returns-clause-clashes : goal.returns-clause-clashes
 returns-clause-clashes g c =
     rw (← c.self.view_is) (λ e among is. clash_collides g.H.NodeHash.half _ _ _ _ e (kept_acquires _ _ _ _ _ _ _ _ _ _ c.self.invariant) (c.self.invariant.run refl) among is)
+
+pub returns-clause-checks : goal.returns-clause-checks
+returns-clause-checks g c = rw (← c.self.view_is) (λ run. run_exact g.H.NodeHash.half _ _ _ _ run)
