@@ -9,7 +9,7 @@ use Rattle.ledger_spec.specs.declared.Kind.{Kind}
 use Rattle.ledger_spec.specs.declared.Kind.TheVariants as kinds
 use Rattle.ledger_spec.specs.declared.ShapeFault.{ShapeFault}
 use Rattle.ledger_spec.specs.Maps.{hash_cmp, get_in, set_in}
-use Rattle.ledger_spec.specs.Bytes.{Bytes, Hash, Half, Nodes, same_bytes}
+use Rattle.ledger_spec.specs.Bytes.{Bytes, Hash, Half, Lookup, Nodes, same_bytes}
 use Rattle.ledger_spec.specs.Forms.{Held, form_of, hash_of, header_prefix}
 use Rattle.ledger_spec.specs.Rules.{fault_of}
 use Rattle.ledger_spec.specs.Spots.{Spot, no_base, no_parent, empty_branch, under_leaf, wanted, spot_of}
@@ -41,7 +41,7 @@ use Rattle.ledger_machine.specs.Base.{is_present, part_outcome, given_part, afte
 use Rattle.ledger_machine.specs.Scripts.{IsAcquiring}
 use Rattle.ledger_machine.specs.Steps.{Step, IsAfter, Answered, IsRow, own_forms}
 use Rattle.ledger_machine.specs.Runs.{Run, used_by}
-use Rattle.ledger_machine.specs.Collisions.{form_read, part_form, offered_by, offered_in, Collides, IsClash}
+use Rattle.ledger_machine.specs.Collisions.{form_read, part_form, head_form, offered_by, offered_in, Collides, IsClash}
 use Rattle.ledger_machine.proofs.SoundKeeps.{shaded_same}
 use Rattle.ledger_machine.proofs.SoundForms.{none_some, new_or_old, in_nothing, in_head, in_tail}
 use Rattle.ledger_machine.proofs.SoundSteps.{outcome_cases, line_at}
@@ -114,12 +114,22 @@ stored_read (Ok n) (Err clash) form c = absurd (in_nothing c)
 stored_read (Err cause) o form c = absurd (in_nothing c)
 
 -- what a header stores is its form
-head_read : (r : Result HeadOffered Clash) (bytes form : Bytes) → Contains (head_forms r bytes) form → Contains ((header_prefix ++ bytes) ∷ []) form
-head_read (Ok head.Good) bytes form c = c
-head_read (Ok head.Duplicate) bytes form c = absurd (in_nothing c)
-head_read (Ok (head.BadLength n)) bytes form c = absurd (in_nothing c)
-head_read (Ok (head.BadHash found)) bytes form c = absurd (in_nothing c)
-head_read (Err clash) bytes form c = absurd (in_nothing c)
+head_read : (half : Half) (nodes : Lookup) (t : Hash) (bytes form : Bytes) → Contains (head_forms (head_outcome half nodes t bytes) bytes) form → Contains (head_form bytes) form
+head_read half nodes t bytes form c =
+    at (length bytes == 118)
+    (if not (same_bytes (half (header_prefix ++ bytes)) t) then Ok (head.BadHash (half (header_prefix ++ bytes))) else head_given t (header_prefix ++ bytes) (nodes t)) c
+  where
+    good : (r : Result HeadOffered Clash) → Contains (head_forms r bytes) form → Contains ((header_prefix ++ bytes) ∷ []) form
+    good (Ok head.Good) c = c
+    good (Ok head.Duplicate) c = absurd (in_nothing c)
+    good (Ok (head.BadLength n)) c = absurd (in_nothing c)
+    good (Ok (head.BadHash found)) c = absurd (in_nothing c)
+    good (Err clash) c = absurd (in_nothing c)
+
+    at : (a : Bool) (r : Result HeadOffered Clash) → Contains (head_forms (if not a then Ok (head.BadLength (length bytes)) else r) bytes) form
+        → Contains (if a then (header_prefix ++ bytes) ∷ [] else []) form
+    at true r c = good r c
+    at false r c = absurd (in_nothing c)
 
 -- what a part stores was read of it
 part_read : (half : Half) (s : State) (t : Hash) (kind : Kind) (blob : Option Bytes) (form : Bytes) → Contains (node_forms half s t kind [] blob) form → Contains (part_form half blob) form
@@ -128,14 +138,14 @@ part_read half s t kind (Some blob) form c = stored_read (read_offered half blob
 
 -- the parts of a base reply, among its forms
 module _ (half : Half) (bytes : Bytes) (state tx : Option Bytes) (form : Bytes) where
-  of_head : Contains ((header_prefix ++ bytes) ∷ []) form → Contains ((header_prefix ++ bytes) ∷ part_form half state ++ part_form half tx) form
-  of_head c = Contains-append_left ((header_prefix ++ bytes) ∷ []) (part_form half state ++ part_form half tx) form c
+  of_head : Contains (head_form bytes) form → Contains (head_form bytes ++ part_form half state ++ part_form half tx) form
+  of_head c = Contains-append_left (head_form bytes ++ part_form half state) (part_form half tx) form (Contains-append_left (head_form bytes) (part_form half state) form c)
 
-  of_state : Contains (part_form half state) form → Contains ((header_prefix ++ bytes) ∷ part_form half state ++ part_form half tx) form
-  of_state c = in_tail (header_prefix ++ bytes) form (part_form half state ++ part_form half tx) (Contains-append_left (part_form half state) (part_form half tx) form c)
+  of_state : Contains (part_form half state) form → Contains (head_form bytes ++ part_form half state ++ part_form half tx) form
+  of_state c = Contains-append_left (head_form bytes ++ part_form half state) (part_form half tx) form (Contains-append_right (head_form bytes) (part_form half state) form c)
 
-  of_tx : Contains (part_form half tx) form → Contains ((header_prefix ++ bytes) ∷ part_form half state ++ part_form half tx) form
-  of_tx c = in_tail (header_prefix ++ bytes) form (part_form half state ++ part_form half tx) (Contains-append_right (part_form half state) (part_form half tx) form c)
+  of_tx : Contains (part_form half tx) form → Contains (head_form bytes ++ part_form half state ++ part_form half tx) form
+  of_tx c = Contains-append_right (head_form bytes ++ part_form half state) (part_form half tx) form c
 
 -- a command's own forms are among those that it offers
 own_offered : (half : Half) (s : State) (a : ℕ) (c : Command) (form : Bytes) → IsAcquiring c → Contains (own_forms half s a c) form → Contains (offered_by half c) form
@@ -144,7 +154,7 @@ own_offered half s a (command.Base p t bytes state tx) form acquiring c =
     let s1 : State = after_head half s bytes r in
     let s2 : State = after_part half s1 t kinds.State state in
     ⊎_elim
-    (λ front. ⊎_elim (λ first. of_head half bytes state tx form (head_read r bytes form first)) (λ second. of_state half bytes state tx form (part_read half s1 t kinds.State state form second))
+    (λ front. ⊎_elim (λ first. of_head half bytes state tx form (head_read half (form_in s) t bytes form first)) (λ second. of_state half bytes state tx form (part_read half s1 t kinds.State state form second))
     (Contains-append_cases (head_forms r bytes) (node_forms half s1 t kinds.State [] state) form front))
     (λ third. of_tx half bytes state tx form (part_read half s2 t kinds.Tx tx form third))
     (Contains-append_cases (head_forms r bytes ++ node_forms half s1 t kinds.State [] state) (node_forms half s2 t kinds.Tx [] tx) form c)
@@ -161,12 +171,13 @@ differs false x d c e = refl
 
 module _ (half : Half) (forms : List Bytes) where
   -- what an offered header leaves
-  head_from : (s : State) (bytes : Bytes) (r : Result HeadOffered Clash) → Contains forms (header_prefix ++ bytes) → IsFrom half forms s → IsFrom half forms (after_head half s bytes r)
-  head_from s bytes (Ok head.Good) one from = with_form_from half forms s (header_prefix ++ bytes) one from
-  head_from s bytes (Ok head.Duplicate) one from = from
-  head_from s bytes (Ok (head.BadLength n)) one from = from
-  head_from s bytes (Ok (head.BadHash found)) one from = from
-  head_from s bytes (Err c) one from = from
+  head_from : (s : State) (bytes : Bytes) (r : Result HeadOffered Clash) → ((form : Bytes) → Contains (head_forms r bytes) form → Contains forms form) → IsFrom half forms s
+      → IsFrom half forms (after_head half s bytes r)
+  head_from s bytes (Ok head.Good) each from = with_form_from half forms s (header_prefix ++ bytes) (each (header_prefix ++ bytes) (in_head (header_prefix ++ bytes) [])) from
+  head_from s bytes (Ok head.Duplicate) each from = from
+  head_from s bytes (Ok (head.BadLength n)) each from = from
+  head_from s bytes (Ok (head.BadHash found)) each from = from
+  head_from s bytes (Err c) each from = from
 
   -- what an offered node leaves
   node_from : (s : State) (t : Hash) (kind : Kind) (path : List ℕ) (blob : Bytes) → ((form : Bytes) → Contains (part_form half (Some blob)) form → Contains forms form)
@@ -182,14 +193,14 @@ module _ (half : Half) (forms : List Bytes) where
 
   -- what the answer of a row leaves
   base_from : (s : State) (t : Hash) (bytes : Bytes) (state tx : Option Bytes) (reply : Reply)
-      → ((form : Bytes) → Contains ((header_prefix ++ bytes) ∷ part_form half state ++ part_form half tx) form → Contains forms form) → IsFrom half forms s
+      → ((form : Bytes) → Contains (head_form bytes ++ part_form half state ++ part_form half tx) form → Contains forms form) → IsFrom half forms s
       → IsFrom half forms (after_base half s t bytes state tx reply)
   base_from s t bytes state tx (says.Base (base.Parts h a b)) each from =
       let s1 : State = after_head half s bytes (head_outcome half (form_in s) t bytes) in
       let s2 : State = after_part half s1 t kinds.State state in
       part_from s2 t kinds.Tx tx (λ form c. each form (of_tx half bytes state tx form c))
       (part_from s1 t kinds.State state (λ form c. each form (of_state half bytes state tx form c))
-      (head_from s bytes (head_outcome half (form_in s) t bytes) (each (header_prefix ++ bytes) (in_head (header_prefix ++ bytes) (part_form half state ++ part_form half tx))) from))
+      (head_from s bytes (head_outcome half (form_in s) t bytes) (λ form c. each form (of_head half bytes state tx form (head_read half (form_in s) t bytes form c))) from))
   base_from s t bytes state tx _ each from = from
 
   offer_from : (s : State) (t : Hash) (kind : Kind) (path : List ℕ) (blob : Bytes) (reply : Reply) → ((form : Bytes) → Contains (part_form half (Some blob)) form → Contains forms form)
@@ -233,22 +244,24 @@ module _ (half : Half) (forms : List Bytes) where
   }
 
   -- a clash of a header
-  head_clash : (s : State) (t : Hash) (bytes : Bytes) (c : Clash) → IsFrom half forms s → Contains forms (header_prefix ++ bytes) → head_outcome half (form_in s) t bytes ≡ Err c → Collides half forms
-  head_clash s t bytes c from offers e =
+  head_clash : (s : State) (t : Hash) (bytes : Bytes) (c : Clash) → IsFrom half forms s → ((form : Bytes) → Contains (head_form bytes) form → Contains forms form)
+      → head_outcome half (form_in s) t bytes ≡ Err c → Collides half forms
+  head_clash s t bytes c from each e =
       let form : Bytes = header_prefix ++ bytes in
-      let past : (same_bytes (half form) t ≡ true) × (head_given t form (form_in s t) ≡ Err c) =
+      let past : (length bytes == 118 ≡ true) × (same_bytes (half form) t ≡ true) × (head_given t form (form_in s t) ≡ Err c) =
       past_tests (length bytes == 118) (same_bytes (half form) t) (length bytes) (half form) (head_given t form (form_in s t)) e in
-      held (form_in s t) refl (same_text (half form) t (sym past.0)) past.1
+      let offers : Contains forms form = each form (subst (λ b. Contains (if b then form ∷ [] else []) form) (sym past.0) (in_head form [])) in
+      held (form_in s t) refl (same_text (half form) t (sym past.1)) offers past.2
     where
       past_tests : (a b : Bool) (n : ℕ) (found : Hash) (r : Result HeadOffered Clash) → (if not a then Ok (head.BadLength n) else if not b then Ok (head.BadHash found) else r) ≡ Err c
-          → (b ≡ true) × (r ≡ Err c)
+          → (a ≡ true) × (b ≡ true) × (r ≡ Err c)
       past_tests false b n found r e = cc
       past_tests true false n found r e = cc
-      past_tests true true n found r e = (refl, e)
+      past_tests true true n found r e = (refl, refl, e)
 
-      held : (o : Option Bytes) → form_in s t ≡ o → half (header_prefix ++ bytes) ≡ t → head_given t (header_prefix ++ bytes) o ≡ Err c → Collides half forms
-      held None is own e = cc
-      held (Some old) is own e =
+      held : (o : Option Bytes) → form_in s t ≡ o → half (header_prefix ++ bytes) ≡ t → Contains forms (header_prefix ++ bytes) → head_given t (header_prefix ++ bytes) o ≡ Err c → Collides half forms
+      held None is own offers e = cc
+      held (Some old) is own offers e =
           found_other s t old (header_prefix ++ bytes) from is own offers
           (differs (same_bytes old (header_prefix ++ bytes)) head.Duplicate (record { hash = t; old = old; new = header_prefix ++ bytes }) c e)
 
@@ -354,13 +367,13 @@ module _ (half : Half) (forms : List Bytes) where
       let r : Result HeadOffered Clash = head_outcome half (form_in s) t bytes in
       let s1 : State = after_head half s bytes r in
       let s2 : State = after_part half s1 t kinds.State state in
-      let own : Contains forms (header_prefix ++ bytes) = each (header_prefix ++ bytes) (in_head (header_prefix ++ bytes) (part_form half state ++ part_form half tx)) in
+      let of_first : (form : Bytes) → Contains (head_form bytes) form → Contains forms form = λ form c. each form (of_head half bytes state tx form c) in
       let of_one : (form : Bytes) → Contains (part_form half state) form → Contains forms form = λ form c. each form (of_state half bytes state tx form c) in
       let of_other : (form : Bytes) → Contains (part_form half tx) form → Contains forms form = λ form c. each form (of_tx half bytes state tx form c) in
-      let from1 : IsFrom half forms s1 = head_from half forms s bytes r own from in
+      let from1 : IsFrom half forms s1 = head_from half forms s bytes r (λ form c. of_first form (head_read half (form_in s) t bytes form c)) from in
       let from2 : IsFrom half forms s2 = part_from half forms s1 t kinds.State state of_one from1 in
       ⊎_elim
-      (λ first. head_clash half forms s t bytes first.0 from own first.1)
+      (λ first. head_clash half forms s t bytes first.0 from of_first first.1)
       (λ other. ⊎_elim (λ second. part_clash half forms s1 t kinds.State state second.0 from1 of_one second.1) (λ third. part_clash half forms s2 t kinds.Tx tx third.0 from2 of_other third.1) other)
       (parts_clash r (part_outcome half (form_in s1) t kinds.State state) (part_outcome half (form_in s2) t kinds.Tx tx) h old new
       (base_present half s p t bytes state tx (get_in hash_cmp s.wanted t) h old new (sym e)))

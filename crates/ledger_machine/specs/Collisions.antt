@@ -1,5 +1,5 @@
 -- Two different forms that a script offers, with one hash.
-use Rattle.std.specs.Prelude.{◌≡◌, ◌≢◌, ℕ, List, [], ◌∷◌, ◌++◌, Option, None, Some, Result, Ok, Err}
+use Rattle.std.specs.Prelude.{◌≡◌, ◌≢◌, ℕ, ◌==◌, if◌then◌else◌, List, [], ◌∷◌, ◌++◌, length, Option, None, Some, Result, Ok, Err}
 use Rattle.std.specs.List.{flat_map, Contains}
 use Rattle.ledger_spec.specs.Bytes.{Bytes, Half}
 use Rattle.ledger_spec.specs.Forms.{Held, form_of, header_prefix}
@@ -20,9 +20,13 @@ abbrev pub part_form : Half → Option Bytes → List Bytes
 part_form half None = []
 part_form half (Some blob) = form_read (read_offered half blob)
 
+-- the form of a header, where the bytes are as many as one has
+abbrev pub head_form : Bytes → List Bytes
+head_form bytes = if length bytes == 118 then (header_prefix ++ bytes) ∷ [] else []
+
 -- the forms that a peer's reply offers
 abbrev pub offered_by : Half → Command → List Bytes
-offered_by half (command.Base p t bytes state tx) = (header_prefix ++ bytes) ∷ part_form half state ++ part_form half tx
+offered_by half (command.Base p t bytes state tx) = head_form bytes ++ part_form half state ++ part_form half tx
 offered_by half (command.Node p t kind path blob) = part_form half (Some blob)
 offered_by half _ = []
 
