@@ -399,7 +399,7 @@ module _ (half : Half) (forms : List Bytes) where
       → IsFrom half forms s → Step half s a c reply used s' → IsClash reply → Collides half forms
   step_clash s a c (says.Clash h old new) used s' acquiring each from step is = row_clash s a c h old new acquiring each from step.outcome.0
   step_clash s a c (says.ZeroHash form) used s' acquiring each from step is = absurd (row_zero s a c form acquiring step.outcome.0)
-  step_clash s a c _ used s' acquiring each from step is = absurd is
+  step_clash s a c _ used s' acquiring each from step is = cc
 
   -- and so does a run
   run_clash : (lines : List Line) (s : State) (entries : List Entry) (s' : State) → ((l : Line) → Contains lines l → IsAcquiring l.command)

@@ -1,5 +1,5 @@
 -- Two different forms that a script offers, with one hash.
-use Rattle.std.specs.Prelude.{◌≡◌, ◌≢◌, ℕ, ◌==◌, if◌then◌else◌, List, [], ◌∷◌, ◌++◌, length, Option, None, Some, Result, Ok, Err}
+use Rattle.std.specs.Prelude.{◌≡◌, ◌≢◌, ℕ, ◌==◌, Bool, true, false, IsTrue, if◌then◌else◌, List, [], ◌∷◌, ◌++◌, length, Option, None, Some, Result, Ok, Err}
 use Rattle.std.specs.List.{flat_map, Contains}
 use Rattle.ledger_spec.specs.Bytes.{Bytes, Half}
 use Rattle.ledger_spec.specs.Forms.{Held, form_of, header_prefix}
@@ -44,7 +44,10 @@ pub record Collides (half : Half) (forms : List Bytes) : Type 0 where
   pub same : half one ≡ half other
 
 -- the reply shows a form under a hash that has another, or a form whose hash is zero
+abbrev pub is_clash : Reply → Bool
+is_clash (says.Clash h old new) = true
+is_clash (says.ZeroHash form) = true
+is_clash _ = false
+
 abbrev pub IsClash : Reply → Type 0
-IsClash (says.Clash h old new) = Unit {0}
-IsClash (says.ZeroHash form) = Unit {0}
-IsClash _ = ⊥
+IsClash reply = IsTrue (is_clash reply)

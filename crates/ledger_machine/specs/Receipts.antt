@@ -23,6 +23,7 @@ IsReceived offered.Duplicate = Unit {0}
 IsReceived (offered.Malformed rule) = Unit {0}
 IsReceived _ = ⊥
 
+-- and a header where it is good, or was there
 abbrev pub IsHeadReceived : HeadOffered → Type 0
 IsHeadReceived head.Good = Unit {0}
 IsHeadReceived head.Duplicate = Unit {0}
@@ -40,7 +41,7 @@ Receives half t (command.Base p target bytes state tx) (says.Base (base.Parts h 
 Receives half t (command.Node p target kind path blob) (says.Node (node.One o)) n = (target ≡ t) × IsReceivedPart half (Some blob) (Some o) n
 Receives half t _ _ n = ⊥
 
--- it is stored under its own hash, and a target reaches it
+-- it is stored under its own hash, and the targets reach it
 pub record IsKept (half : Half) (s : State) (targets : List Hash) (n : Held) : Type 0 where
   pub stored : form_in s (hash_of half n) ≡ Some (form_of n)
   pub reached : Reach (form_in s) targets (hash_of half n)

@@ -6,9 +6,9 @@ use Rattle.ledger_machine.specs.declared.journal.Entry.{Entry}
 use Rattle.ledger_machine.specs.declared.replies.Reply.{Reply}
 use Rattle.ledger_machine.specs.declared.replies.Reply.TheVariants as says
 use Rattle.store_core.specs.Journal.{faults_in, is_fault as counts_fault}
-use Rattle.ledger_machine.specs.Collisions.{IsClash}
+use Rattle.ledger_machine.specs.Collisions.{IsClash, is_clash}
 use Rattle.ledger_machine.proofs.SoundForms.{in_head, in_tail}
-use Rattle.ledger_run.specs.Output.{status_of, met_fault, is_fault, is_clash, shows_clash, wanted_memory}
+use Rattle.ledger_run.specs.Output.{status_of, met_fault, is_fault, shows_clash, wanted_memory}
 use Rattle.ledger_run.specs.Top.{IsOneOf}
 
 no_fault_here : (r : Reply) → counts_fault r ≡ 0 → is_fault r ≡ false
@@ -59,19 +59,13 @@ with_failing_sink n is =
 pub fault_free_or_failed : (journal : List Entry) → faults_in journal ≡ 0 → IsOneOf (status_of journal) (0 ∷ 5 ∷ 7 ∷ 8 ∷ [])
 fault_free_or_failed journal none = with_failing_sink (status_of journal) (fault_free journal none)
 
--- an entry that shows a clash is one
-is_shown : (r : Reply) → is_clash r ≡ true → IsClash r
-is_shown (says.Clash h old new) e = tt
-is_shown (says.ZeroHash form) e = tt
-is_shown _ e = cc
-
 -- what each clash shows, a journal that shows a clash shows
 pub shown_by : (X : Type 0) (journal : List Entry) → ((e : Entry) → Contains journal e → IsClash e.reply → X) → list_any shows_clash journal ≡ true → X
 shown_by X [] each e = cc
 shown_by X (x ∷ journal) each e = at (is_clash x.reply) refl e (shown_by X journal (λ y among. each y (in_tail x y journal among)))
   where
     at : (b : Bool) → is_clash x.reply ≡ b → (b || list_any shows_clash journal) ≡ true → (list_any shows_clash journal ≡ true → X) → X
-    at true is e later = each x (in_head x journal) (is_shown x.reply is)
+    at true is e later = each x (in_head x journal) is
     at false is e later = later e
 
 -- the status 7 is a clash's

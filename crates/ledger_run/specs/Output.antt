@@ -10,6 +10,7 @@ use Rattle.ledger_machine.specs.declared.journal.Totals.{Totals}
 use Rattle.ledger_machine.specs.declared.replies.Reply.{Reply}
 use Rattle.ledger_machine.specs.declared.replies.Reply.TheVariants as says
 use Rattle.ledger_machine.specs.Scripts.{line_of}
+use Rattle.ledger_machine.specs.Collisions.{is_clash}
 use Rattle.journal_text.specs.Text.{entry_text, summary_text}
 
 -- the line of an entry, which names the command that it answers
@@ -25,11 +26,6 @@ usage_text = codes "usage: ledger_run replay | swarm" ++ 10 ∷ []
 
 abbrev pub refused_text : ℕ → ℕ → Bytes
 refused_text line cause = codes "refused " ++ decimal line ++ codes " " ++ decimal cause ++ 10 ∷ []
-
-abbrev pub is_clash : Reply → Bool
-is_clash (says.Clash h old new) = true
-is_clash (says.ZeroHash form) = true
-is_clash _ = false
 
 abbrev pub is_fault : Reply → Bool
 is_fault says.Fault = true
