@@ -49,6 +49,13 @@ impl Blob {
         Ok(Blob::new(Vec::from_slice(alloc, bytes)?))
     }
 
+    /// The bytes, given back without taking memory.
+    pub fn into_bytes(self) -> Vec<u8>
+        ensures { result.items ≡ self }
+    {
+        self.bytes
+    }
+
     /// The bytes.
     pub fn bytes(&self) -> &[u8]
         ensures { result.now ≡ self.now }

@@ -1,8 +1,9 @@
 //! Hashes of 32 bytes, the functions that make them, and the prefixes of what is hashed.
 #![tactic(auto)]
 
-ghost use Rattle.std.specs.Prelude.{◌≡◌, ◌≢◌, ◌+◌, ◌%◌, ◌∷◌, ◌++◌, List, ℕ, length, replicate, take, sum, refl, IfOk, MatchBool, MatchResult};
-ghost use Rattle.half_hash.specs.Half.{sha512_half, byte_sum_half, length-sha512_half};
+ghost use Rattle.std.specs.Prelude.{◌≡◌, ◌+◌, ◌%◌, ◌∷◌, ◌++◌, List, ℕ, replicate, take, sum};
+ghost use Rattle.half_hash.specs.Half.{IsHalf, sha512_half, byte_sum_half};
+ghost use Rattle.half_hash.specs.Halves.{sha512_is, byte_sum_is};
 ghost use Rattle.half_hash.specs.Zero.{zero_hash, is_zero as all_zero};
 
 mod bytes;
@@ -27,8 +28,8 @@ pub trait NodeHash: Copy + Send + Sync {
     fn half_parts(a: &[u8], b: &[u8], c: &[u8]) -> Hash32
         ensures { result ≡ half (a.now ++ b.now ++ c.now) };
 
-    /// A hash has 32 bytes.
-    ghost half_size: { (bytes : List ℕ) → length (half bytes) ≡ 32 };
+    /// A hash is 32 bytes.
+    ghost is_half: { IsHalf half };
 }
 
 /// SHA-512Half: the first 32 bytes of the SHA-512 digest (FIPS 180-4), as the XRP Ledger hashes.
@@ -38,7 +39,7 @@ pub struct Half512;
 impl NodeHash for Half512 {
     ghost half = { sha512_half };
 
-    ghost half_size = { length-sha512_half };
+    ghost is_half = { sha512_is };
 
     fn half(bytes: &[u8]) -> Hash32 {
         first_half(&Sha512::digest(bytes))
@@ -52,6 +53,11 @@ impl NodeHash for Half512 {
         first_half(&hasher.finalize())
     }
 }
+
+/// For proofs: a hash is 32 bytes. It does nothing.
+pub fn known_half<H: NodeHash>()
+    ensures { IsHalf H.half }
+{}
 
 fn first_half(digest: &[u8; 64]) -> Hash32
     ensures { result ≡ take 32 digest.now }
@@ -69,7 +75,7 @@ pub struct TinyHash;
 impl NodeHash for TinyHash {
     ghost half = { byte_sum_half };
 
-    ghost half_size = { λ bytes. refl };
+    ghost is_half = { byte_sum_is };
 
     fn half(bytes: &[u8]) -> Hash32 {
         of_sum(added(0, bytes))

@@ -15,10 +15,10 @@ use Rattle.ledger_machine.specs.Scripts.{word_of}
 use Rattle.ledger_machine.specs.declared.commands.Command.{Command}
 use Rattle.ledger_machine.specs.declared.journal.Entry.{Entry}
 use Rattle.ledger_machine.specs.declared.journal.Totals.{Totals}
-use Rattle.ledger_machine.specs.declared.replies.HeadOffered.{HeadOffered}
-use Rattle.ledger_machine.specs.declared.replies.HeadOffered.TheVariants as head
-use Rattle.ledger_machine.specs.declared.replies.Offered.{Offered}
-use Rattle.ledger_machine.specs.declared.replies.Offered.TheVariants as offered
+use Rattle.ledger_spec.specs.declared.outcomes.HeadOffered.{HeadOffered}
+use Rattle.ledger_spec.specs.declared.outcomes.HeadOffered.TheVariants as head
+use Rattle.ledger_spec.specs.declared.outcomes.Offered.{Offered}
+use Rattle.ledger_spec.specs.declared.outcomes.Offered.TheVariants as offered
 use Rattle.ledger_machine.specs.declared.replies.WantReply.{WantReply}
 use Rattle.ledger_machine.specs.declared.replies.WantReply.TheVariants as want
 use Rattle.ledger_machine.specs.declared.replies.PeerReply.{PeerReply}
@@ -242,7 +242,8 @@ reply_text (reply.Swap r) = swap_text r
 
 -- the line of an entry: its number, its actor, the command's word and the reply
 abbrev pub entry_text : Command → Entry → Bytes
-entry_text command e = decimal e.line ++ codes " " ++ decimal e.actor ++ codes " " ++ word_of command ++ codes " " ++ reply_text e.reply ++ codes "\n"
+entry_text command e =
+    decimal e.line ++ codes " " ++ decimal e.actor ++ codes " " ++ word_of command ++ codes " " ++ reply_text e.reply ++ codes "\n"
 
 -- a number, and `-` while it is unset
 abbrev pub optional_text : Option ℕ → Bytes

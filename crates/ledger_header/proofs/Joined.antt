@@ -1,13 +1,15 @@
 -- The fields joined to the 118 bytes, and the bytes taken apart.
-use Rattle.std.proofs.Common.{◌≡◌, ◌≤◌, ◌<◌, ◌+◌, ℕ, zero, suc, [], ◌∷◌, ◌++◌, length, take, drop, get_or, refl, sym, ap, ◌∙◌, arith, inl, inr, length-append, length-drop, length-take}
+use Rattle.std.proofs.Common.{◌≡◌, ◌≤◌, ◌<◌, ◌+◌, ℕ, zero, suc, [], ◌∷◌, ◌++◌, length, take, drop, get_or, refl, sym, ap, ◌∙◌, arith, inl}
+use Rattle.std.proofs.Common.{inr, length-append, length-drop, length-take}
 use Rattle.std.proofs.lemmas.Bool.{cases_lt}
-use Rattle.std.proofs.lemmas.List.{append_assoc, drop-drop, take_at, drop_at, take_all, drop_more, take-append-drop, length-take-le, get_or-take, get_or-drop, get_or_past, nil_from_length}
+use Rattle.std.proofs.lemmas.List.{append_assoc, drop-drop, take_at, drop_at, take_all, drop_more, take-append-drop, length-take-le}
+use Rattle.std.proofs.lemmas.List.{get_or-take, get_or-drop, get_or_past, nil_from_length}
 use Rattle.std.proofs.lemmas.Nat.{be_bytes_4, be_bytes_8, from_be_bytes-to_be_bytes_4, from_be_bytes-to_be_bytes_8}
 use Rattle.std.specs.Int.{w32, w64, to_be_bytes, from_be_bytes}
 use Rattle.ledger_spec.specs.Bytes.{Bytes}
-use Rattle.ledger_spec.specs.Header.{header_bytes}
+use Rattle.ledger_spec.specs.Header.{header_bytes, IsHeader}
 use Rattle.ledger_header.specs.declared.Header.{Header}
-use Rattle.ledger_header.specs.Fields.{fields, IsHeader, Reads}
+use Rattle.ledger_header.specs.Fields.{fields, Reads}
 
 abbrev pub IsBytes : Bytes → Type 0
 IsBytes bytes = (i : ℕ) → get_or bytes i 0 < 256
@@ -85,7 +87,7 @@ sized : (n : ℕ) (piece t : Bytes) → length piece ≡ n → take (length piec
 sized n piece t e is = ap (λ k. take k t) (sym e) ∙ is
 
 -- the fields' bytes read as the fields
-pub parted : (h : Header) (b : Bytes) → IsHeader h → b ≡ header_bytes (fields h) → Reads b h
+pub parted : (h : Header) (b : Bytes) → IsHeader (fields h) → b ≡ header_bytes (fields h) → Reads b h
 unfolding header_bytes
 parted h b is e =
     let s = to_be_bytes w32 h.seq in
@@ -150,7 +152,7 @@ pub record Writes (h : Header) (b1 b2 b3 b4 b5 b6 b7 b8 : Bytes) : Type 0 where
 end_at : (n end : ℕ) (b t : Bytes) → n ≡ end → take n b ≡ t → take end b ≡ t
 end_at n end b t e is = ap (λ k. take k b) (sym e) ∙ is
 
-pub written : (h : Header) (b1 b2 b3 b4 b5 b6 b7 b8 : Bytes) → IsHeader h → length b8 ≡ 118 → Writes h b1 b2 b3 b4 b5 b6 b7 b8 → b8 ≡ header_bytes (fields h)
+pub written : (h : Header) (b1 b2 b3 b4 b5 b6 b7 b8 : Bytes) → IsHeader (fields h) → length b8 ≡ 118 → Writes h b1 b2 b3 b4 b5 b6 b7 b8 → b8 ≡ header_bytes (fields h)
 unfolding header_bytes
 written h b1 b2 b3 b4 b5 b6 b7 b8 is size w =
     let p2 : take 12 b2 ≡ to_be_bytes w32 h.seq ++ to_be_bytes w64 h.drops = w.drops ∙ ap (λ t. t ++ to_be_bytes w64 h.drops) w.seq in
@@ -162,7 +164,7 @@ written h b1 b2 b3 b4 b5 b6 b7 b8 is size w =
     let all : length b8 ≤ 118 = omega arith in
     sym (take_all 118 b8 all) ∙ w.last ∙ ap (λ t. t ++ h.resolution ∷ h.flags ∷ []) p7
 
-pub length-header_bytes : (h : Header) (b : Bytes) → IsHeader h → b ≡ header_bytes (fields h) → length b ≡ 118
+pub length-header_bytes : (h : Header) (b : Bytes) → IsHeader (fields h) → b ≡ header_bytes (fields h) → length b ≡ 118
 unfolding header_bytes
 length-header_bytes h b is e =
     let s = to_be_bytes w32 h.seq ++ to_be_bytes w64 h.drops in

@@ -1,5 +1,5 @@
 -- A header's fields, and how they are read of its bytes.
-use Rattle.std.specs.Prelude.{◌≡◌, ◌<◌, ◌^◌, length, take, drop, slice_index}
+use Rattle.std.specs.Prelude.{◌≡◌, take, drop, slice_index}
 use Rattle.std.specs.Int.{w32, w64, from_be_bytes}
 use Rattle.ledger_spec.specs.Bytes.{Bytes}
 use Rattle.ledger_spec.specs.Header.{HeaderFields, seq_of, tx_root_of, state_root_of, close_of}
@@ -17,18 +17,6 @@ fields h = record {
   resolution = h.resolution;
   flags = h.flags;
 }
-
--- the numbers are within their sizes, and the hashes have 32 bytes
-pub record IsHeader (h : Header) : Type 0 where
-  pub seq : h.seq < 2 ^ 32
-  pub drops : h.drops < 2 ^ 64
-  pub parent : length h.parent ≡ 32
-  pub tx_root : length h.tx_root ≡ 32
-  pub state_root : length h.state_root ≡ 32
-  pub parent_close : h.parent_close < 2 ^ 32
-  pub close : h.close < 2 ^ 32
-  pub resolution : h.resolution < 2 ^ 8
-  pub flags : h.flags < 2 ^ 8
 
 -- the fields as they are read of the bytes, four of them by the words of the definitions
 pub record Reads (bytes : Bytes) (h : Header) : Type 0 where

@@ -19,8 +19,8 @@
 ghost use Rattle.std.specs.Prelude.{◌≡◌, ◌↔◌, ◌++◌, length, IfErr, IfOk, IfSome, IsOk, Ok};
 ghost use Rattle.std.specs.Option.{option_map};
 ghost use Rattle.ledger_spec.specs.Forms.{header_prefix, header_of};
-ghost use Rattle.ledger_spec.specs.Header.{header_bytes};
-ghost use Rattle.ledger_header.specs.Fields.{fields, IsHeader, Reads};
+ghost use Rattle.ledger_spec.specs.Header.{header_bytes, IsHeader};
+ghost use Rattle.ledger_header.specs.Fields.{fields, Reads};
 
 mod reading;
 mod writing;
@@ -88,7 +88,7 @@ impl Header {
         ensures reads { IfOk result (λ h. Reads bytes.now h) }
 
         // a header's bytes are read as that header
-        ensures back { (h : Header) → IsHeader h → bytes.now ≡ header_bytes (fields h) → result ≡ Ok h }
+        ensures back { (h : Header) → IsHeader (fields h) → bytes.now ≡ header_bytes (fields h) → result ≡ Ok h }
     {
         if bytes.len() != 118 {
             return Err(HeaderFault::Length(bytes.len()));
@@ -128,7 +128,7 @@ impl Header {
 
     /// For proofs: the numbers are within their sizes, and the hashes have 32 bytes. It does nothing.
     pub fn known(&self)
-        ensures { IsHeader self.now }
+        ensures { IsHeader (fields self.now) }
     {
         sized(*self);
     }
@@ -136,7 +136,7 @@ impl Header {
 
 // For proofs: what a header's type says of it.
 fn sized(header: Header)
-    ensures { IsHeader header }
+    ensures { IsHeader (fields header) }
 {
     header.parent.known();
     header.tx_root.known();

@@ -13,8 +13,8 @@ use Rattle.ledger_spec.specs.Forms.{Held, inner, leaf, header, form_of, inner_of
 use Rattle.ledger_spec.specs.Findings.{walk, walk_map, walk_ledger, Finding, findings, lacks}
 use Rattle.ledger_spec.specs.Wire.{read_wire}
 use Rattle.ledger_machine.specs.declared.commands.Command.TheVariants as command
-use Rattle.ledger_machine.specs.declared.replies.Offered.TheVariants as offered
-use Rattle.ledger_machine.specs.declared.replies.HeadOffered.TheVariants as head
+use Rattle.ledger_spec.specs.declared.outcomes.Offered.TheVariants as offered
+use Rattle.ledger_spec.specs.declared.outcomes.HeadOffered.TheVariants as head
 use Rattle.ledger_machine.specs.declared.replies.BaseReply.TheVariants as base
 use Rattle.ledger_machine.specs.declared.replies.NodeReply.TheVariants as node
 use Rattle.ledger_machine.specs.declared.replies.Reply.TheVariants as says

@@ -1,4 +1,4 @@
--- The rows of `base` and `node`. A bad outcome charges nobody yet.
+-- The rows of `base` and `node`. A bad outcome charges nobody yet: `after_base` and `after_offer` know the peer, and leave it as it is.
 use Rattle.std.specs.Prelude.{ℕ, ◌==◌, Bool, if◌then◌else◌, List, [], ◌∷◌, ◌++◌, Option, None, Some, Result, Ok, Err}
 use Rattle.std.specs.List.{list_any}
 use Rattle.ledger_spec.specs.Maps.{hash_cmp, get_in}
@@ -7,15 +7,16 @@ use Rattle.ledger_spec.specs.declared.Kind.TheVariants as kinds
 use Rattle.ledger_spec.specs.Bytes.{Bytes, Hash, Half, Lookup}
 use Rattle.ledger_spec.specs.Forms.{header_prefix}
 use Rattle.ledger_spec.specs.Wire.{read_offered}
-use Rattle.ledger_machine.specs.declared.replies.Offered.{Offered}
-use Rattle.ledger_machine.specs.declared.replies.HeadOffered.{HeadOffered}
-use Rattle.ledger_machine.specs.declared.replies.HeadOffered.TheVariants as head
+use Rattle.ledger_spec.specs.declared.outcomes.Offered.{Offered}
+use Rattle.ledger_spec.specs.declared.outcomes.HeadOffered.{HeadOffered}
+use Rattle.ledger_spec.specs.declared.outcomes.HeadOffered.TheVariants as head
 use Rattle.ledger_machine.specs.declared.replies.BaseReply.TheVariants as base
 use Rattle.ledger_machine.specs.declared.replies.NodeReply.TheVariants as node
 use Rattle.ledger_machine.specs.declared.replies.Reply.{Reply}
 use Rattle.ledger_machine.specs.declared.replies.Reply.TheVariants as says
 use Rattle.ledger_machine.specs.State.{State, Acquisition, form_in}
-use Rattle.ledger_machine.specs.Offers.{Clash, head_outcome, after_head, node_outcome, after_node, stored_by}
+use Rattle.ledger_machine.specs.Offers.{after_head, after_node}
+use Rattle.ledger_spec.specs.Offers.{Clash, head_outcome, head_forms, node_outcome, stored_by}
 
 abbrev pub clash_reply : Clash → Reply
 clash_reply c = says.Clash c.hash c.old c.new
@@ -48,7 +49,8 @@ abbrev pub base_outcomes : Half → State → Hash → Bytes → Option Bytes �
 base_outcomes half s t header state tx =
     let s1 = after_head half s header (head_outcome half (form_in s) t header) in
     let s2 = after_part half s1 t kinds.State state in
-    all_parts (head_outcome half (form_in s) t header) (part_outcome half (form_in s1) t kinds.State state) (part_outcome half (form_in s2) t kinds.Tx tx)
+    all_parts (head_outcome half (form_in s) t header) (part_outcome half (form_in s1) t kinds.State state)
+    (part_outcome half (form_in s2) t kinds.Tx tx)
 
 abbrev pub after_parts : Half → State → Hash → Bytes → Option Bytes → Option Bytes → State
 after_parts half s t header state tx =
@@ -63,9 +65,10 @@ base_for half s p t header state tx (Some a) = if is_present p a then base_outco
 abbrev pub base_reply : Half → State → ℕ → Hash → Bytes → Option Bytes → Option Bytes → Reply
 base_reply half s p t header state tx = base_for half s p t header state tx (get_in hash_cmp s.wanted t)
 
-abbrev pub after_base : Half → State → Hash → Bytes → Option Bytes → Option Bytes → Reply → State
-after_base half s t header state tx (says.Base (base.Parts h a b)) = after_parts half s t header state tx
-after_base half s t header state tx _ = s
+-- the state after this peer's base reply was answered so
+abbrev pub after_base : Half → State → ℕ → Hash → Bytes → Option Bytes → Option Bytes → Reply → State
+after_base half s p t header state tx (says.Base (base.Parts h a b)) = after_parts half s t header state tx
+after_base half s p t header state tx _ = s
 
 abbrev pub one_reply : Result Offered Clash → Reply
 one_reply (Ok o) = says.Node (node.One o)
@@ -80,21 +83,38 @@ node_for half s p t kind path blob (Some a) =
 abbrev pub node_reply : Half → State → ℕ → Hash → Kind → List ℕ → Bytes → Reply
 node_reply half s p t kind path blob = node_for half s p t kind path blob (get_in hash_cmp s.wanted t)
 
-abbrev pub after_offer : Half → State → Hash → Kind → List ℕ → Bytes → Reply → State
-after_offer half s t kind path blob (says.Node (node.One o)) = after_node half s t kind path blob
-after_offer half s t kind path blob _ = s
+-- the state after this peer's node was answered so
+abbrev pub after_offer : Half → State → ℕ → Hash → Kind → List ℕ → Bytes → Reply → State
+after_offer half s p t kind path blob (says.Node (node.One o)) = after_node half s t kind path blob
+after_offer half s p t kind path blob _ = s
 
--- the forms that the parts would store
-abbrev pub head_forms : Result HeadOffered Clash → Bytes → List Bytes
-head_forms (Ok head.Good) bytes = (header_prefix ++ bytes) ∷ []
-head_forms _ bytes = []
-
+-- the forms that a part stores
 abbrev pub node_forms : Half → State → Hash → Kind → List ℕ → Option Bytes → List Bytes
 node_forms half s t kind path None = []
 node_forms half s t kind path (Some blob) = stored_by (read_offered half blob) (node_outcome half (form_in s) t kind path blob)
 
-abbrev pub base_forms : Half → State → Hash → Bytes → Option Bytes → Option Bytes → List Bytes
-base_forms half s t header state tx =
-    let s1 = after_head half s header (head_outcome half (form_in s) t header) in
-    head_forms (head_outcome half (form_in s) t header) header ++ node_forms half s1 t kinds.State [] state
-    ++ node_forms half (after_part half s1 t kinds.State state) t kinds.Tx [] tx
+-- nothing is judged behind a clash
+abbrev pub unless_clash : {X : Type 0} → Result X Clash → List Bytes → List Bytes
+unless_clash (Ok x) forms = forms
+unless_clash (Err c) forms = []
+
+-- the forms that the parts of a base reply store, each judged after the one before
+abbrev pub parts_forms : Half → State → Hash → Bytes → Option Bytes → Option Bytes → List Bytes
+parts_forms half s t header state tx =
+    let judged = head_outcome half (form_in s) t header in
+    let s1 = after_head half s header judged in
+    let s2 = after_part half s1 t kinds.State state in
+    head_forms judged header ++ unless_clash judged (node_forms half s1 t kinds.State [] state
+    ++ unless_clash (part_outcome half (form_in s1) t kinds.State state) (node_forms half s2 t kinds.Tx [] tx))
+
+-- nothing is judged of a peer that isn't present
+abbrev pub if_present : ℕ → Option Acquisition → List Bytes → List Bytes
+if_present p None forms = []
+if_present p (Some a) forms = if is_present p a then forms else []
+
+-- the own forms of a base reply, and of a node
+abbrev pub base_forms : Half → State → ℕ → Hash → Bytes → Option Bytes → Option Bytes → List Bytes
+base_forms half s p t header state tx = if_present p (get_in hash_cmp s.wanted t) (parts_forms half s t header state tx)
+
+abbrev pub offer_forms : Half → State → ℕ → Hash → Kind → List ℕ → Bytes → List Bytes
+offer_forms half s p t kind path blob = if_present p (get_in hash_cmp s.wanted t) (node_forms half s t kind path (Some blob))

@@ -1,5 +1,6 @@
 -- The row of `check`.
-use Rattle.std.specs.Prelude.{ℕ, ◌==◌, ◌&&◌, not, Bool, true, false, nat_lt, if◌then◌else◌, List, [], ◌∷◌, ◌++◌, length, take, Option, None, Some}
+use Rattle.std.specs.Prelude.{ℕ, ◌==◌, ◌&&◌, not, Bool, true, false, nat_lt, if◌then◌else◌, List, [], ◌∷◌, ◌++◌, length, take, Option}
+use Rattle.std.specs.Prelude.{None, Some}
 use Rattle.std.specs.List.{filter, filter_map, list_any}
 use Rattle.std.specs.Option.{option_map_or}
 use Rattle.ledger_spec.specs.Maps.{hash_cmp, get_in}
@@ -10,9 +11,10 @@ use Rattle.ledger_spec.specs.Bytes.{Bytes, Hash, Half, is_zero, same_bytes}
 use Rattle.ledger_spec.specs.Header.{seq_of, state_root_of}
 use Rattle.ledger_spec.specs.Forms.{header_of}
 use Rattle.ledger_spec.specs.Rules.{rule_number, same_kind}
-use Rattle.ledger_spec.specs.Findings.{Finding, lacks, breaks, seen}
+use Rattle.ledger_spec.specs.Findings.{Finding, missing_of, first_broken, seen}
 use Rattle.ledger_machine.specs.declared.replies.CheckReply.{CheckReply}
-use Rattle.ledger_machine.specs.declared.replies.CheckReply.TheVariants.{Complete, Need, Waiting, NoPeer, SeqDiffers, ZeroState, BelowFloor, Malformed, NotOpen}
+use Rattle.ledger_machine.specs.declared.replies.CheckReply.TheVariants.{Complete, Need, Waiting, NoPeer, SeqDiffers, ZeroState}
+use Rattle.ledger_machine.specs.declared.replies.CheckReply.TheVariants.{BelowFloor, Malformed, NotOpen}
 use Rattle.ledger_machine.specs.State.{State, Acquisition, form_in, with_wanted, ended, listed_with}
 
 -- how many places are asked for at once
@@ -23,15 +25,6 @@ abbrev pub same_place : Place → Place → Bool
 same_place Header Header = true
 same_place (Node kind path) (Node other way) = same_kind kind other && same_bytes path way
 same_place _ _ = false
-
-abbrev pub missing_of : Finding → Option Place
-missing_of (lacks place) = Some place
-missing_of (breaks place fault) = None
-
-abbrev pub first_broken : List Finding → Option (Place × ShapeFault)
-first_broken [] = None
-first_broken (lacks place ∷ rest) = first_broken rest
-first_broken (breaks place fault ∷ rest) = Some (place, fault)
 
 -- the places that weren't asked since the last tick
 abbrev pub unasked : List Place → List Place → List Place

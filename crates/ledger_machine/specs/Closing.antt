@@ -1,5 +1,5 @@
 -- The row of `close`: the forms of a new ledger, and whether they can be stored.
-use Rattle.std.specs.Prelude.{ℕ, ◌+◌, ◌==◌, nat_lt, if◌then◌else◌, List, [], ◌∷◌, ◌++◌, length, slice_index, Option, None, Some}
+use Rattle.std.specs.Prelude.{ℕ, ◌+◌, ◌==◌, nat_lt, if◌then◌else◌, List, [], ◌∷◌, ◌++◌, length, Option, None, Some}
 use Rattle.std.specs.List.{find}
 use Rattle.std.specs.Option.{option_or, unwrap_or}
 use Rattle.ledger_spec.specs.Maps.{hash_cmp, numbered_cmp, get_in, has_in}
@@ -13,22 +13,23 @@ use Rattle.ledger_machine.specs.declared.replies.CloseReply.TheVariants as close
 use Rattle.ledger_machine.specs.declared.replies.Reply.{Reply}
 use Rattle.ledger_machine.specs.declared.replies.Reply.TheVariants as says
 use Rattle.ledger_machine.specs.State.{State, Session, form_in, with_form, with_forms, listed_with}
-use Rattle.ledger_machine.specs.Offers.{Clash}
+use Rattle.ledger_spec.specs.Offers.{Clash}
 use Rattle.ledger_machine.specs.Base.{clash_reply}
+use Rattle.ledger_machine.specs.Scripts.{drops_in, close_in, resolution_in, flags_in}
 use Rattle.ledger_machine.specs.Sessions.{without_session}
 
 -- the header after its parent; the fields are total drops, close time, resolution and flags
 abbrev pub closing_header : Half → Session → Bytes → List ℕ → Bytes
 closing_header half e parent fields = header_bytes record {
   seq = seq_of parent + 1;
-  drops = slice_index fields 0;
+  drops = drops_in fields;
   parent = e.base;
   tx_root = root_of half txs e.txs;
   state_root = root_of half accounts e.accounts;
   parent_close = close_of parent;
-  close = slice_index fields 1;
-  resolution = slice_index fields 2;
-  flags = slice_index fields 3;
+  close = close_in fields;
+  resolution = resolution_in fields;
+  flags = flags_in fields;
 }
 
 abbrev pub new_header : Half → State → Session → List ℕ → Bytes
@@ -45,7 +46,8 @@ clash_under h form (Some old) = if same_bytes old form then None else Some (reco
 -- the first form whose hash is held with another form, by the store or by an earlier one
 abbrev pub first_clash : Half → State → List Bytes → Option Clash
 first_clash half s [] = None
-first_clash half s (form ∷ rest) = option_or (clash_under (half form) form (form_in s (half form))) (first_clash half (with_form half s form) rest)
+first_clash half s (form ∷ rest) =
+    option_or (clash_under (half form) form (form_in s (half form))) (first_clash half (with_form half s form) rest)
 
 abbrev pub closed_or_clash : Hash → Option Clash → Reply
 closed_or_clash h None = says.Close (close.Closed h)

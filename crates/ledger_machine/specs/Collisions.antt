@@ -1,5 +1,6 @@
 -- Two different forms that a script offers, with one hash.
-use Rattle.std.specs.Prelude.{◌≡◌, ◌≢◌, ℕ, ◌==◌, Bool, true, false, IsTrue, if◌then◌else◌, List, [], ◌∷◌, ◌++◌, length, Option, None, Some, Result, Ok, Err}
+use Rattle.std.specs.Prelude.{◌≡◌, ◌≢◌, ℕ, ◌==◌, Bool, true, false, IsTrue, if◌then◌else◌, List, [], ◌∷◌, ◌++◌, length, Option, None}
+use Rattle.std.specs.Prelude.{Some, Result, Ok, Err}
 use Rattle.std.specs.List.{flat_map, Contains}
 use Rattle.ledger_spec.specs.Bytes.{Bytes, Half}
 use Rattle.ledger_spec.specs.Forms.{Held, form_of, header_prefix}

@@ -43,10 +43,12 @@ pub record IsComplete (half : Half) (s : State) (t : Hash) (asked : ℕ) : Type 
 -- an answer to a check of an open acquisition, which met no fault and had memory, is complete exactly where the ledger is
 abbrev pub IsExact : Half → State → Command → Reply → Type 0
 IsExact half s (command.Check t) reply =
-    (a : Acquisition) → get_in hash_cmp s.wanted t ≡ Some a → reply ≢ says.Fault → reply ≢ says.Memory → (reply ≡ says.Check check.Complete) ↔ IsComplete half s t a.seq
+    (a : Acquisition) → get_in hash_cmp s.wanted t ≡ Some a → reply ≢ says.Fault → reply ≢ says.Memory
+    → (reply ≡ says.Check check.Complete) ↔ IsComplete half s t a.seq
 IsExact half s _ reply = Unit {0}
 
 -- each check of a run is exact in the state before it
-abbrev pub AreExact : (half : Half) (lines : List Line) (s : State) (entries : List Entry) (s' : State) → Run half lines s entries s' → Type 0
+abbrev pub AreExact : (half : Half) (lines : List Line) (s : State) (entries : List Entry) (s' : State)
+    → Run half lines s entries s' → Type 0
 AreExact half lines s [] s' run = Unit {0}
 AreExact half lines s (e ∷ rest) s' run = IsExact half s run.1.line.command e.reply × AreExact half lines run.0 rest s' run.2

@@ -1,16 +1,16 @@
 -- The rows of `get` and `page`: what a path of nodes says, and what the next items are.
-use Rattle.std.specs.Prelude.{◌≡◌, ◌≢◌, ◌⊎◌, ℕ, List, [], map, take, Option, None, Some}
-use Rattle.std.specs.List.{filter, Contains}
+use Rattle.std.specs.Prelude.{◌≡◌, ◌≢◌, ℕ, List, [], map, Option, None, Some}
+use Rattle.std.specs.List.{Contains}
 use Rattle.std.specs.Option.{option_map, option_and_then}
-use Rattle.std.specs.Ordering.{is_gt}
-use Rattle.ledger_spec.specs.Maps.{hash_cmp, numbered_cmp, get_in}
+use Rattle.ledger_spec.specs.Maps.{numbered_cmp, get_in}
 use Rattle.ledger_spec.specs.declared.Kind.{Kind}
-use Rattle.ledger_spec.specs.Bytes.{Hash, Half, Items}
+use Rattle.ledger_spec.specs.Bytes.{Hash, Half}
 use Rattle.ledger_spec.specs.Forms.{Held, leaf, form_of, hash_of}
-use Rattle.ledger_spec.specs.Tree.{AreItems, root_of, Entry}
+use Rattle.ledger_spec.specs.Tree.{Entry}
 use Rattle.ledger_spec.specs.Findings.{items_of}
+use Rattle.ledger_spec.specs.Pages.{after_key, IsPageOrShows}
 use Rattle.ledger_spec.specs.Spots.{header_in, header_root}
-use Rattle.ledger_spec.specs.Reads.{Outcome, nothing, value, follow, Shows}
+use Rattle.ledger_spec.specs.Reads.{Outcome, nothing, value, follow}
 use Rattle.shamap_node.specs.Nodes.{held}
 use Rattle.ledger_machine.specs.declared.replies.GetReply.TheVariants as gets
 use Rattle.ledger_machine.specs.declared.replies.PageReply.TheVariants as pages
@@ -38,10 +38,7 @@ pub record IsRead (half : Half) (kind : Kind) (key root : Hash) (reply : Reply) 
   pub says : follow half kind root key used ≡ outcome_of reply
   pub some : outcome_of reply ≢ None
 
--- the first n items behind a key
-abbrev pub after_key : Hash → ℕ → Items → List Entry
-after_key key n items = take n (filter (λ e. is_gt (hash_cmp e.0 key)) items)
-
+-- a leaf's key and data
 abbrev pub leaf_entry : Held → Entry
 leaf_entry (leaf kind key bytes) = (key, bytes)
 leaf_entry _ = ([], [])
@@ -52,9 +49,10 @@ page_of (says.Page (pages.Items leaves)) = Some (map (λ l. leaf_entry (held l.v
 page_of _ = None
 
 -- the page is the map's next items, the nodes used are stored, and the page is that of every map with this root or the nodes show two
-pub record IsPage (half : Half) (s : State) (kind : Kind) (key : Hash) (n : ℕ) (root : Hash) (reply : Reply) (used : List Held) : Type 0 where
+pub record IsPage (half : Half) (s : State) (kind : Kind) (key : Hash) (n : ℕ) (root : Hash) (reply : Reply)
+    (used : List Held) : Type 0 where
   pub page : List Entry
   pub says : page_of reply ≡ Some page
   pub own : page ≡ after_key key n (items_of half (form_in s) kind root)
   pub stored : (u : Held) → Contains used u → form_in s (hash_of half u) ≡ Some (form_of u)
-  pub every : (items : Items) → AreItems items → root_of half kind items ≡ root → (page ≡ after_key key n items) ⊎ Shows half kind items root used
+  pub every : IsPageOrShows half kind root key n used page

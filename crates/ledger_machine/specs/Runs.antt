@@ -1,13 +1,14 @@
 -- Runs of the machine along a journal, and what a journal is to its script.
-use Rattle.std.specs.Prelude.{◌≡◌, ◌≢◌, ℕ, ◌<◌, ◌==◌, List, [], ◌∷◌, map, slice_get, Some}
-use Rattle.std.specs.List.{filter, Contains}
+use Rattle.std.specs.Prelude.{◌≡◌, ◌≢◌, ℕ, ◌<◌, ◌==◌, Bool, false, List, [], ◌∷◌, map, length, slice_get, Option, Some, IsSomeAnd}
+use Rattle.std.specs.List.{filter, list_any, Contains}
+use Rattle.std.specs.FinMap as finite
 use mathlib.Core.List.{IsPrefix}
 use Rattle.shamap_node.specs.Nodes.{held}
 use Rattle.ledger_spec.specs.Bytes.{Half}
 use Rattle.ledger_spec.specs.Forms.{Held}
 use Rattle.ledger_machine.specs.declared.commands.Line.{Line}
 use Rattle.ledger_machine.specs.declared.journal.Entry.{Entry}
-use Rattle.ledger_machine.specs.State.{State}
+use Rattle.ledger_machine.specs.State.{State, opening}
 use Rattle.ledger_machine.specs.Steps.{Step}
 use Rattle.ledger_machine.specs.Scripts.{line_of, numbers_of}
 
@@ -32,6 +33,14 @@ abbrev pub Run : Half → List Line → State → List Entry → State → Type 
 Run half lines s [] s' = s' ≡ s
 Run half lines s (e ∷ rest) s' = (mid : State) × Answers half lines s e mid × Run half lines mid rest s'
 
+-- the opening of a script with an interval: its records, all of them born in epoch 0; a script has no records at present
+abbrev pub opening_of : List Line → ℕ → State
+opening_of lines interval = opening finite.empty interval
+
+-- the journal is a run of the script from its opening to the state
+abbrev pub IsRunOf : Half → List Line → ℕ → List Entry → State → Type 0
+IsRunOf half lines interval journal s = Run half lines (opening_of lines interval) journal s
+
 -- the numbers of the lines that an actor's entries answer, in order
 abbrev pub answered_by : ℕ → List Entry → List ℕ
 answered_by actor entries = map (λ e. e.line) (filter (λ e. e.actor == actor) entries)
@@ -50,3 +59,19 @@ pub record Projects (lines : List Line) (entries : List Entry) : Type 0 where
 -- each line has its entry
 abbrev pub IsFull : List Line → List Entry → Type 0
 IsFull lines entries = (a : ℕ) → a < actors → answered_by a entries ≡ numbers_of a lines
+
+-- the actor has no line left
+abbrev pub IsDone : List Line → List Entry → ℕ → Type 0
+IsDone lines journal a = answered_by a journal ≡ numbers_of a lines
+
+-- the line of this number has its entry
+abbrev pub is_answered : List Entry → ℕ → Bool
+is_answered journal number = list_any (λ e. e.line == number) journal
+
+-- the actor's next line: as many of its lines stand before it as the actor has entries
+abbrev pub next_line : List Line → List Entry → ℕ → Option Line
+next_line lines journal a = slice_get (filter (λ l. l.actor == a) lines) (length (answered_by a journal))
+
+-- the actor's next line waits for a line that has no entry yet
+abbrev pub IsBlocked : List Line → List Entry → ℕ → Type 0
+IsBlocked lines journal a = IsSomeAnd (next_line lines journal a) (λ l. (l.after ≢ 0) × (is_answered journal l.after ≡ false))

@@ -1,7 +1,7 @@
 -- The lines of a script: their numbers, and the ranges of what they say.
-use Rattle.std.specs.Prelude.{ℕ, ◌<◌, ◌≤◌, ◌==◌, List, [], ◌∷◌, map, codes, IsTrue, Option}
+use Rattle.std.specs.Prelude.{◌≡◌, ℕ, ◌<◌, ◌≤◌, ◌^◌, ◌==◌, List, [], ◌∷◌, length, map, slice_index, codes, IsTrue, Option, None, Some}
 use Rattle.std.specs.List.{filter, find}
-use Rattle.ledger_spec.specs.Bytes.{Bytes, is_nonzero}
+use Rattle.ledger_spec.specs.Bytes.{Bytes, is_nonzero, are_bytes}
 use Rattle.ledger_spec.specs.declared.Kind.{Kind}
 use Rattle.ledger_spec.specs.declared.Kind.TheVariants.{State, Tx, Set}
 use Rattle.ledger_machine.specs.declared.commands.Command.{Command}
@@ -20,6 +20,19 @@ numbers_of actor lines = map (λ l. l.number) (filter (λ l. l.actor == actor) l
 abbrev pub Rises : ℕ → List Line → Type 0
 Rises n [] = Unit {0}
 Rises n (line ∷ lines) = (n < line.number) × Rises line.number lines
+
+-- the four numbers of a close, by name
+abbrev pub drops_in : List ℕ → ℕ
+drops_in fields = slice_index fields 0
+
+abbrev pub close_in : List ℕ → ℕ
+close_in fields = slice_index fields 1
+
+abbrev pub resolution_in : List ℕ → ℕ
+resolution_in fields = slice_index fields 2
+
+abbrev pub flags_in : List ℕ → ℕ
+flags_in fields = slice_index fields 3
 
 -- a map of a ledger
 abbrev pub IsLedgerMap : Kind → Type 0
@@ -48,12 +61,28 @@ word_of (command.Abandon x) = codes "abandon"
 word_of command.Begin = codes "begin"
 word_of command.Swap = codes "swap"
 
--- no target and no key is zero, but for the key that a page stands behind, and maps are a ledger's
+-- what a close says of its header: total drops, close time, resolution and flags
+pub record AreFields (fields : List ℕ) : Type 0 where
+  pub count : length fields ≡ 4
+  pub drops : drops_in fields < 2 ^ 64
+  pub close : close_in fields < 2 ^ 32
+  pub resolution : resolution_in fields < 2 ^ 8
+  pub flags : flags_in fields < 2 ^ 8
+
+-- what peers and edits bring is bytes
+abbrev pub AreBytes : Bytes → Type 0
+AreBytes bytes = IsTrue (are_bytes bytes)
+
+abbrev pub IfBytes : Option Bytes → Type 0
+IfBytes None = Unit {0}
+IfBytes (Some bytes) = AreBytes bytes
+
+-- no target and no key is zero, but for the key that a page stands behind; maps are a ledger's, and what is brought is bytes
 abbrev pub IsInRange : Command → Type 0
 IsInRange (command.Want t seq) = IsTrue (is_nonzero t)
 IsInRange (command.Peer p t) = IsTrue (is_nonzero t)
-IsInRange (command.Base p t head state tx) = IsTrue (is_nonzero t)
-IsInRange (command.Node p t kind path blob) = IsTrue (is_nonzero t) × IsLedgerMap kind
+IsInRange (command.Base p t head state tx) = IsTrue (is_nonzero t) × AreBytes head × IfBytes state × IfBytes tx
+IsInRange (command.Node p t kind path blob) = IsTrue (is_nonzero t) × IsLedgerMap kind × AreBytes blob
 IsInRange (command.Check t) = IsTrue (is_nonzero t)
 IsInRange (command.Tick t) = IsTrue (is_nonzero t)
 IsInRange (command.View v t) = IsTrue (is_nonzero t)
@@ -61,10 +90,10 @@ IsInRange (command.Unview v) = Unit {0}
 IsInRange (command.Get v kind key) = IsTrue (is_nonzero key) × IsLedgerMap kind
 IsInRange (command.Page v kind key n) = IsLedgerMap kind × (1 ≤ n) × (n ≤ 256)
 IsInRange (command.Edit x t) = IsTrue (is_nonzero t)
-IsInRange (command.Put x item) = Unit {0}
+IsInRange (command.Put x item) = AreBytes item.key × AreBytes item.value
 IsInRange (command.Del x key) = IsTrue (is_nonzero key)
-IsInRange (command.Tx x item) = Unit {0}
-IsInRange (command.Close x fields) = Unit {0}
+IsInRange (command.Tx x item) = AreBytes item.key × AreBytes item.value
+IsInRange (command.Close x fields) = AreFields fields
 IsInRange (command.Abandon x) = Unit {0}
 IsInRange command.Begin = Unit {0}
 IsInRange command.Swap = Unit {0}

@@ -1,5 +1,5 @@
 -- The rows of `edit`, `put`, `tx`, `del` and `abandon`.
-use Rattle.std.specs.Prelude.{ℕ, ◌==◌, not, Bool, if◌then◌else◌, [], length, Option, None, Some}
+use Rattle.std.specs.Prelude.{ℕ, ◌==◌, nat_le, not, Bool, if◌then◌else◌, [], length, Option, None, Some}
 use Rattle.std.specs.Option.{option_map_or}
 use Rattle.ledger_spec.specs.Maps.{hash_cmp, numbered_cmp, get_in, has_in, insert_in, set_in, remove_in}
 use Rattle.ledger_spec.specs.declared.Kind.TheVariants as kinds
@@ -17,14 +17,15 @@ abbrev pub edit_reply : State → ℕ × ℕ → Hash → EditReply
 edit_reply s x t =
     if has_in numbered_cmp s.sessions x then edits.InUse
     else if not (is_retained s t) then edits.NotRetained
-    else if stored_seq s t == 4294967295 then edits.LastSeq
+    else if nat_le 4294967295 (stored_seq s t) then edits.LastSeq
     else if length s.sessions == 64 then edits.TooMany
     else edits.Fine
 
 -- a session on the ledger's account state, without transactions
 abbrev pub session_on : Half → State → Hash → Session
 session_on half s t =
-    record { base = t; accounts = items_of half (form_in s) kinds.State (option_map_or (header_root kinds.State) (header_in (form_in s) t) zero_hash); txs = [] }
+    let root = option_map_or (header_root kinds.State) (header_in (form_in s) t) zero_hash in
+    record { base = t; accounts = items_of half (form_in s) kinds.State root; txs = [] }
 
 abbrev pub after_edit : Half → State → ℕ × ℕ → Hash → EditReply → State
 after_edit half s x t edits.Fine = record s { sessions = insert_in numbered_cmp s.sessions x (session_on half s t) }
@@ -36,7 +37,8 @@ has_session s x = has_in numbered_cmp s.sessions x
 
 -- a change of an open session
 abbrev pub with_session : State → ℕ × ℕ → (Session → Session) → State
-with_session s x change = option_map_or (λ e. record s { sessions = set_in numbered_cmp s.sessions x (change e) }) (get_in numbered_cmp s.sessions x) s
+with_session s x change =
+    option_map_or (λ e. record s { sessions = set_in numbered_cmp s.sessions x (change e) }) (get_in numbered_cmp s.sessions x) s
 
 abbrev pub after_put : State → ℕ × ℕ → Hash → Bytes → State
 after_put s x key bytes = with_session s x (λ e. record e { accounts = insert_in hash_cmp e.accounts key bytes })

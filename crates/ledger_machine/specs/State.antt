@@ -80,7 +80,8 @@ due s = due_after s s.last
 -- with a form under its hash; a form that is there is not written again
 abbrev pub with_form : Half → State → Bytes → State
 with_form half s form =
-    if is_some (form_in s (half form)) then s else record s { nodes = finite.insert s.nodes (half form) form; born = set.insert s.born (half form) }
+    if is_some (form_in s (half form)) then s
+    else record s { nodes = finite.insert s.nodes (half form) form; born = set.insert s.born (half form) }
 
 abbrev pub with_forms : Half → State → List Bytes → State
 with_forms half s [] = s
@@ -109,6 +110,10 @@ stored_seq s t = option_map_or seq_of (header_in (form_in s) t) 0
 -- a new acquisition: no peers, nothing asked, no ticks
 abbrev pub fresh : ℕ → Acquisition
 fresh seq = record { seq = seq; present = []; charges = []; asked = []; ticks = 0 }
+
+-- the interval where no word names one
+abbrev pub default_interval : ℕ
+default_interval = 256
 
 -- the opening: nothing but the records, all of them born in epoch 0
 abbrev pub opening : Nodes → ℕ → State

@@ -15,7 +15,7 @@ use Rattle.ledger_machine.specs.State.{State, with_forms, stored_seq}
 use Rattle.ledger_machine.specs.Want.{want_reply, after_want}
 use Rattle.ledger_machine.specs.Peer.{peer_reply, after_peer}
 use Rattle.ledger_machine.specs.Check.{check_reply, after_check}
-use Rattle.ledger_machine.specs.Base.{base_reply, after_base, base_forms, node_reply, after_offer, node_forms}
+use Rattle.ledger_machine.specs.Base.{base_reply, after_base, base_forms, node_reply, after_offer, offer_forms}
 use Rattle.ledger_machine.specs.Ticks.{tick_reply, after_tick}
 use Rattle.ledger_machine.specs.Views.{view_reply, after_view, unview_reply, after_unview}
 use Rattle.ledger_machine.specs.Reading.{view_root, IsRead, IsPage}
@@ -46,29 +46,39 @@ Swaps s (Some v) reply s' = (reply ≡ says.Swap (swaps.Swapped (s.epoch + 1))) 
 
 -- the rows: the answer of each command, a clash or a zero hash among them
 abbrev pub Answered : Half → State → ℕ → Command → Reply → List Held → State → Type 0
-Answered half s a (command.Want t seq) reply used s' = Gives (says.Want (want_reply s t seq)) (after_want s t seq (want_reply s t seq)) reply s'
+Answered half s a (command.Want t seq) reply used s' =
+    Gives (says.Want (want_reply s t seq)) (after_want s t seq (want_reply s t seq)) reply s'
 Answered half s a (command.Peer p t) reply used s' = Gives (says.Peer (peer_reply s p t)) (after_peer s p t (peer_reply s p t)) reply s'
-Answered half s a (command.Base p t head state tx) reply used s' = Gives (base_reply half s p t head state tx) (after_base half s t head state tx reply) reply s'
-Answered half s a (command.Node p t kind path blob) reply used s' = Gives (node_reply half s p t kind path blob) (after_offer half s t kind path blob reply) reply s'
-Answered half s a (command.Check t) reply used s' = Gives (says.Check (check_reply half s t)) (after_check s t (stored_seq s t) (check_reply half s t)) reply s'
+Answered half s a (command.Base p t head state tx) reply used s' =
+    Gives (base_reply half s p t head state tx) (after_base half s p t head state tx reply) reply s'
+Answered half s a (command.Node p t kind path blob) reply used s' =
+    Gives (node_reply half s p t kind path blob) (after_offer half s p t kind path blob reply) reply s'
+Answered half s a (command.Check t) reply used s' =
+    Gives (says.Check (check_reply half s t)) (after_check s t (stored_seq s t) (check_reply half s t)) reply s'
 Answered half s a (command.Tick t) reply used s' = Gives (says.Tick (tick_reply s t)) (after_tick s t (tick_reply s t)) reply s'
-Answered half s a (command.View v t) reply used s' = Gives (says.View (view_reply s (a, v) t)) (after_view s (a, v) t (view_reply s (a, v) t)) reply s'
+Answered half s a (command.View v t) reply used s' =
+    Gives (says.View (view_reply s (a, v) t)) (after_view s (a, v) t (view_reply s (a, v) t)) reply s'
 Answered half s a (command.Unview v) reply used s' = Gives (says.Unview (unview_reply s (a, v))) (after_unview s (a, v)) reply s'
 Answered half s a (command.Get v kind key) reply used s' = Gets half s kind key (view_root s kind (a, v)) reply used s'
 Answered half s a (command.Page v kind key n) reply used s' = Pages half s kind key n (view_root s kind (a, v)) reply used s'
-Answered half s a (command.Edit x t) reply used s' = Gives (says.Edit (edit_reply s (a, x) t)) (after_edit half s (a, x) t (edit_reply s (a, x) t)) reply s'
-Answered half s a (command.Put x item) reply used s' = Gives (says.Put (has_session s (a, x))) (after_put s (a, x) item.key item.value) reply s'
-Answered half s a (command.Tx x item) reply used s' = Gives (says.Tx (has_session s (a, x))) (after_tx s (a, x) item.key item.value) reply s'
+Answered half s a (command.Edit x t) reply used s' =
+    Gives (says.Edit (edit_reply s (a, x) t)) (after_edit half s (a, x) t (edit_reply s (a, x) t)) reply s'
+Answered half s a (command.Put x item) reply used s' =
+    Gives (says.Put (has_session s (a, x))) (after_put s (a, x) item.key item.value) reply s'
+Answered half s a (command.Tx x item) reply used s' =
+    Gives (says.Tx (has_session s (a, x))) (after_tx s (a, x) item.key item.value) reply s'
 Answered half s a (command.Del x key) reply used s' = Gives (says.Del (del_reply s (a, x) key)) (after_del s (a, x) key) reply s'
-Answered half s a (command.Close x fields) reply used s' = Gives (close_reply half s (a, x) fields) (after_close half s (a, x) fields reply) reply s'
+Answered half s a (command.Close x fields) reply used s' =
+    Gives (close_reply half s (a, x) fields) (after_close half s (a, x) fields reply) reply s'
 Answered half s a (command.Abandon x) reply used s' = Gives (says.Abandon (has_session s (a, x))) (without_session s (a, x)) reply s'
-Answered half s a command.Begin reply used s' = Gives (says.Begin (begin_reply s)) (after_begin s (begin_reply s)) reply s' × Begins (begin_reply s) s'
+Answered half s a command.Begin reply used s' =
+    Gives (says.Begin (begin_reply s)) (after_begin s (begin_reply s)) reply s' × Begins (begin_reply s) s'
 Answered half s a command.Swap reply used s' = Swaps s s.turning reply s'
 
 -- a command's own forms: those that it would store
 abbrev pub own_forms : Half → State → ℕ → Command → List Bytes
-own_forms half s a (command.Base p t head state tx) = base_forms half s t head state tx
-own_forms half s a (command.Node p t kind path blob) = node_forms half s t kind path (Some blob)
+own_forms half s a (command.Base p t head state tx) = base_forms half s p t head state tx
+own_forms half s a (command.Node p t kind path blob) = offer_forms half s p t kind path blob
 own_forms half s a (command.Close x fields) = close_forms half s (a, x) fields
 own_forms half s a _ = []
 
@@ -85,10 +95,17 @@ IsRow half s a (command.Node p t kind path blob) reply = reply ≡ node_reply ha
 IsRow half s a (command.Close x fields) reply = reply ≡ close_reply half s (a, x) fields
 IsRow half s a _ reply = ⊥
 
--- the reply and the state that a command may lead to: a fault or want of memory at any command
+-- these commands take no memory and call no store, so they are never refused
+abbrev pub MayBeRefused : Command → Type 0
+MayBeRefused (command.Tick t) = ⊥
+MayBeRefused (command.Unview v) = ⊥
+MayBeRefused (command.Abandon x) = ⊥
+MayBeRefused _ = Unit {0}
+
+-- the reply and the state that a command may lead to: a fault or want of memory at any command that may be refused
 abbrev pub Outcomes : Half → State → ℕ → Command → Reply → List Held → State → Type 0
-Outcomes half s a c says.Fault used s' = Refused half s a c s'
-Outcomes half s a c says.Memory used s' = Refused half s a c s'
+Outcomes half s a c says.Fault used s' = MayBeRefused c × Refused half s a c s'
+Outcomes half s a c says.Memory used s' = MayBeRefused c × Refused half s a c s'
 Outcomes half s a c (says.Clash h old new) used s' = IsRow half s a c (says.Clash h old new) × Refused half s a c s'
 Outcomes half s a c (says.ZeroHash form) used s' = IsRow half s a c (says.ZeroHash form) × Refused half s a c s'
 Outcomes half s a c reply used s' = Answered half s a c reply used s'
@@ -101,7 +118,16 @@ want_target _ _ = []
 abbrev pub own_hashes : Half → State → ℕ → Command → Reply → List Hash
 own_hashes half s a c reply = map half (own_forms half s a c) ++ want_target c reply
 
--- an actor's command leads from s by the reply, for which these nodes were used, to s'; while a rotation is under way it carries what it keeps
+-- only what a read found was read of nodes
+abbrev pub UsesNodes : Reply → List Held → Type 0
+UsesNodes (says.Get gets.Nothing) used = Unit {0}
+UsesNodes (says.Get (gets.Value n)) used = Unit {0}
+UsesNodes (says.Page (pages.Items leaves)) used = Unit {0}
+UsesNodes _ used = used ≡ []
+
+-- An actor's command leads from s by the reply, for which these nodes were used, to s'. While a rotation is under way it carries what
+-- that keeps.
 pub record Step (half : Half) (s : State) (a : ℕ) (c : Command) (reply : Reply) (used : List Held) (s' : State) : Type 0 where
   pub outcome : Outcomes half s a c reply used s'
+  pub uses : UsesNodes reply used
   pub carries : WhileTurning s.turning s'.turning (Carries s s' (own_hashes half s a c reply))

@@ -2,7 +2,7 @@
 ghost use Rattle.std.specs.Prelude.{◌≡◌};
 
 use half_hash::{Blob, Hash32};
-use nib_path::NodeId;
+use ledger_spec::{HeadOffered, Offered};
 use shamap_node::{Node, Place};
 use std::marker::Model;
 use std::sync::Arc;
@@ -36,29 +36,6 @@ impl Places {
     {
         &self.places
     }
-}
-
-/// What became of a node that a peer sent.
-#[derive(Drop)]
-pub enum Offered {
-    Good,
-    Duplicate,
-    BadWire(u8),
-    BadHash { wanted: Hash32, found: Hash32 },
-    NoBase,
-    NoParent(NodeId),
-    EmptyBranch(NodeId),
-    UnderLeaf(NodeId),
-    Malformed(u8),
-}
-
-/// What became of a header that a peer sent.
-#[derive(Drop)]
-pub enum HeadOffered {
-    Good,
-    Duplicate,
-    BadLength(usize),
-    BadHash { found: Hash32 },
 }
 
 /// The answers to `want`.

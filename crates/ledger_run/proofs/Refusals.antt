@@ -1,13 +1,17 @@
 -- What is a script is not refused.
-use Rattle.std.proofs.Common.{◌≡◌, ◌⊎◌, inl, inr, ℕ, ◌+◌, List, [], ◌∷◌, ◌++◌, length, take, Option, Some, None, true, false, cond, refl, sym, ◌∙◌, ap, subst, arith, length-append}
+use Rattle.std.proofs.Common.{◌≡◌, ◌⊎◌, inl, inr, ℕ, ◌+◌, List, [], ◌∷◌, ◌++◌, length, take, Option, Some, None, true, false, cond, refl}
+use Rattle.std.proofs.Common.{sym, ◌∙◌, ap, subst, arith, length-append}
 use Rattle.std.specs.Prelude.{◌==◌}
 use Rattle.std.specs.Option.{IfSome}
 use Rattle.ledger_spec.specs.Bytes.{Bytes}
 use Rattle.ledger_machine.specs.declared.commands.Command.{Command}
 use Rattle.ledger_machine.specs.declared.commands.Line.{Line}
 use Rattle.script_form.specs.Words.{pieces, onto_first}
-use Rattle.script_form.specs.Grammar.{Says, AreLines, IsScript, IsRefused, ended, most_bytes}
-use Rattle.ledger_run.specs.Top.{IsRefusedAt}
+use Rattle.script_form.specs.Grammar.{Says, AreLines, IsScript, IsRefused, ended, most_bytes, most_read}
+use Rattle.std.specs.Borrow.{Bor}
+use Rattle.store_core.specs.Journal.{Ledger}
+use Rattle.ledger_run.specs.declared.status.TheConstants.{FINE, REFUSED, SINK_FAILED, CLASHED, NO_MEMORY}
+use Rattle.ledger_run.specs.Top.{IsOneOf, IsRefusedAt, IsRefusal}
 
 -- the bytes of pieces, with a separator after each
 size : List Bytes → ℕ
@@ -82,6 +86,20 @@ script_stands bytes lines n s r =
           ]
     ]
 
-pub not_refused : (left : Option Bytes) (lines : List Line) (P : Type 0) → IfSome left (λ bytes. IsScript (take (most_bytes + 1) bytes) lines) → IfSome left (λ bytes. IsRefusedAt bytes → P)
+not_refused : (left : Option Bytes) (lines : List Line) (P : Type 0) → IfSome left (λ bytes. IsScript (take most_read bytes) lines) → IfSome left (λ bytes. IsRefusedAt bytes → P)
 not_refused None lines P script = tt
-not_refused (Some bytes) lines P script = λ (refused : IsRefusedAt bytes). absurd (script_stands (take (most_bytes + 1) bytes) lines refused.0 script refused.1)
+not_refused (Some bytes) lines P script = λ (refused : IsRefusedAt bytes). absurd (script_stands (take most_read bytes) lines refused.0 script refused.1)
+
+-- a run is of no refused script
+pub run_refusal : (words : List (Bor (List ℕ))) (status : ℕ) (left rest held now : Option Bytes) (before after : ℕ) (lines : List Line) (core : Ledger)
+    → IfSome left (λ bytes. IsScript (take most_read bytes) lines) → IsOneOf status (FINE ∷ SINK_FAILED ∷ CLASHED ∷ NO_MEMORY ∷ []) → IsRefusal words status left rest held now before after (Some core)
+run_refusal words status left rest held now before after lines core script one = record {
+  refused = λ e. absurd (other e);
+  exact = λ replay. not_refused left lines _ script;
+  never_run = not_refused left lines _ script;
+  printed = λ e. absurd (other e);
+  taken = λ e. absurd (other e);
+}
+  where
+    other : status ≡ REFUSED → ⊥
+    other e = let no : IsOneOf REFUSED (FINE ∷ SINK_FAILED ∷ CLASHED ∷ NO_MEMORY ∷ []) = subst (λ n. IsOneOf n (FINE ∷ SINK_FAILED ∷ CLASHED ∷ NO_MEMORY ∷ [])) e one in cc

@@ -12,6 +12,7 @@ use Rattle.ledger_machine.specs.declared.replies.Reply.TheVariants as says
 use Rattle.ledger_machine.specs.Scripts.{line_of}
 use Rattle.ledger_machine.specs.Collisions.{is_clash}
 use Rattle.journal_text.specs.Text.{entry_text, summary_text}
+use Rattle.ledger_run.specs.declared.status.TheConstants.{FINE, STORE_FAILED, CLASHED, NO_MEMORY}
 
 -- the line of an entry, which names the command that it answers
 abbrev pub entry_line : List Line → Entry → Bytes
@@ -21,33 +22,40 @@ entry_line lines e = option_map_or (λ l. entry_text l.command e) (line_of lines
 abbrev pub output : List Line → List Entry → Totals → Bytes
 output lines journal totals = flat_map (entry_line lines) journal ++ summary_text totals
 
+-- what is printed for other words
 abbrev pub usage_text : Bytes
 usage_text = codes "usage: ledger_run replay | swarm" ++ 10 ∷ []
 
+-- what is printed of a refused script: its line and cause
 abbrev pub refused_text : ℕ → ℕ → Bytes
 refused_text line cause = codes "refused " ++ decimal line ++ codes " " ++ decimal cause ++ 10 ∷ []
 
+-- the reply is `fault`
 abbrev pub is_fault : Reply → Bool
 is_fault says.Fault = true
 is_fault _ = false
 
+-- the reply is `memory`
 abbrev pub is_memory : Reply → Bool
 is_memory says.Memory = true
 is_memory _ = false
 
+-- the entry shows a clash or a zero hash
 abbrev pub shows_clash : Entry → Bool
 shows_clash e = is_clash e.reply
 
+-- met a fault
 abbrev pub met_fault : Entry → Bool
 met_fault e = is_fault e.reply
 
+-- wanted memory
 abbrev pub wanted_memory : Entry → Bool
 wanted_memory e = is_memory e.reply
 
--- the status of a journal that was printed whole: 7 for a clash or a zero hash, else 6 for a fault, else 8 for want of memory, else 0
+-- the status of a journal that was printed whole: of a clash or a zero hash, else of a fault, else of want of memory
 abbrev pub status_of : List Entry → ℕ
 status_of journal =
-    if list_any shows_clash journal then 7
-    else if list_any met_fault journal then 6
-    else if list_any wanted_memory journal then 8
-    else 0
+    if list_any shows_clash journal then CLASHED
+    else if list_any met_fault journal then STORE_FAILED
+    else if list_any wanted_memory journal then NO_MEMORY
+    else FINE

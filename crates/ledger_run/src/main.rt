@@ -5,31 +5,48 @@
 #[cfg(test)]
 mod rows;
 mod run;
+mod status;
 #[cfg(test)]
 mod tests;
 
-ghost use Rattle.std.specs.Prelude.{◌≡◌, ◌↔◌, ◌∷◌, [], map, codes, IfOk, string_bytes};
-ghost use Rattle.ledger_run.specs.Top.{IsReplay, IsOneOf};
+ghost use Rattle.std.specs.Prelude.{◌≡◌, ◌↔◌, ◌∷◌, [], map, codes, IfOk, IfSome, IsNone, string_bytes};
+ghost use Rattle.std.specs.Process.{exit_status};
+ghost use Rattle.ledger_run.specs.declared.status.TheConstants.{USAGE, REFUSED, SOURCE_FAILED, NO_MEMORY};
+ghost use Rattle.ledger_run.specs.Top.{IsReplay, IsOneOf, IsWhole, HasStatus};
 
-use half_hash::Half512;
-use run::ledger_run;
+use actor_pool::OpenGate;
+use half_hash::{Half512, NodeHash};
+use run::{Ended, ledger_run, without_core};
 use run_io::{StdSink, StdSource};
+use status::NO_MEMORY;
 use std::alloc::AllocError;
 use std::process::ExitCode;
+use std::sync::Wait;
+use std::thread::Threads;
 use std::{env, io};
 
-/// The status where memory is wanted before anything else.
-const NO_MEMORY: u8 = 8;
-
 fn main(rt: HostRuntime) -> ExitCode {
-    match words_of(&rt) {
-        Ok(words) => ExitCode::from(run_with(&rt, &words)),
+    exit_code(status_of(&rt, &rt))
+}
+
+/// The status as the process ends with it.
+fn exit_code(status: u8) -> ExitCode
+    ensures { exit_status result ≡ status }
+{
+    ExitCode::from(status)
+}
+
+/// The status of the run with the words behind the program's name. Words that are no text are other
+/// words than `replay`. The runtime is handed in twice: as itself for standard input, and by its bounds
+/// for the threads.
+fn status_of<R: Threads + Wait + Sync>(rt: &HostRuntime, threads: &R) -> u8 {
+    match words_of(rt) {
+        Ok(words) => run_with(rt, threads, &words).status,
         Err(fault) => {
             if fault.kind() == io::ErrorKind::OutOfMemory {
-                ExitCode::from(NO_MEMORY)
+                NO_MEMORY
             } else {
-                // Words that are no text are other words than `replay`.
-                ExitCode::from(run_on(&rt, &[]))
+                run_on(rt, threads, &[]).status
             }
         }
     }
@@ -46,14 +63,22 @@ fn words_of(rt: &HostRuntime) -> io::Result<Vec<String>> {
     Ok(words)
 }
 
-/// The status of a run with these words.
-fn run_with(rt: &HostRuntime, words: &[String]) -> u8
-    ensures usage { result ≡ 2 → ¬ (map string_bytes words.now ≡ codes "replay" ∷ []) }
-    ensures others { ¬ (map string_bytes words.now ≡ codes "replay" ∷ []) → IsOneOf result (2 ∷ 8 ∷ []) }
+/// A run with these words.
+fn run_with<R: Threads + Wait + Sync>(
+    rt: &HostRuntime,
+    threads: &R,
+    words: &[String],
+) -> Ended<Half512>
+    ensures usage { result.status ≡ USAGE → map string_bytes words.now ≡ codes "replay" ∷ [] → ⊥ }
+    ensures others { (map string_bytes words.now ≡ codes "replay" ∷ [] → ⊥) → IsOneOf result.status (USAGE ∷ NO_MEMORY ∷ []) }
+    // The core and the status are those of a run.
+    ensures whole { IfSome result.core (IsWhole (⟦<Half512 as NodeHash>⟧.half)) }
+    ensures status { IfSome result.core (HasStatus (⟦<Half512 as NodeHash>⟧.half) result.status) }
+    ensures none { IsNone result.core → IsOneOf result.status (USAGE ∷ REFUSED ∷ SOURCE_FAILED ∷ NO_MEMORY ∷ []) }
 {
     match texts_of(rt, words) {
-        Ok(texts) => run_on(rt, &texts),
-        Err(AllocError) => NO_MEMORY,
+        Ok(texts) => run_on(rt, threads, &texts),
+        Err(AllocError) => without_core(NO_MEMORY),
     }
 }
 
@@ -68,11 +93,22 @@ fn texts_of<'a>(rt: &HostRuntime, words: &'a [String]) -> Result<Vec<&'a str>, A
     Ok(texts)
 }
 
-/// Runs over standard input and output with SHA-512Half, and gives the status.
-fn run_on(rt: &HostRuntime, words: &[&str]) -> u8
-    ensures usage { (result ≡ 2) ↔ ¬ (IsReplay words.now) }
+/// A run over standard input and output with SHA-512Half.
+fn run_on<R: Threads + Wait + Sync>(rt: &HostRuntime, threads: &R, words: &[&str]) -> Ended<Half512>
+    ensures usage { (result.status ≡ USAGE) ↔ (IsReplay words.now → ⊥) }
+    ensures whole { IfSome result.core (IsWhole (⟦<Half512 as NodeHash>⟧.half)) }
+    ensures status { IfSome result.core (HasStatus (⟦<Half512 as NodeHash>⟧.half) result.status) }
+    ensures none { IsNone result.core → IsOneOf result.status (USAGE ∷ REFUSED ∷ SOURCE_FAILED ∷ NO_MEMORY ∷ []) }
 {
     let mut source = StdSource::new(rt.stdin());
     let mut sink = StdSink::new(rt.stdout());
-    ledger_run(rt.alloc(), words, Half512, &mut source, &mut sink).status
+    ledger_run(
+        threads,
+        rt.alloc(),
+        words,
+        Half512,
+        &mut source,
+        &mut sink,
+        &OpenGate,
+    )
 }

@@ -1,5 +1,6 @@
 //! Worked scripts of base replies and nodes, over the hash that adds the bytes.
 use crate::run::ledger_run;
+use actor_pool::OpenGate;
 use half_hash::{Blob, Half512, Hash32, TinyHash};
 use ledger_header::Header;
 use run_io::{MemSink, MemSource};
@@ -259,7 +260,15 @@ fn rows(rt: HostRuntime) -> Result<(), Fail> {
         let bytes = expand(alloc, script)?;
         let mut source = MemSource::new(bytes, 500, Vec::new(alloc));
         let mut sink = MemSink::new(alloc, 16384, Vec::new(alloc))?;
-        let ended = ledger_run(alloc, &["replay"], TinyHash, &mut source, &mut sink);
+        let ended = ledger_run(
+            &rt,
+            alloc,
+            &["replay"],
+            TinyHash,
+            &mut source,
+            &mut sink,
+            &OpenGate,
+        );
         let says = expand(alloc, says)?;
         assert_eq!(rt; sink.held(), says.as_slice(), "{script}");
         assert_eq!(rt; ended.status, *status, "{script}");
@@ -339,7 +348,15 @@ fn a_ledger_that_is_made_here(rt: HostRuntime) -> Result<(), Fail> {
         Vec::new(alloc),
     );
     let mut sink = MemSink::new(alloc, 4096, Vec::new(alloc))?;
-    let ended = ledger_run(alloc, &["replay"], Half512, &mut source, &mut sink);
+    let ended = ledger_run(
+        &rt,
+        alloc,
+        &["replay"],
+        Half512,
+        &mut source,
+        &mut sink,
+        &OpenGate,
+    );
     assert_eq!(rt;
         sink.held(),
         b"1 0 want opened\n2 0 peer added\n3 0 base good / good\n4 0 node good\n5 0 check complete\nend complete 1 closed 0 listed 1 floor 0 last 7 epoch 0\n".as_slice()

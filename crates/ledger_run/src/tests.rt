@@ -1,4 +1,5 @@
 use crate::run::ledger_run;
+use actor_pool::OpenGate;
 use half_hash::TinyHash;
 use run_io::{MemSink, MemSource};
 use std::test::Fail;
@@ -71,7 +72,15 @@ fn scripts_and_their_ends(rt: HostRuntime) -> Result<(), Fail> {
         let bytes = Vec::from_slice(alloc, script.as_bytes())?;
         let mut source = MemSource::new(bytes, 7, vec![in alloc; *failing_read]?);
         let mut sink = MemSink::new(alloc, 4096, vec![in alloc; *failing_write]?)?;
-        let ended = ledger_run(alloc, words, TinyHash, &mut source, &mut sink);
+        let ended = ledger_run(
+            &rt,
+            alloc,
+            words,
+            TinyHash,
+            &mut source,
+            &mut sink,
+            &OpenGate,
+        );
         assert_eq!(rt; ended.status, *status);
         assert_eq!(rt; sink.held(), printed.as_bytes());
     }
@@ -90,7 +99,15 @@ fn the_most_bytes_of_a_script(rt: HostRuntime) -> Result<(), Fail> {
         }
         let mut source = MemSource::new(bytes, 65_536, Vec::new(alloc));
         let mut sink = MemSink::new(alloc, 1 << 20, Vec::new(alloc))?;
-        let ended = ledger_run(alloc, &["replay"], TinyHash, &mut source, &mut sink);
+        let ended = ledger_run(
+            &rt,
+            alloc,
+            &["replay"],
+            TinyHash,
+            &mut source,
+            &mut sink,
+            &OpenGate,
+        );
         assert_eq!(rt; ended.status, status);
         if status == 3 {
             assert_eq!(rt; sink.held(), b"refused 14365 5\n".as_slice());

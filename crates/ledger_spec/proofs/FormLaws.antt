@@ -1,5 +1,6 @@
 -- What a form's bytes say of its parts.
-use Rattle.std.proofs.Common.{◌≡◌, ◌≤◌, ◌+◌, ◌-◌, ℕ, List, ◌++◌, length, take, drop, nat_eq, IsTrue, T, not, false, refl, ap, ◌∙◌, subst, arith, length-append}
+use Rattle.std.proofs.Common.{◌≡◌, ◌≤◌, ◌+◌, ◌-◌, ℕ, List, ◌++◌, length, take, drop, nat_eq, IsTrue, T, not, false, refl, ap, ◌∙◌, subst}
+use Rattle.std.proofs.Common.{arith, length-append}
 use Rattle.std.proofs.Math.Seq.{drop-append_seam, take-append_seam}
 use Rattle.std.specs.List.{starts_with, concat}
 use Rattle.ledger_spec.specs.declared.Kind.TheVariants.{State, Tx, Set}

@@ -1,5 +1,6 @@
 -- What is found of a whole ledger stays as the store grows.
-use Rattle.std.proofs.Common.{◌≡◌, ◌⊎◌, inl, inr, ℕ, zero, suc, Bool, true, false, if◌then◌else◌, List, [], ◌∷◌, ◌++◌, Option, None, Some, filter_map, flat_map, refl, sym, ap, ◌∙◌, subst, IsSomeAnd}
+use Rattle.std.proofs.Common.{◌≡◌, ◌⊎◌, inl, inr, ℕ, zero, suc, Bool, true, false, if◌then◌else◌, List, [], ◌∷◌, ◌++◌, Option, None, Some}
+use Rattle.std.proofs.Common.{filter_map, flat_map, refl, sym, ap, ◌∙◌, subst, IsSomeAnd}
 use Rattle.std.specs.List.{slice_index_or}
 use Rattle.std.specs.Option.{option_and_then}
 use Rattle.std.proofs.lemmas.List.Elements.{filter_map-append}
@@ -13,7 +14,8 @@ use Rattle.ledger_spec.specs.Header.{state_root_of, tx_root_of}
 use Rattle.ledger_spec.specs.Forms.{Held, inner, leaf, header, header_of}
 use Rattle.ledger_spec.specs.Rules.{fault_of}
 use Rattle.ledger_spec.specs.Spots.{header_in}
-use Rattle.ledger_spec.specs.Findings.{Sight, missing, broken, sound, Met, Finding, sight_of, branches_of, finding_at, walk, walk_map, walk_ledger, header_sight, maps_of, Whole}
+use Rattle.ledger_spec.specs.Findings.{Sight, missing, broken, sound, Met, Finding, sight_of, branches_of, finding_at, walk, walk_map}
+use Rattle.ledger_spec.specs.Findings.{walk_ledger, header_sight, maps_of, Whole}
 use Rattle.ledger_spec.proofs.ReachLaws.{Grows}
 
 -- a list with a first entry isn't empty

@@ -3,3 +3,7 @@ pub mod FormLaws
 pub mod ReachLaws
 pub mod Growth
 pub mod OfferLaws
+pub mod Hashes
+pub mod Inners
+pub mod Readings
+pub mod ByteForms

@@ -1,5 +1,7 @@
 -- What is read of a peer's bytes has a form, and what is wanted at a place isn't zero.
-use Rattle.std.proofs.Common.{◌≡◌, ⊎_elim, ◌≤◌, ◌-◌, ◌*◌, ℕ, zero, suc, Bool, true, false, not, ◌||◌, if◌then◌else◌, ◌==◌, nat_lt, List, [], ◌∷◌, ◌++◌, length, take, drop, slice_index, Option, None, Some, Result, Ok, Err, IsTrue, refl, sym, ap, ◌∙◌, subst, arith, length-take, length-drop}
+use Rattle.std.proofs.Common.{◌≡◌, ⊎_elim, ◌≤◌, ◌-◌, ◌*◌, ℕ, zero, suc, Bool, true, false, not, ◌||◌, if◌then◌else◌, ◌==◌, nat_lt, List}
+use Rattle.std.proofs.Common.{[], ◌∷◌, ◌++◌, length, take, drop, slice_index, Option, None, Some, Result, Ok, Err, IsTrue, refl, sym, ap}
+use Rattle.std.proofs.Common.{◌∙◌, subst, arith, length-take, length-drop}
 use Rattle.std.specs.Option.{option_map_or}
 use Rattle.std.specs.List.{list_all, list_any, slice_index_or}
 use Rattle.std.proofs.lemmas.Bool.{ltb-false, eqb-true, eq-eqb, and_from, or_cases}
@@ -8,7 +10,8 @@ use Rattle.ledger_spec.specs.declared.Kind.TheVariants.{State}
 use Rattle.ledger_spec.specs.Bytes.{Bytes, Hash, Half, Lookup, zero_hash, is_zero, is_nonzero, hashes_of}
 use Rattle.ledger_spec.specs.Forms.{Held, inner, leaf, IsHeld, IsItem, IsInner, data_limit, inner_of}
 use Rattle.ledger_spec.specs.Wire.{checked_leaf, keyed_leaf, checked_inner, full, read_typed, read_wire, is_read, read_offered}
-use Rattle.ledger_spec.specs.Spots.{Spot, no_base, no_parent, empty_branch, under_leaf, wanted, spot_from, into, spot_below, spot_of, header_in, header_root}
+use Rattle.ledger_spec.specs.Spots.{Spot, no_base, no_parent, empty_branch, under_leaf, wanted, spot_from, into, spot_below, spot_of}
+use Rattle.ledger_spec.specs.Spots.{header_in, header_root}
 
 -- an error isn't a result
 pub err_ok : {X E : Type 0} {e : E} {x : X} → Err e ≡ Ok x → ⊥
@@ -19,12 +22,12 @@ pub ok_same : {X E : Type 0} {x y : X} → ◌≡◌ {A = Result X E} (Ok x) (Ok
 ok_same e = cc
 
 -- a result behind a test that refuses
-past_test : {X : Type 0} (b : Bool) (cause : ℕ) (r : Result X ℕ) (x : X) → (if b then Err cause else r) ≡ Ok x → (b ≡ false) × (r ≡ Ok x)
+pub past_test : {X : Type 0} (b : Bool) (cause : ℕ) (r : Result X ℕ) (x : X) → (if b then Err cause else r) ≡ Ok x → (b ≡ false) × (r ≡ Ok x)
 past_test true cause r x e = absurd (err_ok e)
 past_test false cause r x e = (refl, e)
 
 -- a result behind a test that lets through
-at_test : {X : Type 0} (b : Bool) (cause : ℕ) (r : Result X ℕ) (x : X) → (if b then r else Err cause) ≡ Ok x → (b ≡ true) × (r ≡ Ok x)
+pub at_test : {X : Type 0} (b : Bool) (cause : ℕ) (r : Result X ℕ) (x : X) → (if b then r else Err cause) ≡ Ok x → (b ≡ true) × (r ≡ Ok x)
 at_test true cause r x e = (refl, e)
 at_test false cause r x e = absurd (err_ok e)
 

@@ -3,6 +3,7 @@ use Rattle.std.specs.Prelude.{ℕ, zero, suc, nat_eq, Bool, List, [], ◌∷◌,
 use Rattle.std.specs.List.{range_with_len}
 use lib.Pointwise.{pointwise}
 use Rattle.ledger_spec.specs.Maps.{ForHash, MapOf}
+pub use Rattle.half_hash.specs.Half.{are_bytes, IsHalf}
 pub use Rattle.half_hash.specs.Zero.{zero_hash, is_zero, is_nonzero}
 
 abbrev pub Bytes : Type 0

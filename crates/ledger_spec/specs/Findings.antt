@@ -53,11 +53,18 @@ branches_of _ each = []
 -- the places from this one on, each before what is below it; `left` levels are below this one
 unfoldable pub walk : Half → Lookup → Kind → ℕ → Option (List Hash) → List ℕ → Hash → List Met
 walk half nodes kind zero parent path h =
-    if is_zero h then [] else record { place = Node kind path; hash = h; parent = parent; sight = sight_of half (λ n. fault_of n parent kind path) (nodes h) } ∷ []
+    if is_zero h then []
+    else record {
+      place = Node kind path;
+      hash = h;
+      parent = parent;
+      sight = sight_of half (λ n. fault_of n parent kind path) (nodes h);
+    } ∷ []
 walk half nodes kind (suc left) parent path h =
     let sight = sight_of half (λ n. fault_of n parent kind path) (nodes h) in
     if is_zero h then [] else record { place = Node kind path; hash = h; parent = parent; sight = sight }
-    ∷ branches_of sight (λ hashes. flat_map (λ b. walk half nodes kind left (Some hashes) (path ++ b ∷ []) (slice_index_or hashes b zero_hash)) branches)
+    ∷ branches_of sight (λ hashes.
+    flat_map (λ b. walk half nodes kind left (Some hashes) (path ++ b ∷ []) (slice_index_or hashes b zero_hash)) branches)
 
 -- the whole map below a root hash
 unfoldable pub walk_map : Half → Lookup → Kind → Hash → List Met
@@ -97,6 +104,17 @@ finding_at place (sound held) = None
 -- all that is missing or broken in a ledger, in the walk's order
 abbrev pub findings : Half → Lookup → Hash → List Finding
 findings half nodes target = filter_map (λ m. finding_at m.place m.sight) (walk_ledger half nodes target)
+
+-- the place of a finding that is missing
+abbrev pub missing_of : Finding → Option Place
+missing_of (lacks place) = Some place
+missing_of (breaks place fault) = None
+
+-- the first broken place, with its rule
+abbrev pub first_broken : List Finding → Option (Place × ShapeFault)
+first_broken [] = None
+first_broken (lacks place ∷ rest) = first_broken rest
+first_broken (breaks place fault ∷ rest) = Some (place, fault)
 
 -- the shortest front that ends in a broken place or has `room` missing ones, else all
 abbrev pub up_to : ℕ → List Finding → List Finding

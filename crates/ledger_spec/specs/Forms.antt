@@ -1,5 +1,6 @@
 -- The prefix forms, which are hashed and stored: a node or a header behind its prefix.
-use Rattle.std.specs.Prelude.{◌≡◌, ℕ, ◌≤◌, ◌==◌, ◌&&◌, if◌then◌else◌, nat_eq, nat_le, List, ◌++◌, ◌-◌, ◌+◌, length, take, drop, IsTrue, Option, None, Some}
+use Rattle.std.specs.Prelude.{◌≡◌, ℕ, ◌≤◌, ◌==◌, ◌&&◌, if◌then◌else◌, nat_eq, nat_le, List, ◌++◌, ◌-◌, ◌+◌, length, take, drop, IsTrue}
+use Rattle.std.specs.Prelude.{Option, None, Some}
 use Rattle.std.specs.Option.{option_or}
 use Rattle.std.specs.List.{concat, list_all, list_any, starts_with}
 use Rattle.half_hash.specs.declared.prefix.Prefix.TheVariants.{Txn, Snd, Mln, Min, Lwr}

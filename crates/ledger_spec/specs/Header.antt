@@ -1,9 +1,9 @@
 -- A ledger's header, 118 bytes.
-use Rattle.std.specs.Prelude.{ℕ, ◌++◌, ◌∷◌, [], take, drop}
+use Rattle.std.specs.Prelude.{◌≡◌, ℕ, ◌<◌, ◌^◌, ◌++◌, ◌∷◌, [], length, take, drop}
 use Rattle.std.specs.Int.{w32, w64, to_be_bytes, from_be_bytes}
 use Rattle.ledger_spec.specs.Bytes.{Bytes, Hash}
 
--- a header's fields, numbers within their sizes and hashes of 32 bytes
+-- a header's fields
 pub record HeaderFields : Type 0 where
   pub seq : ℕ
   pub drops : ℕ
@@ -14,6 +14,18 @@ pub record HeaderFields : Type 0 where
   pub close : ℕ
   pub resolution : ℕ
   pub flags : ℕ
+
+-- the numbers are within their sizes, and the hashes have 32 bytes
+pub record IsHeader (h : HeaderFields) : Type 0 where
+  pub seq : h.seq < 2 ^ 32
+  pub drops : h.drops < 2 ^ 64
+  pub parent : length h.parent ≡ 32
+  pub tx_root : length h.tx_root ≡ 32
+  pub state_root : length h.state_root ≡ 32
+  pub parent_close : h.parent_close < 2 ^ 32
+  pub close : h.close < 2 ^ 32
+  pub resolution : h.resolution < 2 ^ 8
+  pub flags : h.flags < 2 ^ 8
 
 -- the 118 bytes: sequence (4), total drops (8), parent hash, transaction root, state root (32 each), parent close time (4), close time (4),
 -- close resolution (1), close flags (1), numbers high byte first

@@ -22,4 +22,5 @@ kids form = filter is_nonzero (named_by (inner_of form) (header_of form))
 -- the least set with each stored root and each stored kid of its members
 pub data Reach (nodes : Lookup) (roots : List Hash) : Hash → Type 0 where
   root : {h : Hash} → Contains roots h → Stored nodes h → Reach nodes roots h
-  kid : {h k : Hash} {form : Bytes} → Reach nodes roots h → nodes h ≡ Some form → Contains (kids form) k → Stored nodes k → Reach nodes roots k
+  kid : {h k : Hash} {form : Bytes} → Reach nodes roots h → nodes h ≡ Some form → Contains (kids form) k → Stored nodes k
+      → Reach nodes roots k

@@ -1,12 +1,12 @@
 -- What a list of nodes says of a key, and how it shows two nodes with one hash.
-use Rattle.std.specs.Prelude.{◌≡◌, ◌≢◌, ◌⊎◌, ℕ, ◌+◌, ◌&&◌, if◌then◌else◌, List, [], ◌∷◌, take, is_none, Option, None, Some}
+use Rattle.std.specs.Prelude.{◌≡◌, ◌≢◌, ◌⊎◌, ℕ, ◌+◌, ◌&&◌, if◌then◌else◌, List, [], ◌∷◌, length, take, is_none, Option, None, Some}
 use Rattle.std.specs.Option.{option_and_then}
 use Rattle.std.specs.List.{slice_index_or, Contains}
 use Rattle.ledger_spec.specs.Maps.{hash_cmp, get_in}
 use Rattle.nib_path.specs.Paths.{nibbles, nibble_of, IsPath}
 use Rattle.ledger_spec.specs.declared.Kind.{Kind}
 use Rattle.ledger_spec.specs.Bytes.{Bytes, Hash, Half, Items, zero_hash, is_zero, same_bytes}
-use Rattle.ledger_spec.specs.Forms.{Held, inner, leaf, header, form_of, hash_of, hash_or_zero}
+use Rattle.ledger_spec.specs.Forms.{Held, inner, leaf, header, IsHeld, form_of, hash_of, hash_or_zero}
 use Rattle.ledger_spec.specs.Rules.{fault_of}
 use Rattle.ledger_spec.specs.Tree.{AreItems, root_of, HasAt}
 
@@ -33,7 +33,9 @@ follow_from half kind key depth parent h (n ∷ []) =
     if same_bytes (hash_of half n) h && is_none (fault_of n parent kind (take depth (nibbles key))) then ends_at key depth n else None
 follow_from half kind key depth parent h (n ∷ m ∷ rest) =
     if same_bytes (hash_of half n) h && is_none (fault_of n parent kind (take depth (nibbles key)))
-    then option_and_then (λ hashes. follow_from half kind key (depth + 1) (Some hashes) (slice_index_or hashes (nibble_of key depth) zero_hash) (m ∷ rest)) (inner_hashes n)
+    then option_and_then
+    (λ hashes. follow_from half kind key (depth + 1) (Some hashes) (slice_index_or hashes (nibble_of key depth) zero_hash) (m ∷ rest))
+    (inner_hashes n)
     else None
 
 -- what the nodes, from the root on, say of the key
@@ -64,7 +66,22 @@ abbrev pub answer_of : Option Bytes → Outcome
 answer_of None = nothing
 answer_of (Some bytes) = value bytes
 
+-- 32 bytes, each of two nibbles
+pub record IsKey (key : Hash) : Type 0 where
+  pub size : length key ≡ 32
+  pub path : IsPath (nibbles key)
+
+-- an inner node that has a form, or a leaf that has one if it is of this kind
+abbrev pub IsNode : Half → Kind → Held → Type 0
+IsNode half kind (inner hashes) = IsHeld half (inner hashes)
+IsNode half kind (leaf own key bytes) = own ≡ kind → IsHeld half (leaf own key bytes)
+IsNode half kind (header bytes) = Unit {0}
+
+-- the nodes have forms, leaves of other kinds apart
+abbrev pub AreNodes : Half → Kind → List Held → Type 0
+AreNodes half kind used = (n : Held) → Contains used n → IsNode half kind n
+
 -- for every map with this root, the nodes lead to the map's own answer, or show two nodes with one hash
 abbrev pub AnswersOrShows : Half → Kind → Hash → Hash → List Held → Outcome → Type 0
-AnswersOrShows half kind root key used outcome = (items : Items) → AreItems items → root_of half kind items ≡ root
+AnswersOrShows half kind root key used outcome = (items : Items) → AreItems half kind items → root_of half kind items ≡ root
     → (outcome ≡ answer_of (get_in hash_cmp items key)) ⊎ Shows half kind items root used

@@ -1,21 +1,28 @@
 -- The one tree of a finite map.
-use Rattle.std.specs.Prelude.{◌≡◌, ◌≢◌, ◌⊎◌, ℕ, zero, suc, ◌-◌, ◌<◌, Bool, true, false, if◌then◌else◌, List, [], ◌∷◌, ◌++◌, length, take, Option, None, Some}
+use Rattle.std.specs.Prelude.{◌≡◌, ◌≢◌, ◌⊎◌, ℕ, zero, suc, ◌-◌, ◌<◌, Bool, true, false, if◌then◌else◌, List, [], ◌∷◌, ◌++◌, length, take}
+use Rattle.std.specs.Prelude.{IsTrue, Option, None, Some}
 use Rattle.std.specs.Option.{option_to_list}
 use Rattle.std.specs.List.{flat_map, filter, AllByRecursion}
 use Rattle.ledger_spec.specs.Maps.{IsMap, hash_cmp}
 use Rattle.nib_path.specs.Paths.{lies_under}
 use Rattle.ledger_spec.specs.declared.Kind.{Kind}
-use Rattle.ledger_spec.specs.Bytes.{Bytes, Hash, Half, Items, branches}
-use Rattle.ledger_spec.specs.Forms.{IsItem, inner_prefix, leaf_form, hash_or_zero}
+use Rattle.ledger_spec.specs.Bytes.{Bytes, Hash, Half, Items, are_bytes, branches}
+use Rattle.ledger_spec.specs.Forms.{leaf, IsHeld, inner_prefix, leaf_form, hash_or_zero}
 
 -- a key and its data
 abbrev pub Entry : Type 0
 Entry = Hash × Bytes
 
--- a finite map of items: keys rise, and each key and its data are an item's
-pub record AreItems (items : Items) : Type 0 where
+-- a key and data of bytes
+abbrev pub IsByteEntry : Entry → Type 0
+IsByteEntry e = IsTrue (are_bytes e.0) × IsTrue (are_bytes e.1)
+
+-- a finite map of a kind's items: keys rise, and each key and its data are bytes and those of a leaf; so a bare transaction's key is its
+-- hash
+pub record AreItems (half : Half) (kind : Kind) (items : Items) : Type 0 where
   pub rising : IsMap hash_cmp items
-  pub each : AllByRecursion (λ e. IsItem e.0 e.1) items
+  pub each : AllByRecursion (λ e. IsHeld half (leaf kind e.0 e.1)) items
+  pub bytes : AllByRecursion IsByteEntry items
 
 -- the entries whose key lies under the path
 abbrev pub part : List Entry → List ℕ → List Entry

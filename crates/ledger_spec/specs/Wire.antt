@@ -1,5 +1,6 @@
 -- The bytes in which peers send a node, ended by a type byte.
-use Rattle.std.specs.Prelude.{map, ◌≡◌, ◌≢◌, ◌⊎◌, ℕ, zero, suc, ◌<◌, ◌-◌, ◌/◌, ◌%◌, ◌==◌, ◌||◌, not, Bool, if◌then◌else◌, nat_lt, List, [], ◌∷◌, ◌++◌, length, take, drop, slice_index, IsTrue, Result, Ok, Err}
+use Rattle.std.specs.Prelude.{map, ◌≡◌, ◌≢◌, ◌⊎◌, ℕ, zero, suc, ◌<◌, ◌-◌, ◌/◌, ◌%◌, ◌==◌, ◌||◌, not, Bool, if◌then◌else◌, nat_lt, List}
+use Rattle.std.specs.Prelude.{[], ◌∷◌, ◌++◌, length, take, drop, slice_index, IsTrue, Result, Ok, Err}
 use Rattle.std.specs.Option.{option_map_or}
 use Rattle.std.specs.List.{concat, flat_map, filter, find, count_by, list_any, slice_index_or, AllPairs, AllByRecursion}
 use Rattle.ledger_spec.specs.declared.Kind.{Kind}
@@ -49,7 +50,8 @@ abbrev pub wire_of : Held → Bytes
 wire_of (leaf Set key bytes) = bytes ++ 0 ∷ []
 wire_of (leaf State key bytes) = bytes ++ key ++ 1 ∷ []
 wire_of (leaf Tx key bytes) = bytes ++ key ++ 4 ∷ []
-wire_of (inner hashes) = if nat_lt (count_by is_nonzero hashes) 12 then flat_map chunk_bytes (chunks_of hashes) ++ 3 ∷ [] else concat hashes ++ 2 ∷ []
+wire_of (inner hashes) =
+    if nat_lt (count_by is_nonzero hashes) 12 then flat_map chunk_bytes (chunks_of hashes) ++ 3 ∷ [] else concat hashes ++ 2 ∷ []
 wire_of (header bytes) = []
 
 -- The causes for which a wire form is refused, by their numbers. The first that applies, in the order in which they are
@@ -63,7 +65,9 @@ checked_leaf kind key bytes = if nat_lt data_limit (length bytes) then Err 11 el
 
 -- a leaf whose key stands behind its data
 abbrev pub keyed_leaf : Kind → Bytes → Result Held ℕ
-keyed_leaf kind front = if nat_lt (length front) 32 then Err 9 else checked_leaf kind (drop (length front - 32) front) (take (length front - 32) front)
+keyed_leaf kind front =
+    if nat_lt (length front) 32 then Err 9
+    else checked_leaf kind (drop (length front - 32) front) (take (length front - 32) front)
 
 -- an inner node, or why it is none
 abbrev pub checked_inner : List Hash → Result Held ℕ

@@ -1,5 +1,6 @@
 -- A leaf's form, by the tests that the code makes of it.
-use Rattle.std.proofs.Common.{◌≡◌, ◌+◌, ◌-◌, ◌&&◌, Bool, true, false, if◌then◌else◌, nat_eq, nat_le, [], length, take, drop, Option, None, Some, refl, ap, ◌∙◌}
+use Rattle.std.proofs.Common.{◌≡◌, ◌+◌, ◌-◌, ◌&&◌, Bool, true, false, if◌then◌else◌, nat_eq, nat_le, [], length, take, drop, Option, None}
+use Rattle.std.proofs.Common.{Some, refl, ap, ◌∙◌}
 use Rattle.std.specs.Option.{option_map}
 use Rattle.std.specs.List.{starts_with}
 use Rattle.ledger_spec.specs.declared.Kind.{Kind}

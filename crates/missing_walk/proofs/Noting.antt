@@ -1,5 +1,7 @@
 -- How findings are noted, one after the other.
-use Rattle.std.proofs.Common.{◌≡◌, ◌≢◌, ℕ, zero, suc, ◌+◌, ◌≤◌, ◌<◌, ◌||◌, Bool, true, false, is_some, nat_le, if◌then◌else◌, List, [], ◌∷◌, ◌++◌, length, None, Result, Ok, Err, OnErr, refl, sym, ap, ◌∙◌, subst, arith, length-append, append-nil}
+use Rattle.std.proofs.Common.{◌≡◌, ◌≢◌, ℕ, zero, suc, ◌+◌, ◌≤◌, ◌<◌, ◌||◌, Bool, true, false, is_some, nat_le, if◌then◌else◌, List, []}
+use Rattle.std.proofs.Common.{◌∷◌, ◌++◌, length, None, Result, Ok, Err, OnErr, refl, sym, ap, ◌∙◌, subst, arith, length-append}
+use Rattle.std.proofs.Common.{append-nil}
 use Rattle.ledger_spec.specs.declared.Place.{Place}
 use Rattle.std.proofs.lemmas.List.{append_assoc}
 use Rattle.std.proofs.lemmas.Bool.{le-leb}
@@ -7,7 +9,7 @@ use Rattle.std.proofs.lemmas.Bool.Decides.{nat_tests}
 use Rattle.std.specs.List.{filter_map}
 use Rattle.std.specs.Result.{IsErr}
 use Rattle.ledger_spec.specs.Findings.{Finding, lacks, breaks, up_to}
-use Rattle.ledger_machine.specs.Check.{missing_of, first_broken}
+use Rattle.ledger_spec.specs.Findings.{missing_of, first_broken}
 use Rattle.missing_walk.specs.Sees.{Seen, most_missing, is_over, noted, note, sees, nothing_seen, shown, IsSeen, HasMissing, Notes}
 use Rattle.missing_walk.specs.declared.Found.{Found}
 

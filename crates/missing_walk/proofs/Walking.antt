@@ -1,5 +1,6 @@
 -- What the walk's code keeps is what the definition finds, case by case.
-use Rattle.std.proofs.Common.{◌≡◌, ℕ, zero, suc, ◌+◌, ◌-◌, ◌<◌, ◌≤◌, ◌==◌, Bool, true, false, if◌then◌else◌, List, [], ◌∷◌, ◌++◌, length, Option, None, Some, refl, sym, ap, ◌∙◌, subst, arith, length-append}
+use Rattle.std.proofs.Common.{◌≡◌, ℕ, zero, suc, ◌+◌, ◌-◌, ◌<◌, ◌≤◌, ◌==◌, Bool, true, false, if◌then◌else◌, List, [], ◌∷◌, ◌++◌, length}
+use Rattle.std.proofs.Common.{Option, None, Some, refl, sym, ap, ◌∙◌, subst, arith, length-append}
 use Rattle.std.specs.List.{slice_index_or}
 use Rattle.std.specs.List.{cons_option}
 use Rattle.ledger_spec.specs.declared.Kind.{Kind}
@@ -8,7 +9,8 @@ use Rattle.ledger_spec.specs.declared.ShapeFault.{ShapeFault}
 use Rattle.ledger_spec.specs.declared.ShapeFault.TheVariants.{InnerAtBottom}
 use Rattle.ledger_spec.specs.Bytes.{Bytes, Hash, Half, Lookup, is_zero, zero_hash}
 use Rattle.ledger_spec.specs.Forms.{Held, inner, leaf, header}
-use Rattle.ledger_spec.specs.Findings.{Sight, missing, broken, sound, Met, sight_of, judged, seen_as, held_of, branches_of, Finding, lacks, breaks, finding_at}
+use Rattle.ledger_spec.specs.Findings.{Sight, missing, broken, sound, Met, sight_of, judged, seen_as, held_of, branches_of, Finding}
+use Rattle.ledger_spec.specs.Findings.{lacks, breaks, finding_at}
 use Rattle.std.proofs.lemmas.Bool.Decides.{nat_tests}
 use Rattle.ledger_spec.specs.Rules.{fault_of}
 use Rattle.shamap_node.specs.declared.parts.Inner.{Inner}

@@ -1,5 +1,6 @@
 -- What a search keeps while it runs, and how a finding changes it.
-use Rattle.std.specs.Prelude.{◌≡◌, ℕ, ◌<◌, ◌||◌, Bool, true, false, is_some, nat_le, if◌then◌else◌, List, [], ◌∷◌, ◌++◌, length, Option, None, Some, Result, Ok, Err}
+use Rattle.std.specs.Prelude.{◌≡◌, ℕ, ◌<◌, ◌||◌, Bool, true, false, is_some, nat_le, if◌then◌else◌, List, [], ◌∷◌, ◌++◌, length, Option}
+use Rattle.std.specs.Prelude.{None, Some, Result, Ok, Err}
 use Rattle.std.specs.List.{filter_map, flat_map, range_with_len, slice_index_or}
 use Rattle.ledger_spec.specs.declared.Kind.{Kind}
 use Rattle.ledger_spec.specs.declared.Place.{Place}
@@ -9,7 +10,7 @@ use Rattle.ledger_spec.specs.Bytes.{Bytes, Hash, Half, Lookup, zero_hash}
 use Rattle.ledger_spec.specs.Header.{state_root_of, tx_root_of}
 use Rattle.ledger_spec.specs.Forms.{Held, inner, leaf}
 use Rattle.ledger_spec.specs.Findings.{Sight, missing, broken, sound, Met, walk, walk_map, Finding, lacks, breaks, finding_at}
-use Rattle.ledger_machine.specs.Check.{missing_of, first_broken}
+use Rattle.ledger_spec.specs.Findings.{missing_of, first_broken}
 use Rattle.missing_walk.specs.declared.Found.{Found}
 use Rattle.missing_walk.specs.declared.sight.Sight.{Sight as Look}
 use Rattle.missing_walk.specs.declared.sight.Sight.TheVariants as look

@@ -25,7 +25,8 @@ pub(crate) fn walk<H: NodeHash>(
     hash: &Hash32,
     found: &mut Found,
 ) -> Result<(), Memory>
-    ensures { Notes result (shown found.old) (shown found.new) (found_below H.half (map.get nodes.now) kind (64 - length id.now) (hashes_above parent.entry) id.now hash.now) }
+    ensures { Notes result (shown found.old) (shown found.new)
+        (found_below H.half (map.get nodes.now) kind (64 - length id.now) (hashes_above parent.entry) id.now hash.now) }
 {
     if found.is_over() || hash.is_zero() {
         return Ok(());
@@ -53,7 +54,8 @@ fn walk_branches<H: NodeHash>(
     found: &mut Found,
 ) -> Result<(), Memory>
     requires { length id.now < 64 }
-    ensures { Notes result (shown found.old) (shown found.new) (found_in H.half (map.get nodes.now) kind (63 - length id.now) inner.now.hashes id.now 16) }
+    ensures { Notes result (shown found.old) (shown found.new)
+        (found_in H.half (map.get nodes.now) kind (63 - length id.now) inner.now.hashes id.now 16) }
 {
     for b in 0..16u8 {
         let Some(below) = id.child(b) else {

@@ -10,7 +10,7 @@ ghost use Rattle.std.specs.Prelude.{◌≡◌, ◌≢◌, ◌≤◌, [], false, 
 ghost use Rattle.std.specs.List.{filter_map};
 ghost use Rattle.std.specs.FinMap as map;
 ghost use Rattle.ledger_spec.specs.Findings.{seen, findings, lacks, breaks};
-ghost use Rattle.ledger_machine.specs.Check.{missing_of};
+ghost use Rattle.ledger_spec.specs.Findings.{missing_of};
 ghost use Rattle.missing_walk.specs.Sees.{IsSeen, shown, nothing_seen, is_over as has_ended, noted, Notes, found_in_maps};
 
 mod descent;

@@ -134,7 +134,8 @@ fn leaf_with(alloc: Global, kind: Kind, key: Hash32) -> Option<Leaf>
 
 // Whether the bytes begin with the prefix of such leaves, and are neither too few nor too many.
 fn is_keyed(form: &[u8], kind: Kind) -> bool
-    ensures { result ≡ (starts_with nat_eq form.now (leaf_prefix kind) && nat_le 36 (length form.now) && nat_le (length form.now) (36 + data_limit)) }
+    ensures { result
+        ≡ (starts_with nat_eq form.now (leaf_prefix kind) && nat_le 36 (length form.now) && nat_le (length form.now) (36 + data_limit)) }
 {
     form.starts_with(&prefix_for(kind).bytes()) && form.len() >= 36 && form.len() <= 36 + DATA_LIMIT
 }

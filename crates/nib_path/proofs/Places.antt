@@ -1,5 +1,6 @@
 -- Node IDs that are made from a key, or from the ID above.
-use Rattle.std.proofs.Common.{◌≡◌, ℕ, ◌+◌, ◌-◌, ◌*◌, ◌/◌, ◌%◌, ◌≤◌, ◌<◌, List, [], ◌∷◌, ◌++◌, length, take, drop, replicate, sym, ap, ◌∙◌, arith, length-take, length-append}
+use Rattle.std.proofs.Common.{◌≡◌, ℕ, ◌+◌, ◌-◌, ◌*◌, ◌/◌, ◌%◌, ◌≤◌, ◌<◌, List, [], ◌∷◌, ◌++◌, length, take, drop, replicate, sym, ap, ◌∙◌}
+use Rattle.std.proofs.Common.{arith, length-take, length-append}
 use Rattle.std.specs.Prelude.{slice_index, slice_set}
 use Rattle.std.proofs.lemmas.List.{length-replicate, drop-set-lt, drop-drop, drop-replicate, take_more_set}
 use Rattle.std.proofs.lemmas.Bool.Decides.{same_from_decides, Decides-like}

@@ -1,5 +1,6 @@
 -- Reading a node ID's wire form.
-use Rattle.std.proofs.Common.{◌≡◌, ℕ, suc, zero, ◌+◌, ◌-◌, ◌*◌, ◌≤◌, List, [], ◌∷◌, ◌++◌, length, take, drop, replicate, refl, sym, ap, ◌∙◌, arith, inl, inr, take-append-drop, length-append, length-drop, length-take}
+use Rattle.std.proofs.Common.{◌≡◌, ℕ, suc, zero, ◌+◌, ◌-◌, ◌*◌, ◌≤◌, List, [], ◌∷◌, ◌++◌, length, take, drop, replicate, refl, sym, ap}
+use Rattle.std.proofs.Common.{◌∙◌, arith, inl, inr, take-append-drop, length-append, length-drop, length-take}
 use Rattle.std.specs.Prelude.{slice_index, nat_lt, nat_eq, Option, None, Some, Result, Ok, Err, IfOk, true, ◌&&◌}
 use Rattle.std.specs.Bool.{Decides}
 use Rattle.std.specs.Str.{bytes_eq}
@@ -10,7 +11,8 @@ use Rattle.std.proofs.lemmas.Bool.{and_parts, and_from, cases_Bool, cond-true, c
 use Rattle.nib_path.specs.declared.NodeId.TheInside.{Inside}
 use Rattle.nib_path.specs.declared.IdFault.{IdFault}
 use Rattle.nib_path.specs.declared.IdFault.TheVariants.{Length, Depth}
-use Rattle.nib_path.specs.Paths.{nibbles, path_of, inside_of, id_of, wire_of, first_set_from, IsNodeId, IsPath, length-nibbles, length_of_view, id_of_view}
+use Rattle.nib_path.specs.Paths.{nibbles, path_of, inside_of, id_of, wire_of, first_set_from, IsNodeId, IsPath, length-nibbles}
+use Rattle.nib_path.specs.Paths.{length_of_view, id_of_view}
 use Rattle.nib_path.specs.Wire.{path_unless, read_id, read_wire_id}
 use Rattle.nib_path.proofs.Nibbles.{nibbles-packed, length-packed, list_all-append_zeros}
 
@@ -102,7 +104,7 @@ length-filled p h =
 length-id_of : (p : List ℕ) → IsPath p → length (id_of p) ≡ 32
 length-id_of p h = length-packed 32 (p ++ replicate (64 - length p) 0) (length-filled p h)
 
-nibbles-id_of : (p : List ℕ) → IsPath p → nibbles (id_of p) ≡ p ++ replicate (64 - length p) 0
+pub nibbles-id_of : (p : List ℕ) → IsPath p → nibbles (id_of p) ≡ p ++ replicate (64 - length p) 0
 nibbles-id_of p h = nibbles-packed 32 (p ++ replicate (64 - length p) 0) (length-filled p h) (list_all-append_zeros p (64 - length p) h.nibbles_below)
 
 -- the fields that a path gives are seen as that path, so two paths that give the same fields are the same

@@ -7,8 +7,8 @@ use Rattle.ledger_spec.specs.Bytes.{Bytes, Hash, Half, Lookup, same_bytes}
 use Rattle.ledger_spec.specs.Forms.{Held, form_of, hash_of}
 use Rattle.ledger_spec.specs.Rules.{rule_number, fault_of}
 use Rattle.ledger_spec.specs.Spots.{wanted}
-use Rattle.ledger_machine.specs.declared.replies.Offered.{Offered}
-use Rattle.ledger_machine.specs.Offers.{Clash, node_given, spot_outcome}
+use Rattle.ledger_spec.specs.declared.outcomes.Offered.{Offered}
+use Rattle.ledger_spec.specs.Offers.{Clash, node_given, spot_outcome}
 use Rattle.node_offer.specs.Stored.{stored_form}
 use Rattle.node_offer.specs.Ways.{offered_as}
 

@@ -4,8 +4,8 @@ use Rattle.ledger_spec.specs.Bytes.{Bytes, Hash, is_zero}
 use Rattle.ledger_spec.specs.Spots as way
 use Rattle.ledger_spec.specs.Spots.{into}
 use Rattle.shamap_node.specs.declared.parts.Inner.{Inner}
-use Rattle.ledger_machine.specs.declared.replies.Offered.{Offered}
-use Rattle.ledger_machine.specs.declared.replies.Offered.TheVariants as offered
+use Rattle.ledger_spec.specs.declared.outcomes.Offered.{Offered}
+use Rattle.ledger_spec.specs.declared.outcomes.Offered.TheVariants as offered
 use Rattle.node_offer.specs.declared.spots.Spot.{Spot}
 use Rattle.node_offer.specs.declared.spots.Spot.TheVariants as spots
 

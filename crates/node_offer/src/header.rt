@@ -1,16 +1,13 @@
 //! A header that a peer offers.
 ghost use Rattle.std.specs.Prelude.{◌≡◌, Err, IfErr, IfOk, Ok, OnErr, OnOk};
 ghost use Rattle.std.specs.FinMap as map;
-ghost use Rattle.ledger_spec.specs.Maps.{hashes_in};
-ghost use Rattle.ledger_machine.specs.Offers.{head_outcome, after_head};
-ghost use Rattle.ledger_machine.specs.Base.{head_forms};
-ghost use Rattle.ledger_machine.specs.State.{State, form_in};
-ghost use Rattle.node_offer.specs.Stored.{HasClash, insert_forms, with_nodes};
+ghost use Rattle.ledger_spec.specs.Offers.{head_forms, head_outcome};
+ghost use Rattle.node_offer.specs.Stored.{HasClash, with_nodes};
 
 use crate::store::{OfferFault, put, same};
 use half_hash::{Blob, Hash32, NodeHash};
 use ledger_header::{Header, HeaderFault};
-use ledger_machine::HeadOffered;
+use ledger_spec::HeadOffered;
 use node_table::NodeTable;
 use std::alloc::Global;
 
@@ -26,26 +23,7 @@ pub fn offer_header<H: NodeHash>(
     ensures clash { IfErr result (HasClash (head_outcome H.half (map.get nodes.old) target.now bytes.now)) }
 
     // a good header is stored under its hash, and nothing else changes
-    ensures stored { IfOk result (λ o. nodes.new ≡ insert_forms H.half nodes.old (head_forms (Ok o) bytes.now)) }
-    ensures err { OnErr result (nodes.new ≡ nodes.old) }
-
-    // the same for the machine whose table this is
-    ensures after { (s : State) → s.nodes ≡ nodes.old → s.born ≡ hashes_in s.nodes → OnOk result (after_head H.half s bytes.now (head_outcome H.half (form_in s) target.now bytes.now) ≡ record s { nodes = nodes.new; born = hashes_in nodes.new }) }
-{
-    judge::<H>(alloc, nodes, target, bytes)
-}
-
-// What `offer_header` does, told of the table alone.
-fn judge<H: NodeHash>(
-    alloc: Global,
-    nodes: &mut NodeTable,
-    target: &Hash32,
-    bytes: &[u8],
-) -> Result<HeadOffered, OfferFault>
-    ensures outcome { IfOk result (λ o. head_outcome H.half (map.get nodes.old) target.now bytes.now ≡ Ok o) }
-    ensures clash { IfErr result (HasClash (head_outcome H.half (map.get nodes.old) target.now bytes.now)) }
-    ensures stored { IfOk result (λ o. nodes.new ≡ insert_forms H.half nodes.old (head_forms (Ok o) bytes.now)) }
-    ensures kept { IfOk result (λ o. nodes.new ≡ with_nodes H.half nodes.old (head_forms (Ok o) bytes.now)) }
+    ensures stored { IfOk result (λ o. nodes.new ≡ with_nodes H.half nodes.old (head_forms (Ok o) bytes.now)) }
     ensures err { OnErr result (nodes.new ≡ nodes.old) }
 {
     let header = match Header::decode(bytes) {

@@ -2,23 +2,21 @@
 ghost use Rattle.std.specs.Prelude.{◌≡◌, Err, IfErr, IfOk, Ok, OnErr, OnOk};
 ghost use Rattle.std.specs.FinMap as map;
 ghost use Rattle.std.specs.Option.{option_map};
-ghost use Rattle.ledger_spec.specs.Maps.{hashes_in};
 ghost use Rattle.ledger_spec.specs.Rules.{fault_of, rule_number};
 ghost use Rattle.ledger_spec.specs.Spots as way;
 ghost use Rattle.ledger_spec.specs.Wire.{read_offered};
 ghost use Rattle.shamap_node.specs.Nodes.{held};
-ghost use Rattle.ledger_machine.specs.Offers.{node_outcome, spot_outcome, stored_by, after_node};
-ghost use Rattle.ledger_machine.specs.State.{State};
-ghost use Rattle.node_offer.specs.Stored.{HasClash, insert_forms, with_nodes};
+ghost use Rattle.ledger_spec.specs.Offers.{node_outcome, spot_outcome, stored_by};
+ghost use Rattle.node_offer.specs.Stored.{HasClash, with_nodes};
 ghost use Rattle.node_offer.specs.Ways.{hashes_of_parent, offered_as};
 
 use crate::spots::{Spot, place};
 use crate::store::{OfferFault, put, same};
 use half_hash::{Hash32, NodeHash};
-use ledger_machine::Offered;
+use ledger_spec::Offered;
 use nib_path::NodeId;
 use node_table::NodeTable;
-use node_wire::{WireFault, decode_wire, wire_code};
+use node_wire::{WireFault, decode_offered, wire_code};
 use shamap_node::{Inner, Kind, Node, encode_form, hash_of, shape};
 use std::alloc::Global;
 
@@ -37,31 +35,10 @@ pub fn offer<H: NodeHash>(
     ensures clash { IfErr result (HasClash (node_outcome H.half (map.get nodes.old) target.now kind id.now blob.now)) }
 
     // a node that is good, or that breaks a rule, is stored under its hash, and nothing else changes
-    ensures stored { IfOk result (λ o. nodes.new ≡ insert_forms H.half nodes.old (stored_by (read_offered H.half blob.now) (Ok o))) }
-    ensures err { OnErr result (nodes.new ≡ nodes.old) }
-
-    // the same for the machine whose table this is
-    ensures after { (s : State) → s.nodes ≡ nodes.old → s.born ≡ hashes_in s.nodes → OnOk result (after_node H.half s target.now kind id.now blob.now ≡ record s { nodes = nodes.new; born = hashes_in nodes.new }) }
-{
-    judge::<H>(alloc, nodes, target, kind, id, blob)
-}
-
-// What `offer` does, told of the table alone.
-fn judge<H: NodeHash>(
-    alloc: Global,
-    nodes: &mut NodeTable,
-    target: &Hash32,
-    kind: Kind,
-    id: &NodeId,
-    blob: &[u8],
-) -> Result<Offered, OfferFault>
-    ensures outcome { IfOk result (λ o. node_outcome H.half (map.get nodes.old) target.now kind id.now blob.now ≡ Ok o) }
-    ensures clash { IfErr result (HasClash (node_outcome H.half (map.get nodes.old) target.now kind id.now blob.now)) }
-    ensures stored { IfOk result (λ o. nodes.new ≡ insert_forms H.half nodes.old (stored_by (read_offered H.half blob.now) (Ok o))) }
-    ensures kept { IfOk result (λ o. nodes.new ≡ with_nodes H.half nodes.old (stored_by (read_offered H.half blob.now) (Ok o))) }
+    ensures stored { IfOk result (λ o. nodes.new ≡ with_nodes H.half nodes.old (stored_by (read_offered H.half blob.now) (Ok o))) }
     ensures err { OnErr result (nodes.new ≡ nodes.old) }
 {
-    let node = match decode_wire::<H>(alloc, blob) {
+    let node = match decode_offered::<H>(alloc, blob) {
         Ok(node) => node,
         Err(WireFault::Memory) => return Err(OfferFault::Memory),
         Err(fault) => return Ok(Offered::BadWire(wire_code(&fault))),
@@ -87,10 +64,11 @@ fn offer_at<H: NodeHash>(
     kind: Kind,
     id: &NodeId,
 ) -> Result<Offered, OfferFault>
-    ensures outcome { IfOk result (λ o. spot_outcome H.half (map.get nodes.old) kind id.now (held node.now) (way.wanted wanted.now (hashes_of_parent parent)) ≡ Ok o) }
-    ensures clash { IfErr result (HasClash (spot_outcome H.half (map.get nodes.old) kind id.now (held node.now) (way.wanted wanted.now (hashes_of_parent parent)))) }
-    ensures stored { IfOk result (λ o. nodes.new ≡ insert_forms H.half nodes.old (stored_by (Ok (held node.now)) (Ok o))) }
-    ensures kept { IfOk result (λ o. nodes.new ≡ with_nodes H.half nodes.old (stored_by (Ok (held node.now)) (Ok o))) }
+    ensures outcome { IfOk result (λ o.
+        spot_outcome H.half (map.get nodes.old) kind id.now (held node.now) (way.wanted wanted.now (hashes_of_parent parent)) ≡ Ok o) }
+    ensures clash { IfErr result
+        (HasClash (spot_outcome H.half (map.get nodes.old) kind id.now (held node.now) (way.wanted wanted.now (hashes_of_parent parent)))) }
+    ensures stored { IfOk result (λ o. nodes.new ≡ with_nodes H.half nodes.old (stored_by (Ok (held node.now)) (Ok o))) }
     ensures err { OnErr result (nodes.new ≡ nodes.old) }
 {
     let found = hash_of::<H>(node);

@@ -1,6 +1,6 @@
 use crate::{OfferFault, Spot, offer, offer_header, place};
 use half_hash::{Hash32, TinyHash};
-use ledger_machine::{HeadOffered, Offered};
+use ledger_spec::{HeadOffered, Offered};
 use nib_path::NodeId;
 use node_table::NodeTable;
 use shamap_node::Kind;

@@ -1,14 +1,19 @@
-//! The stored forms: one ordered map in memory from hashes to forms.
+//! The stored forms: one ordered map in memory from hashes to forms. Hashes are ordered byte by byte.
 #![tactic(auto)]
 
 ghost use Rattle.std.specs.Prelude.{◌≡◌, OnOk, OnErr};
 ghost use Rattle.std.specs.FinMap as map;
 ghost use Rattle.std.specs.Option.{option_copied};
+ghost use Rattle.node_table.specs.Order.{IsNext};
 
 use half_hash::{Blob, Hash32, Memory};
 use std::alloc::Global;
 use std::collections::BTreeMap;
 use std::marker::Model;
+use std::ops::Bound;
+
+#[cfg(test)]
+mod tests;
 
 /// Forms under their hashes. Contracts see the finite map.
 #[derive(Drop)]
@@ -40,14 +45,31 @@ impl NodeTable {
         }
     }
 
-    /// The form of a hash.
+    /// The form of a hash, or None where none is stored.
     pub fn get(&self, key: &Hash32) -> Option<&Blob>
         ensures { option_copied result ≡ map.get self.now key.now }
     {
         self.entries.get(key)
     }
 
-    /// Sets the form of a hash.
+    /// The least hash that comes after another one, or the least of all; None where there is none.
+    pub fn next(&self, after: Option<&Hash32>) -> Option<Hash32>
+        ensures { IsNext self.now (option_copied after.entry) result }
+    {
+        match after {
+            None => {
+                let (hash, _) = self.entries.range(..).next()?;
+                Some(*hash)
+            }
+            Some(last) => {
+                let start = (Bound::Excluded(*last), Bound::Unbounded);
+                let (hash, _) = self.entries.range(start).next()?;
+                Some(*hash)
+            }
+        }
+    }
+
+    /// Sets the form of a hash. Where memory is refused nothing changes.
     pub fn insert(&mut self, key: Hash32, value: Blob) -> Result<(), Memory>
         ensures ok { OnOk result (self.new ≡ map.insert self.old key value) }
         ensures err { OnErr result (self.new ≡ self.old) }

@@ -1,1 +1,5 @@
 pub mod Wires
+pub mod ChunkLists
+pub mod Taking
+pub mod Written
+pub mod WireLaws

@@ -1,27 +1,52 @@
-use crate::{WireFault, decode_wire, wire_code};
+//! Wire forms there and back, and each cause by bytes that have it.
+use crate::{WireFault, decode_offered, decode_wire, encode_wire, wire_code};
 use half_hash::TinyHash;
 use shamap_node::{Node, hash_of};
 use std::alloc::Global;
 use std::test::Fail;
 
-// So many bytes, a byte that many times, and then a last one.
+/// The data 1 2 and a key of 0x10 and 31 zeros, whose form as an account state has the byte sum 0xFA.
+const LEAF: &[u8] =
+    b"\x01\x02\x10\0\0\0\0\0\0\0\0\0\0\0\0\0\0\0\0\0\0\0\0\0\0\0\0\0\0\0\0\0\0\0\x01";
+
+/// So many bytes, a byte that many times, and then a last one.
 fn wire(alloc: Global, size: usize, byte: u8, last: u8) -> Result<Vec<u8>, Fail> {
     let mut bytes = vec![in alloc; byte; size]?;
     bytes.push(last)?;
     Ok(bytes)
 }
 
+/// The node of a wire form.
+fn read(alloc: Global, bytes: &[u8]) -> Result<Node, Fail> {
+    Ok(decode_wire::<TinyHash>(alloc, bytes).ok().ok_or("node")?)
+}
+
 #[test]
 fn nodes_that_are_read(rt: HostRuntime) -> Result<(), Fail> {
     let alloc = rt.alloc();
-    // the data 1 2 and a key of 0x10 and 31 zeros, whose form has the byte sum 0xFA
-    let leaf = b"\x01\x02\x10\0\0\0\0\0\0\0\0\0\0\0\0\0\0\0\0\0\0\0\0\0\0\0\0\0\0\0\0\0\0\0\x01";
-    let node = decode_wire::<TinyHash>(alloc, leaf).ok().ok_or("leaf")?;
-    assert!(rt; matches!(&node, Node::Leaf(_)));
-    assert!(rt; hash_of::<TinyHash>(&node).bytes[0] == 0xFA);
-    let full = wire(alloc, 512, 3, 2)?;
-    let node = decode_wire::<TinyHash>(alloc, &full).ok().ok_or("inner")?;
-    assert!(rt; matches!(&node, Node::Inner(inner) if inner.count() == 16));
+    let leaf = read(alloc, LEAF)?;
+    assert!(rt; hash_of::<TinyHash>(&leaf).bytes[0] == 0xFA);
+    // a bare transaction's form begins with the byte sum 0xFA
+    let bare = read(alloc, b"\x03\0")?;
+    assert!(rt; matches!(&bare, Node::Leaf(leaf) if leaf.item.key().bytes[0] == 0xFD));
+    let chunk = wire(alloc, 33, 5, 3)?;
+    let inner = read(alloc, &chunk)?;
+    assert!(rt;
+        matches!(&inner, Node::Inner(inner) if inner.count() == 1 && !inner.branch(5).is_zero())
+    );
+    Ok(())
+}
+
+#[test]
+fn there_and_back(rt: HostRuntime) -> Result<(), Fail> {
+    let alloc = rt.alloc();
+    // a leaf of each kind, one chunk, and sixteen hashes
+    for (size, byte, last) in [(40, 7, 0), (40, 7, 1), (40, 7, 4), (33, 5, 3), (512, 3, 2)] {
+        let bytes = wire(alloc, size, byte, last)?;
+        let node = read(alloc, &bytes)?;
+        let back = encode_wire(alloc, &node)?;
+        assert_eq!(rt; back.bytes(), bytes.as_slice());
+    }
     Ok(())
 }
 
@@ -29,11 +54,16 @@ fn nodes_that_are_read(rt: HostRuntime) -> Result<(), Fail> {
 fn causes(rt: HostRuntime) -> Result<(), Fail> {
     let alloc = rt.alloc();
     for (size, byte, last, want, code) in [
-        (40, 1, 3, WireFault::TypeByte(3), 2),
+        (40, 1, 5, WireFault::TypeByte(5), 2),
         (511, 1, 2, WireFault::FullLength(511), 3),
-        (512, 0, 2, WireFault::EmptyInner, 8),
-        (31, 1, 1, WireFault::LeafShort(31), 9),
-        (40, 0, 1, WireFault::ZeroKey, 10),
+        (34, 1, 3, WireFault::ChunkLength(34), 4),
+        (33, 16, 3, WireFault::Position(16), 5),
+        (66, 1, 3, WireFault::Repeated(1), 6),
+        (33, 0, 3, WireFault::ZeroChunk(0), 7),
+        (0, 0, 3, WireFault::EmptyInner, 8),
+        (31, 1, 4, WireFault::LeafShort(31), 9),
+        // with 6 the byte sum of a bare transaction's form is 256
+        (1, 6, 0, WireFault::ZeroKey, 10),
         (1_048_609, 0, 1, WireFault::TooLong(1_048_577), 11),
     ] {
         let bytes = wire(alloc, size, byte, last)?;
@@ -43,5 +73,18 @@ fn causes(rt: HostRuntime) -> Result<(), Fail> {
     }
     let empty = decode_wire::<TinyHash>(alloc, b"").err().ok_or("empty")?;
     assert!(rt; wire_code(&empty) == 1 && wire_code(&WireFault::Memory) == 0);
+    Ok(())
+}
+
+#[test]
+fn offered_nodes(rt: HostRuntime) -> Result<(), Fail> {
+    let alloc = rt.alloc();
+    let leaf = decode_offered::<TinyHash>(alloc, LEAF).ok().ok_or("leaf")?;
+    assert!(rt; matches!(&leaf, Node::Leaf(_)));
+    let chunk = wire(alloc, 33, 5, 3)?;
+    let fault = decode_offered::<TinyHash>(alloc, &chunk)
+        .err()
+        .ok_or("fault")?;
+    assert_eq!(rt; fault, WireFault::TypeByte(3));
     Ok(())
 }

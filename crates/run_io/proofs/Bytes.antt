@@ -1,5 +1,6 @@
 -- How reading and writing go on.
-use Rattle.std.proofs.Common.{◌≡◌, inl, inr, ℕ, ◌+◌, ◌<◌, ◌≤◌, List, [], ◌∷◌, ◌++◌, length, take, drop, take_all, Option, Some, None, refl, sym, ◌∙◌, ap, subst, arith, append_assoc, length-append, length-drop}
+use Rattle.std.proofs.Common.{◌≡◌, inl, inr, ℕ, ◌+◌, ◌<◌, ◌≤◌, List, [], ◌∷◌, ◌++◌, length, take, drop, take_all, Option, Some, None}
+use Rattle.std.proofs.Common.{refl, sym, ◌∙◌, ap, subst, arith, append_assoc, length-append, length-drop}
 use Rattle.std.specs.Option.{IfSome}
 use Rattle.std.proofs.lemmas.List.{append-nil, take-append-drop, length-take-le, drop-drop, drop_all}
 use Rattle.std.proofs.Math.Seq.{take-add}
@@ -128,3 +129,13 @@ wrote_part (Some held) mid new a b text x y whole =
 pub wrote_front : (old new : Option (List ℕ)) (a text : List ℕ) → Wrote old new a → IsPrefix a text → WrotePart old new text
 wrote_front None new a text x whole = tt
 wrote_front (Some held) new a text x whole = (a, whole, x)
+
+-- so many bytes are at most so many
+pub took_at_most : (old new : Option (List ℕ)) (n : ℕ) → Took old new n → TookPart old new n
+took_at_most None new n took = tt
+took_at_most (Some bytes) new n took = (n, omega arith, took)
+
+-- none is a front
+pub took_none : (old : Option (List ℕ)) (most : ℕ) → TookPart old old most
+took_none None most = tt
+took_none (Some bytes) most = (0, omega arith, refl)

@@ -1,5 +1,6 @@
 //! What gives bytes and what takes them, and how all of them are read or written.
-ghost use Rattle.std.specs.Prelude.{◌≡◌, ◌<◌, ◌≤◌, ◌++◌, ℕ, List, Option, Some, IfOk, IfErr, OnErr, OnOk, IfSome, length, take, vec_len, ◌+◌};
+ghost use Rattle.std.specs.Prelude.{◌≡◌, ◌<◌, ◌≤◌, ◌++◌, ℕ, List, Option, Some, IfOk, IfErr, OnErr, OnOk, IfSome, length, take, vec_len};
+ghost use Rattle.std.specs.Prelude.{◌+◌};
 ghost use Rattle.run_io.specs.Bytes.{Rose, Takes, Took, TookPart, Wrote, WrotePart};
 
 use std::alloc::{AllocError, Global};

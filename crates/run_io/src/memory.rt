@@ -1,5 +1,6 @@
 //! A source and a sink in memory, which fail at stated calls.
-ghost use Rattle.std.specs.Prelude.{◌≡◌, ◌⊎◌, ◌↔◌, ◌-◌, ◌<◌, ◌≤◌, ◌++◌, [], Some, Contains, IfOk, IfSome, IsErr, OnErr, drop, length, min, take};
+ghost use Rattle.std.specs.Prelude.{◌≡◌, ◌⊎◌, ◌↔◌, ◌-◌, ◌<◌, ◌≤◌, ◌++◌, [], Some, Contains, IfOk, IfSome, IsErr, OnErr, drop, length};
+ghost use Rattle.std.specs.Prelude.{min, take};
 ghost use Rattle.run_io.specs.Bytes.{Rose, Takes, Wrote, WrotePart, next_count};
 
 use crate::{Fault, Sink, Source};
@@ -25,7 +26,13 @@ impl Model for MemSource {
 
     ghost Value = { SourceState };
 
-    ghost view = { λ s. record { left = drop s.at s.bytes.items; piece = s.piece; calls = s.calls; failing = s.failing.items; faults = s.faults } };
+    ghost view = { λ s. record {
+      left = drop s.at s.bytes.items;
+      piece = s.piece;
+      calls = s.calls;
+      failing = s.failing.items;
+      faults = s.faults;
+    } };
 
     ghost invariant = { λ s. (s.at ≤ vec_len s.bytes) × (1 ≤ s.piece) };
 }
@@ -145,9 +152,11 @@ impl Sink for MemSink {
         ensures cause { OnErr result (Rose self.old.faults self.new.faults) }
 
         // What this sink does beyond any other.
-        ensures fails { IsErr result ↔ (Contains self.old.failing (next_count self.old.calls) ⊎ ((0 < length piece.now) × (self.old.most ≤ length self.old.held))) }
+        ensures fails { IsErr result
+            ↔ (Contains self.old.failing (next_count self.old.calls) ⊎ ((0 < length piece.now) × (self.old.most ≤ length self.old.held))) }
         ensures count { IfOk result (λ n. n ≡ min (self.old.most - length self.old.held) (length piece.now)) }
-        ensures ok { IfOk result (λ n. self.new ≡ record self.old { held = self.old.held ++ take n piece.now; calls = next_count self.old.calls }) }
+        ensures ok { IfOk result (λ n.
+            self.new ≡ record self.old { held = self.old.held ++ take n piece.now; calls = next_count self.old.calls }) }
         ensures err { OnErr result (self.new ≡ record self.old { calls = next_count self.old.calls; faults = next_count self.old.faults }) }
     {
         self.calls = self.calls.saturating_add(1);

@@ -1,3 +1,4 @@
+mod ByteWords
 pub mod Scripts
 pub mod Servable
 pub mod Commands

@@ -1,27 +1,35 @@
 -- The lines of a script are lines that a core takes.
-use Rattle.std.proofs.Common.{◌≡◌, ℕ, zero, suc, ◌+◌, ◌<◌, ◌≤◌, List, [], ◌∷◌, length, true, false, cond, refl, sym, ◌∙◌, ap, subst, arith, length-append}
+use Rattle.std.proofs.Common.{◌≡◌, ℕ, zero, suc, ◌+◌, ◌<◌, ◌≤◌, List, [], ◌∷◌, length, true, false, cond, Option, None, Some, refl, sym, ◌∙◌, ap, subst}
+use Rattle.std.proofs.Common.{arith, length-append}
 use Rattle.std.specs.Prelude.{◌==◌}
 use Rattle.std.specs.List.{All}
 use Rattle.ledger_spec.specs.Bytes.{Bytes}
 use Rattle.ledger_machine.specs.declared.commands.Command.{Command}
 use Rattle.ledger_machine.specs.declared.commands.Command.TheVariants as command
 use Rattle.ledger_machine.specs.declared.commands.Line.{Line}
-use Rattle.ledger_machine.specs.Scripts.{Rises, IsInRange, IsLedgerMap}
+use Rattle.ledger_machine.specs.Scripts.{Rises, IfBytes, IsInRange, IsLedgerMap}
 use Rattle.ledger_spec.specs.declared.Kind.{Kind}
 use Rattle.ledger_spec.specs.declared.Kind.TheVariants.{State}
-use Rattle.script_form.specs.Servable.{IsServed, AreServable}
+use Rattle.script_form.specs.Servable.{IsServed, WaitsForEarlier, AreServable}
 use Rattle.script_form.specs.Words.{pieces, onto_first}
-use Rattle.script_form.specs.Grammar.{AreArguments, AreLines, IsLine, IsScript}
+use Rattle.script_form.specs.Grammar.{AreParts, AreArguments, AreLines, IsLine, IsScript}
+use Rattle.script_form.proofs.ByteWords.{blob_bytes}
 
 a_state_map : (kind : Kind) → kind ≡ State → IsLedgerMap kind
 a_state_map kind is = subst IsLedgerMap (sym is) tt
+
+parts_bytes : (words : List Bytes) (state tx : Option Bytes) → AreParts words state tx → IfBytes state × IfBytes tx
+parts_bytes [] None None are = (tt, tt)
+parts_bytes (word ∷ []) (Some state) None are = (blob_bytes word state are, tt)
+parts_bytes _ _ _ are = absurd are
 
 in_range : (args : List Bytes) (c : Command) → AreArguments args c → IsInRange c
 in_range args (command.Want t seq) are = are.3.nonzero
 in_range args (command.Peer p t) are = are.4.nonzero
 in_range args (command.Check t) are = are.2.nonzero
-in_range args (command.Base p t head state tx) are = are.6.nonzero
-in_range args (command.Node p t kind path blob) are = (are.6.nonzero, a_state_map kind are.7)
+in_range args (command.Base p t head state tx) are =
+    let parts = parts_bytes are.3 state tx are.8 in (are.6.nonzero, blob_bytes are.2 head are.7, parts.0, parts.1)
+in_range args (command.Node p t kind path blob) are = (are.6.nonzero, a_state_map kind are.7, blob_bytes are.3 blob are.9)
 in_range args (command.Tick t) are = absurd are
 in_range args (command.View v t) are = absurd are
 in_range args (command.Unview v) are = absurd are
@@ -93,7 +101,7 @@ are_servable bytes lines s = record {
   numbers_rise = rises 0 1 s.texts lines (omega arith) s.are;
   in_range = all_lines (λ l. IsInRange l.command) (λ n text l is. in_range is.says.0 l.command is.says.2) 1 s.texts lines s.are;
   served = all_lines (λ l. IsServed l.command) (λ n text l is. served is.says.0 l.command is.says.2) 1 s.texts lines s.are;
-  free = all_lines (λ l. l.after ≡ 0) (λ n text l is. is.free) 1 s.texts lines s.are;
+  waiting = all_lines (WaitsForEarlier lines) (λ n text l is waits. absurd (waits is.free)) 1 s.texts lines s.are;
   few =
       let one : length (pieces 10 bytes) ≡ length s.texts + 1 = ap length s.cut ∙ length-append s.texts ([] ∷ []) in
       omega (arith, one, few_pieces 10 bytes, s.few, same_length 1 s.texts lines s.are);

@@ -1,7 +1,7 @@
 -- Why there is no script.
-use Rattle.std.specs.Prelude.{◌≡◌, ◌+◌, ℕ, List, take, Option, IfSome}
+use Rattle.std.specs.Prelude.{◌≡◌, ℕ, List, take, Option, IfSome}
 use Rattle.run_io.specs.Bytes.{Rose, Took}
-use Rattle.script_form.specs.Grammar.{most_bytes, IsRefused}
+use Rattle.script_form.specs.Grammar.{most_read, IsRefused}
 use Rattle.script_form.specs.declared.script.ScriptFault.{ScriptFault}
 use Rattle.script_form.specs.declared.script.ScriptFault.TheVariants as fault
 
@@ -15,5 +15,6 @@ HasLineCause bytes fault.Memory = Unit {0}
 -- refused was read to its end, or to the byte after the last that a script may have.
 abbrev pub HasScriptCause : Option (List ℕ) → Option (List ℕ) → ℕ → ℕ → ScriptFault → Type 0
 HasScriptCause old new before now fault.Fault = Rose before now
-HasScriptCause old new before now (fault.Refused line cause) = IfSome old (λ bytes. IsRefused (take (most_bytes + 1) bytes) line) × (cause ≡ 5) × Took old new (most_bytes + 1)
+HasScriptCause old new before now (fault.Refused line cause) =
+    IfSome old (λ bytes. IsRefused (take most_read bytes) line) × (cause ≡ 5) × Took old new most_read
 HasScriptCause old new before now fault.Memory = Unit {0}

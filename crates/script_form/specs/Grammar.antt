@@ -13,6 +13,10 @@ use Rattle.script_form.specs.Words.{pieces, words_of, IsNumber, IsTarget, IsBlob
 abbrev pub most_bytes : ℕ
 most_bytes = 1048576
 
+-- the most bytes that are read: one more than a script may have
+abbrev pub most_read : ℕ
+most_read = most_bytes + 1
+
 -- the words behind a header say the root nodes that are given: none, or that of the state map
 abbrev pub AreParts : List Bytes → Option Bytes → Option Bytes → Type 0
 AreParts [] None None = Unit {0}
@@ -22,8 +26,10 @@ AreParts _ _ _ = ⊥
 -- The words behind the command's word say its arguments. The commands that are read at present are `want`, `peer`, `base` without a
 -- transaction root, `node` of the state map, and `check`.
 abbrev pub AreArguments : List Bytes → Command → Type 0
-AreArguments args (command.Want t seq) = (target : Bytes) × (number : Bytes) × (args ≡ target ∷ number ∷ []) × IsTarget target t × IsNumber number 4294967295 seq
-AreArguments args (command.Peer p t) = (number : Bytes) × (target : Bytes) × (args ≡ number ∷ target ∷ []) × IsNumber number 65535 p × IsTarget target t
+AreArguments args (command.Want t seq) =
+    (target : Bytes) × (number : Bytes) × (args ≡ target ∷ number ∷ []) × IsTarget target t × IsNumber number 4294967295 seq
+AreArguments args (command.Peer p t) =
+    (number : Bytes) × (target : Bytes) × (args ≡ number ∷ target ∷ []) × IsNumber number 65535 p × IsTarget target t
 AreArguments args (command.Base p t head state tx) =
     (number : Bytes) × (target : Bytes) × (header : Bytes) × (parts : List Bytes) × (args ≡ number ∷ target ∷ header ∷ parts)
     × IsNumber number 65535 p × IsTarget target t × IsBlob header head × AreParts parts state tx
@@ -66,7 +72,8 @@ pub record IsScript (bytes : Bytes) (lines : List Line) : Type 0 where
   pub are : AreLines 1 texts lines
   pub few : length bytes ≤ most_bytes
 
--- why the piece behind some lines is no line of a script: no newline ends it, it says nothing, or it holds the byte after the last that a script may have
+-- why the piece behind some lines is no line of a script: no newline ends it, it says nothing, or it holds the byte after the last that
+-- a script may have
 abbrev pub IsBad : List Bytes → Bytes → List Bytes → Type 0
 IsBad before bad after = (after ≡ []) ⊎ (((c : Command) → Says bad c → ⊥) ⊎ (most_bytes < length (ended before) + length bad + 1))
 

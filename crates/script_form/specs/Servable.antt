@@ -1,6 +1,6 @@
 -- The lines that are served at present.
-use Rattle.std.specs.Prelude.{◌≡◌, ◌<◌, ◌^◌, List, length}
-use Rattle.std.specs.List.{All}
+use Rattle.std.specs.Prelude.{◌≢◌, ◌<◌, ◌^◌, List, length, map}
+use Rattle.std.specs.List.{All, Contains}
 use Rattle.ledger_machine.specs.declared.commands.Command.{Command}
 use Rattle.ledger_machine.specs.declared.commands.Command.TheVariants as command
 use Rattle.ledger_machine.specs.declared.commands.Line.{Line}
@@ -15,11 +15,15 @@ IsServed (command.Node p t kind path blob) = Unit {0}
 IsServed (command.Check t) = Unit {0}
 IsServed _ = ⊥
 
--- lines that a core takes: of known actors, with numbers that rise from 1, in range, served, and waiting for nothing
+-- the line waits for none, or for an earlier one
+abbrev pub WaitsForEarlier : List Line → Line → Type 0
+WaitsForEarlier lines l = l.after ≢ 0 → (l.after < l.number) × Contains (map (λ x. x.number) lines) l.after
+
+-- lines that a core takes: of known actors, with numbers that rise from 1, in range, served, and waiting for earlier ones alone
 pub record AreServable (lines : List Line) : Type 0 where
   pub actors_known : All (λ l. l.actor < 64) lines
   pub numbers_rise : Rises 0 lines
   pub in_range : All (λ l. IsInRange l.command) lines
   pub served : All (λ l. IsServed l.command) lines
-  pub free : All (λ l. l.after ≡ 0) lines
+  pub waiting : All (WaitsForEarlier lines) lines
   pub few : length lines < 2 ^ 32

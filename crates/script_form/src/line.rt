@@ -21,7 +21,8 @@ pub fn command_of(alloc: Global, text: &[u8]) -> Result<Option<Command>, Memory>
 }
 
 fn command_in(alloc: Global, words: &[&[u8]]) -> Result<Option<Command>, Memory>
-    ensures { IfOk result (λ found. MatchOption found ((c : Command) → AreWords (map (λ w. w.now) words.now) c → ⊥) (AreWords (map (λ w. w.now) words.now))) }
+    ensures { IfOk result (λ found.
+        MatchOption found ((c : Command) → AreWords (map (λ w. w.now) words.now) c → ⊥) (AreWords (map (λ w. w.now) words.now))) }
 {
     let [actor, verb, arguments @ ..] = words else {
         return Ok(None);
@@ -90,7 +91,9 @@ fn check_of(arguments: &[&[u8]]) -> Option<Command>
 
 fn base_of(alloc: Global, arguments: &[&[u8]]) -> Result<Option<Command>, Memory>
     ensures some { IfOk result (λ found. IfSome found (λ c. (word_of c ≡ codes "base") × AreArguments (map (λ w. w.now) arguments.now) c)) }
-    ensures none { IfOk result (λ found. IfNone found ((p : ℕ) (t head : List ℕ) (state tx : Option (List ℕ)) → AreArguments (map (λ w. w.now) arguments.now) (Command.Base p t head state tx) → ⊥)) }
+    ensures none { IfOk result (λ found.
+        IfNone found ((p : ℕ) (t head : List ℕ) (state tx : Option (List ℕ))
+        → AreArguments (map (λ w. w.now) arguments.now) (Command.Base p t head state tx) → ⊥)) }
 {
     let [peer, target, header, parts @ ..] = arguments else {
         return Ok(None);
@@ -133,7 +136,9 @@ fn parts_of(alloc: Global, parts: &[&[u8]]) -> Result<Option<Option<Blob>>, Memo
 
 fn node_of(alloc: Global, arguments: &[&[u8]]) -> Result<Option<Command>, Memory>
     ensures some { IfOk result (λ found. IfSome found (λ c. (word_of c ≡ codes "node") × AreArguments (map (λ w. w.now) arguments.now) c)) }
-    ensures none { IfOk result (λ found. IfNone found ((p : ℕ) (t : List ℕ) (kind : Kind) (path blob : List ℕ) → AreArguments (map (λ w. w.now) arguments.now) (Command.Node p t kind path blob) → ⊥)) }
+    ensures none { IfOk result (λ found.
+        IfNone found ((p : ℕ) (t : List ℕ) (kind : Kind) (path blob : List ℕ)
+        → AreArguments (map (λ w. w.now) arguments.now) (Command.Node p t kind path blob) → ⊥)) }
 {
     let [peer, target, kind, id, blob] = arguments else {
         return Ok(None);

@@ -1,7 +1,8 @@
 //! A script read into its lines.
 ghost use Rattle.std.specs.Prelude.{◌≡◌, ◌<◌, ◌≤◌, ◌+◌, ℕ, List, Some, [], length, take, OnOk, IfOk, IfErr, IfSome};
 ghost use Rattle.script_form.specs.Servable.{AreServable};
-ghost use Rattle.script_form.specs.Grammar.{most_bytes, IsScript};
+ghost use Rattle.run_io.specs.Bytes.{TookPart};
+ghost use Rattle.script_form.specs.Grammar.{most_read, IsScript};
 ghost use Rattle.script_form.specs.Faults.{HasLineCause, HasScriptCause};
 
 use crate::line::command_of;
@@ -50,7 +51,7 @@ impl<T: Drop> From<AllocFailed<T>> for ScriptFault {
 
 /// The lines of a script's bytes, or the first line that is none.
 fn read_lines(alloc: Global, bytes: &[u8]) -> Result<Vec<Line>, ScriptFault>
-    requires { length bytes.now ≤ most_bytes + 1 }
+    requires { length bytes.now ≤ most_read }
     ensures script { IfOk result (λ lines. IsScript bytes.now lines.items) }
     ensures servable { IfOk result (λ lines. AreServable lines.items) }
     ensures refused { IfErr result (HasLineCause bytes.now) }
@@ -91,12 +92,14 @@ pub fn read_script<H: NodeHash, S: Source>(
     alloc: Global,
     source: &mut S,
 ) -> Result<Script, ScriptFault>
-    ensures script { IfOk result (λ script. IfSome (S.left source.old) (λ bytes. IsScript (take (most_bytes + 1) bytes) script.lines.items)) }
+    ensures script { IfOk result (λ script. IfSome (S.left source.old) (λ bytes. IsScript (take most_read bytes) script.lines.items)) }
     // These are lines that a core takes.
     ensures servable { IfOk result (λ script. AreServable script.lines.items) }
     // The source was read to its end.
     ensures ended { OnOk result (IfSome (S.left source.old) (λ _. S.left source.new ≡ Some [])) }
     ensures cause { IfErr result (HasScriptCause (S.left source.old) (S.left source.new) (S.faults source.old) (S.faults source.new)) }
+    // A front of the input is gone, and no more than is read at most.
+    ensures taken { TookPart (S.left source.old) (S.left source.new) most_read }
     ensures later { S.faults source.old ≤ S.faults source.new }
 {
     let bytes = match read_all(alloc, source, MOST_BYTES + 1) {

@@ -1,5 +1,6 @@
 -- What reading an inner node's form answers.
-use Rattle.std.proofs.Common.{◌≡◌, ◌≤◌, ◌==◌, ◌&&◌, ◌++◌, not, Bool, true, false, List, length, drop, nat_eq, IsTrue, Option, Some, None, MatchOption, refl, sym, ap, ◌∙◌, arith, length-drop}
+use Rattle.std.proofs.Common.{◌≡◌, ◌≤◌, ◌==◌, ◌++◌, not, true, false, List, length, drop, nat_eq, IsTrue, Option, Some, None, MatchOption}
+use Rattle.std.proofs.Common.{sym, ap, ◌∙◌, arith, length-drop}
 use Rattle.std.specs.List.{starts_with, concat, list_all, list_any}
 use Rattle.std.specs.Option.{option_map}
 use Rattle.std.proofs.lemmas.Bool.{cond-true, cond-false, ne_eqb, eq-eqb}
@@ -9,43 +10,9 @@ use Rattle.ledger_spec.specs.Forms.{IsInner, inner_of, inner_prefix}
 use Rattle.shamap_node.specs.declared.parts.Inner.{Inner}
 use Rattle.shamap_node.specs.declared.forms.FormFault.TheVariants.{InnerLength, EmptyInner}
 use Rattle.shamap_node.specs.Causes.{inner_cause}
-use Rattle.shamap_node.proofs.Hashes.{none_nonzero, some_not_all, concat-hashes_of, hashes_of-concat, length-concat}
+use Rattle.ledger_spec.proofs.Inners.{not_inner_empty, inner_of_is}
+use Rattle.ledger_spec.proofs.Hashes.{none_nonzero, some_not_all, concat-hashes_of, hashes_of-concat, length-concat}
 use Rattle.std.proofs.lemmas.List.{take_all}
-
-three_first : (a b c : Bool) → a ≡ false → (a && b && c) ≡ false
-three_first false b c e = refl
-three_first true b c e = cc
-
-three_second : (a b c : Bool) → b ≡ false → (a && b && c) ≡ false
-three_second false b c e = refl
-three_second true false c e = refl
-three_second true true c e = cc
-
-three_third : (a b c : Bool) → c ≡ false → (a && b && c) ≡ false
-three_third false b c e = refl
-three_third true false c e = refl
-three_third true true c e = e
-
-three_true : (a b c : Bool) → a ≡ true → b ≡ true → c ≡ true → (a && b && c) ≡ true
-three_true a b c p q r = rw (p, q, r) refl
-
--- another length is no inner node
-pub not_inner_length : (b : Bytes) → (length b ≡ 516 → ⊥) → inner_of b ≡ None
-unfolding inner_of
-not_inner_length b other = cond-false _ _ _ (three_second (starts_with nat_eq b inner_prefix) (length b == 516) (list_any is_nonzero (hashes_of 16 (drop 4 b))) (ne_eqb (length b) 516 other))
-
--- nor is another prefix
-pub not_inner_prefix : (b : Bytes) → starts_with nat_eq b inner_prefix ≡ false → inner_of b ≡ None
-unfolding inner_of
-not_inner_prefix b other = cond-false _ _ _ (three_first (starts_with nat_eq b inner_prefix) (length b == 516) (list_any is_nonzero (hashes_of 16 (drop 4 b))) other)
-
-pub not_inner_empty : (b : Bytes) → list_any is_nonzero (hashes_of 16 (drop 4 b)) ≡ false → inner_of b ≡ None
-unfolding inner_of
-not_inner_empty b other = cond-false _ _ _ (three_third (starts_with nat_eq b inner_prefix) (length b == 516) (list_any is_nonzero (hashes_of 16 (drop 4 b))) other)
-
-pub inner_of_is : (b : Bytes) → starts_with nat_eq b inner_prefix ≡ true → length b ≡ 516 → list_any is_nonzero (hashes_of 16 (drop 4 b)) ≡ true → inner_of b ≡ Some (hashes_of 16 (drop 4 b))
-unfolding inner_of
-inner_of_is b prefix size some = cond-true _ _ _ (three_true (starts_with nat_eq b inner_prefix) (length b == 516) (list_any is_nonzero (hashes_of 16 (drop 4 b))) prefix (eq-eqb (length b) 516 size) some)
 
 -- what is made of the hashes
 pub made : (b body : Bytes) (hs : List Hash) (o : Option Inner) → starts_with nat_eq b inner_prefix ≡ true → length b ≡ 516 → body ≡ drop 4 b → hs ≡ hashes_of 16 body

@@ -1,4 +1,3 @@
-pub mod Hashes
 pub mod Inners
 pub mod Reading
 pub mod Seen

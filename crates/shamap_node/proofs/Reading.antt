@@ -1,80 +1,25 @@
 -- Each byte string is the prefix form of at most one node or header, and why others are none.
-use Rattle.std.proofs.Common.{◌≡◌, ◌≢◌, ◌≤◌, ◌<◌, ◌+◌, ◌-◌, ℕ, true, false, List, ◌++◌, length, take, drop, nat_eq, nat_lt, if◌then◌else◌, IsTrue, Some, None, Result, Ok, Err, IfOk, IfErr, OnOk, MatchResult, refl, sym, ap, ◌∙◌, subst, arith, length-append}
-use Rattle.std.proofs.Math.Seq.{drop-append_seam, take-append_seam}
+use Rattle.std.proofs.Common.{◌≡◌, ◌≢◌, ◌≤◌, ◌<◌, ◌+◌, ◌-◌, ℕ, true, false, ◌++◌, length, take, drop, nat_eq, nat_lt, IsTrue, Some, None}
+use Rattle.std.proofs.Common.{Result, Ok, Err, IfOk, IfErr, OnOk, MatchResult, refl, sym, ap, ◌∙◌, subst, arith, length-append}
 use Rattle.std.proofs.lemmas.Bool.{not-true, le-ltb, lt-ltb, false≢true, cond-true, cond-false}
-use Rattle.std.proofs.lemmas.Bool.Decides.{Decides-eqb}
-use Rattle.std.proofs.lemmas.Slice.Eq.{starts_is}
 use Rattle.std.specs.List.{starts_with, concat}
 use Rattle.std.specs.Int.{w32, from_be_bytes}
 use Rattle.half_hash.specs.declared.prefix.Prefix.TheVariants.{Txn, Snd, Mln, Min}
 use Rattle.half_hash.specs.Prefix.{prefix_of}
 use Rattle.half_hash.specs.Zero.{is_zero, is_nonzero}
 use Rattle.ledger_spec.specs.declared.Kind.TheVariants.{State, Tx, Set}
-use Rattle.ledger_spec.specs.Bytes.{Bytes, Hash, Half, hashes_of}
-use Rattle.ledger_spec.specs.Forms.{Held, inner, leaf, header, Form, IsItem, IsInner, data_limit}
+use Rattle.ledger_spec.specs.Bytes.{Bytes, Hash, Half}
+use Rattle.ledger_spec.specs.Forms.{Held, inner, leaf, header, Form, IsItem, data_limit}
 use Rattle.shamap_node.specs.declared.forms.FormFault.{FormFault}
-use Rattle.shamap_node.specs.declared.forms.FormFault.TheVariants.{Short, Prefix, InnerLength, EmptyInner, LeafShort, ZeroKey, TooLong, Memory}
+use Rattle.shamap_node.specs.declared.forms.FormFault.TheVariants.{Short, Prefix, InnerLength, EmptyInner, LeafShort, ZeroKey, TooLong}
+use Rattle.shamap_node.specs.declared.forms.FormFault.TheVariants.{Memory}
 use Rattle.shamap_node.specs.Causes.{leaf_cause, keyed_cause, inner_cause, form_cause}
 use Rattle.shamap_node.specs.Laws.{is_node}
 use Rattle.shamap_node.specs.declared.Node.{Node}
 use Rattle.shamap_node.specs.declared.Node.TheVariants as variants
 use Rattle.shamap_node.specs.Nodes.{held}
 use Rattle.shamap_node.proofs.Inners.{no_inner_cause}
-use Rattle.shamap_node.proofs.Hashes.{hashes_of-concat}
-
--- bytes that begin with a prefix are it and the rest
-pub starts_split : (b p : Bytes) → starts_with nat_eq b p ≡ true → b ≡ p ++ drop (length p) b
-starts_split b p starts = (starts_is Decides-eqb b p (starts_with nat_eq b p) refl).0 starts
-
--- the form behind its four bytes
-pub form_behind : (b p parts : Bytes) → length p ≡ 4 → starts_with nat_eq b p ≡ true → drop 4 b ≡ parts → b ≡ p ++ parts
-form_behind b p parts size starts rest = starts_split b p starts ∙ ap (λ n. p ++ drop n b) size ∙ ap (λ t. p ++ t) rest
-
--- what bytes hold if they are a form
-abbrev pub read : Half → Bytes → Held
-read half b =
-    if starts_with nat_eq b (prefix_of Min) then inner (hashes_of 16 (drop 4 b))
-    else if starts_with nat_eq b (prefix_of Mln) then leaf State (drop (length b - 32) b) (drop 4 (take (length b - 32) b))
-    else if starts_with nat_eq b (prefix_of Snd) then leaf Tx (drop (length b - 32) b) (drop 4 (take (length b - 32) b))
-    else if starts_with nat_eq b (prefix_of Txn) then leaf Set (half b) (drop 4 b)
-    else header (drop 4 b)
-
--- where the key and the data stand
-pub key_at : (p bytes key : Bytes) → length p ≡ 4 → length key ≡ 32 → drop (length (p ++ bytes ++ key) - 32) (p ++ bytes ++ key) ≡ key
-key_at p bytes key front whole =
-    let at : length (p ++ bytes ++ key) - 32 ≡ length (p ++ bytes) = omega (arith, length-append (p ++ bytes) key, length-append p bytes) in
-    ap (λ n. drop n (p ++ bytes ++ key)) at ∙ drop-append_seam (p ++ bytes) key
-
-pub data_at : (p bytes key : Bytes) → length p ≡ 4 → length key ≡ 32 → drop 4 (take (length (p ++ bytes ++ key) - 32) (p ++ bytes ++ key)) ≡ bytes
-data_at p bytes key front whole =
-    let at : length (p ++ bytes ++ key) - 32 ≡ length (p ++ bytes) = omega (arith, length-append (p ++ bytes) key, length-append p bytes) in
-    ap (λ n. drop 4 (take n (p ++ bytes ++ key))) at ∙ ap (drop 4) (take-append_seam (p ++ bytes) key)
-    ∙ ap (λ n. drop n (p ++ bytes)) (sym front) ∙ drop-append_seam p bytes
-
-pub size_of : (p bytes key : Bytes) → length p ≡ 4 → length key ≡ 32 → length (p ++ bytes ++ key) ≡ length bytes + 36
-size_of p bytes key front whole = omega (arith, length-append (p ++ bytes) key, length-append p bytes)
-
--- the sixteen hashes of an inner node
-pub hashes_at : (hashes : List Hash) → IsInner hashes → hashes_of 16 (concat hashes) ≡ hashes
-hashes_at hashes h = ap (λ n. hashes_of n (concat hashes)) (sym h.count) ∙ hashes_of-concat hashes h.sizes
-
--- a form's bytes are read as what it holds
-read_form : (half : Half) (n : Held) → (b : Bytes) → Form half n b → read half b ≡ n
-read_form half (inner hashes) b f = ap (read half) f.1 ∙ ap inner (hashes_at hashes f.0)
-read_form half (leaf State key bytes) b f =
-    ap (read half) f.1
-    ∙ ap (λ k. leaf State k (drop 4 (take (length (prefix_of Mln ++ bytes ++ key) - 32) (prefix_of Mln ++ bytes ++ key)))) (key_at (prefix_of Mln) bytes key refl f.0.key_size)
-    ∙ ap (leaf State key) (data_at (prefix_of Mln) bytes key refl f.0.key_size)
-read_form half (leaf Tx key bytes) b f =
-    ap (read half) f.1
-    ∙ ap (λ k. leaf Tx k (drop 4 (take (length (prefix_of Snd ++ bytes ++ key) - 32) (prefix_of Snd ++ bytes ++ key)))) (key_at (prefix_of Snd) bytes key refl f.0.key_size)
-    ∙ ap (leaf Tx key) (data_at (prefix_of Snd) bytes key refl f.0.key_size)
-read_form half (leaf Set key bytes) b f = ap (read half) f.1 ∙ ap (λ k. leaf Set k bytes) (sym f.0.1)
-read_form half (header bytes) b f = ap (read half) f.1
-
--- one reading
-pub same_reading : (half : Half) (m n : Held) (b : Bytes) → Form half m b → Form half n b → m ≡ n
-same_reading half m n b f g = sym (read_form half m b f) ∙ read_form half n b g
+use Rattle.ledger_spec.proofs.Readings.{key_at, size_of, same_reading}
 
 -- an item's parts are no cause
 pub no_leaf_cause : (size : ℕ) (key : Hash) → size ≤ data_limit → IsTrue (is_nonzero key) → leaf_cause size key ≡ None

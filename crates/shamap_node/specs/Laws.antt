@@ -21,4 +21,5 @@ is_no_node (Some n) = not (is_node n)
 
 -- what bytes hold is what they are the form of, by a half of 32 bytes
 abbrev pub HeldByForm : Type 0
-HeldByForm = (half : Half) → ((x : Bytes) → length (half x) ≡ 32) → (n : Held) (bytes : Bytes) → Form half n bytes ↔ (held_of half bytes ≡ Some n)
+HeldByForm = (half : Half) → ((x : Bytes) → length (half x) ≡ 32)
+    → (n : Held) (bytes : Bytes) → Form half n bytes ↔ (held_of half bytes ≡ Some n)

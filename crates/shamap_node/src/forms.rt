@@ -1,5 +1,6 @@
 //! Prefix forms: written, read and hashed.
-ghost use Rattle.std.specs.Prelude.{◌≡◌, ◌≢◌, ◌++◌, ◌-◌, ◌≤◌, length, take, drop, IfErr, IfOk, IsTrue, MatchResult, None, OnOk, Some, nat_eq};
+ghost use Rattle.std.specs.Prelude.{◌≡◌, ◌≢◌, ◌++◌, ◌-◌, ◌≤◌, length, take, drop, IfErr, IfOk, IsTrue, MatchResult, None, OnOk, Some};
+ghost use Rattle.std.specs.Prelude.{nat_eq};
 ghost use Rattle.std.specs.List.{concat, starts_with};
 ghost use Rattle.std.specs.Option.{option_map};
 ghost use Rattle.std.specs.Int.{w32, from_be_bytes};
@@ -75,7 +76,8 @@ fn prefix_for(kind: Kind) -> Prefix
 
 // The key as it stands behind the data: none at a bare transaction.
 fn key_part(leaf: &Leaf) -> &[u8]
-    ensures { leaf_form leaf.now.kind leaf.now.item.key leaf.now.item.value ≡ leaf_prefix leaf.now.kind ++ leaf.now.item.value ++ result.now }
+    ensures { leaf_form leaf.now.kind leaf.now.item.key leaf.now.item.value
+        ≡ leaf_prefix leaf.now.kind ++ leaf.now.item.value ++ result.now }
 {
     match leaf.kind {
         Kind::Set => &[],
@@ -281,7 +283,8 @@ pub fn decode_form<H: NodeHash>(alloc: Global, bytes: &[u8]) -> Result<Node, For
     ensures cause { IfErr result (λ fault. fault ≢ faults.Memory → form_cause H.half bytes.now ≡ Some fault) }
 
     // a node's form is read as that node, if there is memory
-    ensures back { (n : Held) → IsTrue (is_node n) → Form H.half n bytes.now → MatchResult result (λ node. held node ≡ n) (λ fault. fault ≡ faults.Memory) }
+    ensures back { (n : Held) → IsTrue (is_node n) → Form H.half n bytes.now
+        → MatchResult result (λ node. held node ≡ n) (λ fault. fault ≡ faults.Memory) }
 
     // the same as what the bytes hold
     ensures seen { IfOk result (λ node. held_of H.half bytes.now ≡ Some (held node)) }

@@ -66,6 +66,19 @@ mod tests {
         Ok(())
     }
 
+    #[test]
+    fn an_item_without_a_key(rt: HostRuntime) -> Result<(), Fail> {
+        let alloc = rt.alloc();
+        let none = Blob::from_slice(alloc, b"")?;
+        let fault = Item::new(Hash32::zero(), none).err().ok_or("zero")?;
+        let long = ItemFault::TooLong(1);
+        assert_eq!(rt;
+            format!(in alloc; "{fault} {long}")?.as_str(),
+            "ZeroKey TooLong"
+        );
+        Ok(())
+    }
+
     /// `MLN`, a zero, the data 1 2, and a key of 0x10 and 31 zeros.
     const FORM: &[u8] =
         b"MLN\0\x01\x02\x10\0\0\0\0\0\0\0\0\0\0\0\0\0\0\0\0\0\0\0\0\0\0\0\0\0\0\0\0\0\0\0";

@@ -80,7 +80,8 @@ pub struct Inner {
 impl Inner {
     /// The inner node with these branches, or none where all sixteen are zero.
     pub fn new(hashes: [Hash32; 16]) -> Option<Inner>
-        ensures { MatchOption result (IsTrue (list_all all_zero hashes)) (λ inner. (inner.hashes ≡ hashes) × IsTrue (list_any is_nonzero hashes)) }
+        ensures { MatchOption result (IsTrue (list_all all_zero hashes))
+            (λ inner. (inner.hashes ≡ hashes) × IsTrue (list_any is_nonzero hashes)) }
     {
         if !has_branch(&hashes) {
             return None;

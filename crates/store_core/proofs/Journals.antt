@@ -1,12 +1,15 @@
 -- How a journal grows, and what a core keeps meanwhile.
-use Rattle.std.proofs.Common.{◌≡◌, ℕ, zero, suc, Some, None, ◌+◌, ◌-◌, Result, Ok, ◌<◌, ◌≤◌, List, [], ◌∷◌, ◌++◌, map, length, take, drop, get_or, Bool, true, false, cond, refl, sym, ◌∙◌, ap, subst, arith, length-append, set, length-set, ◌≢◌, get_or-set_same, get_or-set_other}
-use Rattle.std.specs.Prelude.{◌==◌, slice_index}
-use Rattle.std.specs.List.{filter, find, All, Contains}
+use Rattle.std.proofs.Common.{◌≡◌, ℕ, zero, suc, Some, None, ◌+◌, ◌-◌, Result, Ok, ◌<◌, ◌≤◌, List, [], ◌∷◌, ◌++◌, map, length, take, drop}
+use Rattle.std.proofs.Common.{get_or, Bool, true, false, cond, refl, sym, ◌∙◌, ap, subst, arith, length-append, set, length-set, ◌≢◌}
+use Rattle.std.proofs.Common.{get_or-set_same, get_or-set_other}
+use Rattle.std.specs.Prelude.{◌==◌, nat_lt, slice_get, slice_index}
+use Rattle.std.specs.List.{filter, list_any, All, Contains}
 use Rattle.std.specs.Result.{is_ok}
-use Rattle.std.proofs.lemmas.Option.{slice_get_read}
+use Rattle.std.proofs.lemmas.Option.{slice_get_read, same_Some}
 use Rattle.std.proofs.Math.Seq.{take-add}
 use Rattle.std.proofs.lemmas.Bool.Decides.{nat_tests}
-use Rattle.std.proofs.lemmas.List.{append-nil, get_or_read, get_or_default, get_or-take, get_or-drop, length-map, map-append, take_more, take-append-drop}
+use Rattle.std.proofs.lemmas.List.{append-nil, get_or_read, get_or_default, take_all, get_or-take, get_or-drop, length-map, map-append}
+use Rattle.std.proofs.lemmas.List.{take_more, take-append-drop}
 use Rattle.std.proofs.lemmas.List.Elements.{filter-append, All-append, All-contains}
 use Rattle.std.specs.FinMap as finite
 use Rattle.std.proofs.Common.{◌⊎◌, inl, inr, IsTrue}
@@ -14,15 +17,18 @@ use Rattle.ledger_machine.specs.declared.replies.Reply.TheVariants as says
 use Rattle.ledger_spec.specs.Bytes.{Half, Hash, Bytes}
 use Rattle.ledger_machine.specs.State.{State, opening}
 use Rattle.ledger_machine.specs.Steps.{Step}
-use Rattle.ledger_machine.specs.Runs.{Answers, used_by, answered_by, Projects, Waits}
-use Rattle.ledger_machine.specs.Scripts.{numbers_of, IsInRange, IsAcquiring}
+use Rattle.ledger_machine.specs.Runs.{Answers, used_by, answered_by, Projects}
+use Rattle.ledger_machine.specs.Scripts.{numbers_of, line_of, IsInRange, IsAcquiring}
 use Rattle.script_form.specs.Servable.{AreServable, IsServed}
 use Rattle.ledger_machine.specs.Sound.{Sound, IsStoredAt}
-use Rattle.ledger_machine.proofs.Soundness.{opening_is_sound}
+use Rattle.ledger_laws.proofs.Soundness.{opening_is_sound}
 use Rattle.ledger_spec.specs.Maps.{hash_cmp}
 use Rattle.ledger_machine.specs.declared.commands.Command.TheVariants as command
-use Rattle.ledger_machine.proofs.RunLaws.{run_more}
-use Rattle.store_core.specs.Journal.{IsDone, Kept, IsNext, Rose, RoseBy, faults_in, is_fault}
+use Rattle.ledger_laws.proofs.RunLaws.{run_more}
+use Rattle.ledger_machine.specs.Runs.{IsDone, is_answered, next_line}
+use Rattle.store_core.specs.Journal.{Kept, IsNext, Rose, RoseBy, faults_in, fault_count}
+use Rattle.store_core.proofs.Finding.{rising, line_there}
+use Rattle.store_core.proofs.Waiting.{read_at, next_left, next_at, answered_any, any_answered, number_at, number_in, same_place, waits_more}
 use Rattle.ledger_machine.specs.declared.commands.Line.{Line}
 use Rattle.ledger_machine.specs.declared.journal.Entry.{Entry}
 use Rattle.ledger_machine.specs.declared.commands.Command.{Command}
@@ -65,11 +71,11 @@ answered_part a es = sym (length-map (filter (λ e. e.actor == a) es) (λ (e : E
 numbers_part : (a : ℕ) (ls : List Line) → part (λ l. l.actor) ls a ≡ length (numbers_of a ls)
 numbers_part a ls = sym (length-map (filter (λ l. l.actor == a) ls) (λ (l : Line). l.number))
 
-faults_push : (es : List Entry) (e : Entry) → faults_in (es ++ e ∷ []) ≡ faults_in es + is_fault e.reply
+faults_push : (es : List Entry) (e : Entry) → faults_in (es ++ e ∷ []) ≡ faults_in es + fault_count e.reply
 faults_push [] e = omega arith
 faults_push (x ∷ es) e = omega (arith, faults_push es e)
 
-fault_or_none : (r : Reply) → (r ≡ says.Fault) ⊎ (is_fault r ≡ 0)
+fault_or_none : (r : Reply) → (r ≡ says.Fault) ⊎ (fault_count r ≡ 0)
 fault_or_none says.Fault = inl refl
 fault_or_none says.Memory = inr refl
 fault_or_none (says.Clash h o n) = inr refl
@@ -99,26 +105,11 @@ bound_more es e opened now now' (inr top) later cause = inr (omega arith)
 bound_more es e opened now now' (inl b) later cause =
     elim (fault_or_none e.reply) [
       | inl is ↦ elim (cause is) [
-        | inl rose ↦ inl (omega (arith, faults_push es e, ap is_fault is))
+        | inl rose ↦ inl (omega (arith, faults_push es e, ap fault_count is))
         | inr top ↦ inr (omega (arith, top))
       ]
       | inr none ↦ inl (omega (arith, faults_push es e, none))
     ]
-
--- what is found has what all have
-found_has : (P : Line → Type 0) (test : Line → Bool) (lines : List Line) (l : Line) → find test lines ≡ Some l → All P lines → P l
-found_has P test [] l e all = cc
-found_has P test (x ∷ xs) l e all =
-    elim (test x) as (λ b. cond b (Some x) (find test xs) ≡ Some l → P l) [
-      | true ↦ λ h. let same : x ≡ l = cc in subst P same (all 0 x (omega arith))
-      | false ↦ λ h. found_has P test xs l h (λ k d lt. all (suc k) d (omega arith))
-    ] e
-
--- lines that wait for nothing
-waits_free : (lines : List Line) → All (λ l. l.after ≡ 0) lines → (done : List ℕ) (entries : List Entry) → Waits lines done entries
-waits_free lines free done [] = tt
-waits_free lines free done (e ∷ rest) =
-    ((λ l found waits. absurd (waits (found_has (λ l. l.after ≡ 0) (λ l. l.number == e.line) lines l found free))), waits_free lines free (e.line ∷ done) rest)
 
 -- the entry answers the line that is next
 pub answers : (half : Half) (lines : List Line) (s s' : State) (line : Line) (e : Entry) (from at : ℕ) → IsNext lines from e.actor at → line ≡ get_or lines at line → e.line ≡ line.number → e.actor ≡ e.actor → Step half s e.actor line.command e.reply (used_by e) s' → Answers half lines s e s'
@@ -146,7 +137,7 @@ module _ (half : Half) (lines : List Line) (cursors : List ℕ) (journal : List 
       ∙ sym (numbers-append a (take (slice_index cursors a) lines) (drop (slice_index cursors a) lines)) ∙ ap (numbers_of a) (take-append-drop (slice_index cursors a) lines)
 
   pub kept_projects : Projects lines journal
-  kept_projects = record { fronts = λ a lt. (numbers_of a (drop (slice_index cursors a) lines), joins a lt); waits = waits_free lines k.servable.free [] journal }
+  kept_projects = record { fronts = λ a lt. (numbers_of a (drop (slice_index cursors a) lines), joins a lt); waits = k.waits }
 
   pub kept_done : (a : ℕ) → a < 64 → numbers_of a (drop (slice_index cursors a) lines) ≡ [] → IsDone lines journal a
   kept_done a lt none = sym (append-nil (answered_by a journal)) ∙ ap (λ (w : List ℕ). answered_by a journal ++ w) (sym none) ∙ joins a lt
@@ -167,6 +158,64 @@ module _ (half : Half) (lines : List Line) (cursors : List ℕ) (journal : List 
   pub kept_in_range : (at : ℕ) → at < length lines → (line : Line) → line ≡ get_or lines at line → IsInRange line.command
   kept_in_range at lt line is = let P : Line → Type 0 = λ l. IsInRange l.command in subst P (sym is) (k.servable.in_range at line lt)
 
+  -- a line has its entry exactly where its actor's cursor stands behind it
+  pub kept_answered : (at : ℕ) (line : Line) → at < length lines → get_or lines at line ≡ line → is_answered journal line.number ≡ nat_lt at (slice_index cursors line.actor)
+  kept_answered at line lt is =
+      elim (nat_lt at (slice_index cursors line.actor)) as (λ b. nat_lt at (slice_index cursors line.actor) ≡ b → is_answered journal line.number ≡ b) [
+        | true ↦ λ t.
+            let passed : at < slice_index cursors line.actor = grind (arith, nat_tests) in
+            answered_any line.actor line.number journal (ap (list_any (λ m. m == line.number)) (k.done line.actor known_actor) ∙ number_in lines (slice_index cursors line.actor) at line passed lt is)
+        | false ↦ λ t. elim (is_answered journal line.number) as (λ b. is_answered journal line.number ≡ b → b ≡ false) [
+          | true ↦ λ any. let passed : at < slice_index cursors line.actor = behind any in grind (arith, nat_tests)
+          | false ↦ λ none. refl
+        ] refl
+      ] refl
+    where
+      known_actor : line.actor < 64
+      known_actor = let P : Line → Type 0 = λ l. l.actor < 64 in subst P is (k.servable.actors_known at line lt)
+
+      behind : is_answered journal line.number ≡ true → at < slice_index cursors line.actor
+      behind any =
+          let by = any_answered line.number journal k.known any in
+          let w = number_at by.0 line.number (slice_index cursors by.0) lines (sym (ap (list_any (λ m. m == line.number)) (k.done by.0 by.1)) ∙ by.2) in
+          let place : w.0 ≡ at = same_place lines k.servable.numbers_rise w.0 at w.1 line w.3 lt w.4 is w.6 in
+          let line_is : w.1 ≡ line = sym w.4 ∙ (get_or_default lines w.0 w.1 line w.3 ∙ (ap (λ (n : ℕ). get_or lines n line) place ∙ is)) in
+          let actor : by.0 ≡ line.actor = sym w.5 ∙ ap (λ (l : Line). l.actor) line_is in
+          omega (arith, w.2, place, ap (slice_index cursors) actor)
+
+  -- no line has the number, so none of the number has an entry
+  pub kept_unknown : (number : ℕ) → ((j : ℕ) (d : Line) → j < length lines → (get_or lines j d).number ≢ number) → is_answered journal number ≡ false
+  kept_unknown number none =
+      elim (is_answered journal number) as (λ b. is_answered journal number ≡ b → b ≡ false) [
+        | true ↦ λ any.
+            let by = any_answered number journal k.known any in
+            let w = number_at by.0 number (slice_index cursors by.0) lines (sym (ap (list_any (λ m. m == number)) (k.done by.0 by.1)) ∙ by.2) in
+            absurd (none w.0 w.1 w.3 (ap (λ (l : Line). l.number) w.4 ∙ w.6))
+        | false ↦ λ e. refl
+      ] refl
+
+  -- a cursor may go on to a place before which the actor has no further line
+  pub kept_moved : (a at : ℕ) → a < 64 → at ≤ length lines → numbers_of a (take at lines) ≡ numbers_of a (take (slice_index cursors a) lines) → Kept half lines (set cursors a at) journal capacity interval told opened now s
+  kept_moved a at lt within none = record {
+    run = k.run;
+    sound = k.sound;
+    listed_few = k.listed_few;
+    cursor_count = length-set cursors a at ∙ k.cursor_count;
+    behind = λ b l. elim (b == a) as (λ t. (b == a) ≡ t → slice_index (set cursors a at) b ≤ length lines) [
+      | true ↦ λ t. let same : b ≡ a = grind (arith, nat_tests) in let n : a < length cursors = omega (arith, k.cursor_count) in rw (same, get_or-set_same) (omega (arith, within))
+      | false ↦ λ t. let other : b ≢ a = grind (arith, nat_tests) in rw get_or-set_other (k.behind b l)
+    ] refl;
+    done = λ b l. elim (b == a) as (λ t. (b == a) ≡ t → answered_by b journal ≡ numbers_of b (take (slice_index (set cursors a at) b) lines)) [
+      | true ↦ λ t. let same : b ≡ a = grind (arith, nat_tests) in let n : a < length cursors = omega (arith, k.cursor_count) in rw (same, get_or-set_same) (k.done a lt ∙ sym none)
+      | false ↦ λ t. let other : b ≢ a = grind (arith, nat_tests) in rw get_or-set_other (k.done b l)
+    ] refl;
+    waits = k.waits;
+    known = k.known;
+    servable = k.servable;
+    room = k.room;
+    fault_bound = k.fault_bound;
+  }
+
   module _ (a at : ℕ) (lt : a < 64) (next : IsNext lines (slice_index cursors a) a at) (line : Line) (is : line ≡ get_or lines at line) where
     fewer : part (λ e. e.actor) journal a < part (λ l. l.actor) lines a
     fewer = omega (arith, answered_part a journal, numbers_part a lines, ap length (k.done a lt), ap length (numbers_next lines _ a at line next is), length-append (numbers_of a (take (slice_index cursors a) lines)) (line.number ∷ []), numbers-take-le a (at + 1) lines)
@@ -175,8 +224,19 @@ module _ (half : Half) (lines : List Line) (cursors : List ℕ) (journal : List 
     pub kept_less : length journal < length lines
     kept_less = omega (arith, parts_total 64 (λ (e : Entry). e.actor) journal k.known, parts_total 64 (λ (l : Line). l.actor) lines k.servable.actors_known, total-lt 64 _ _ at_most a lt fewer)
 
-    pub kept_step : (e : Entry) (s' : State) (c now' : ℕ) → e.line ≡ line.number → e.actor ≡ a → (IsTrue told → Step half s e.actor line.command e.reply (used_by e) s') → (IsTrue told → Sound half s') → (IsTrue told → length s'.listed ≤ suc (length s.listed)) → capacity ≤ c → now ≤ now' → (e.reply ≡ says.Fault → Rose now now') → Kept half lines (set cursors a (at + 1)) (journal ++ e ∷ []) c interval told opened now' s'
-    kept_step e s' c now' number actor step sound few more later cause = record {
+    -- it is the actor's next line
+    pub kept_next : next_line lines journal a ≡ Some line
+    kept_next = next_at lines journal a at line next.within is (next.actor line is) (k.done a lt ∙ sym next.none)
+
+    -- what the line that was found waits for
+    waits_for : (l : Line) → line_of lines line.number ≡ Some l → (line.after ≢ 0 → is_answered journal line.after ≡ true) → l.after ≢ 0 → Contains [] l.after ⊎ (is_answered journal l.after ≡ true)
+    waits_for l found free waits =
+        let same : line ≡ l = same_Some line l (line_there lines at line.number line next.within (λ j d before within. let less = rising 0 lines k.servable.numbers_rise j at d line before next.within in omega (arith, less, ap (λ (x : Line). x.number) is)) is refl ∙ found) in
+        let P : Line → Type 0 = λ x. x.after ≢ 0 → is_answered journal x.after ≡ true in
+        inr (subst P same free waits)
+
+    pub kept_step : (e : Entry) (s' : State) (c now' : ℕ) → e.line ≡ line.number → e.actor ≡ a → (line.after ≢ 0 → is_answered journal line.after ≡ true) → (IsTrue told → Step half s e.actor line.command e.reply (used_by e) s') → (IsTrue told → Sound half s') → (IsTrue told → length s'.listed ≤ suc (length s.listed)) → capacity ≤ c → now ≤ now' → (e.reply ≡ says.Fault → Rose now now') → Kept half lines (set cursors a (at + 1)) (journal ++ e ∷ []) c interval told opened now' s'
+    kept_step e s' c now' number actor free step sound few more later cause = record {
       sound = sound;
       listed_few = λ t. omega (arith, few t, k.listed_few t, length-append journal (e ∷ []));
       run = λ t. run_more half lines (opening finite.empty interval) s s' journal e (k.run t) (record { place = at; line = line; stands = slice_get_read lines (length lines) at line refl next.within is; number = number; actor = actor ∙ sym (next.actor line is); step = step t });
@@ -196,6 +256,7 @@ module _ (half : Half) (lines : List Line) (cursors : List ℕ) (journal : List 
             let apart : (e.actor == b) ≡ false = grind (arith, nat_tests) in
             rw get_or-set_other (answered_other b journal e apart ∙ k.done b l)
       ] refl;
+      waits = waits_more lines [] journal e k.waits (λ l found. waits_for l (sym (ap (line_of lines) number) ∙ found) free);
       known = All-append (λ (x : Entry). x.actor < 64) journal (e ∷ []) k.known (one e (omega arith));
       servable = k.servable;
       room = omega (arith, k.room);
@@ -205,6 +266,16 @@ module _ (half : Half) (lines : List Line) (cursors : List ℕ) (journal : List 
         one : (e : Entry) → e.actor < 64 → All (λ (x : Entry). x.actor < 64) (e ∷ [])
         one e l zero d in_it = l
         one e l (suc i) d in_it = absurd (omega arith)
+
+  -- an actor with a further line isn't done
+  pub kept_undone : (a at : ℕ) → a < 64 → IsNext lines (slice_index cursors a) a at → IsDone lines journal a → ⊥
+  kept_undone a at lt next done = let w = read_at lines at next.within in next_left lines journal a w.0 (kept_next a at lt next w.0 w.1) done
+
+-- where no line of the actor is left, all are before
+pub kept_end : (a from : ℕ) (lines : List Line) → numbers_of a (drop from lines) ≡ [] → numbers_of a (take (length lines) lines) ≡ numbers_of a (take from lines)
+kept_end a from lines none =
+    ap (numbers_of a) (take_all (length lines) lines (omega arith) ∙ sym (take-append-drop from lines))
+    ∙ (numbers-append a (take from lines) (drop from lines) ∙ (ap (λ (w : List ℕ). numbers_of a (take from lines) ++ w) none ∙ append-nil (numbers_of a (take from lines))))
 
 -- what is found from a place on
 pub next_found : (lines : List Line) (from i a : ℕ) → from + i < length lines → numbers_of a (take i (drop from lines)) ≡ [] → ((line : Line) → line ≡ get_or lines (from + i) line → line.actor ≡ a) → IsNext lines from a (from + i)
@@ -263,6 +334,7 @@ kept_open half lines cursors journal capacity interval told opened now s none si
       cursor_count = size;
       behind = λ a l. omega (arith, start_at a l);
       done = λ a l. sym (numbers_none a lines (slice_index cursors a) (start_at a l));
+      waits = tt;
       known = λ k d l. absurd (omega (arith, l));
       servable = servable;
       room = room;

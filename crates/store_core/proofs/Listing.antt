@@ -21,10 +21,10 @@ use Rattle.ledger_machine.specs.Peer.{peer_reply, after_peer, with_peer}
 use Rattle.ledger_machine.specs.Base.{after_base, after_offer}
 use Rattle.ledger_machine.specs.Check.{check_reply, after_check, after_ask}
 use Rattle.ledger_machine.specs.Steps.{Step, Gives}
-use Rattle.ledger_machine.proofs.SoundKeeps.{with_wanted_keeps, shaded_same}
-use Rattle.ledger_machine.proofs.SoundForms.{refused_keeps, refused_none}
-use Rattle.ledger_machine.proofs.SoundOffers.{after_base_keeps, after_offer_keeps, base_own, node_own}
-use Rattle.ledger_machine.proofs.SoundSteps.{outcome_cases}
+use Rattle.ledger_laws.proofs.SoundKeeps.{with_wanted_is, shaded_same}
+use Rattle.ledger_laws.proofs.SoundForms.{refused_keeps, refused_none}
+use Rattle.ledger_laws.proofs.SoundOffers.{after_base_keeps, after_offer_keeps, base_own, offer_own}
+use Rattle.ledger_laws.proofs.SoundSteps.{outcome_cases}
 
 -- a new entry makes a table longer by one, or takes the place of another
 insert_few : {X : Type 0} (m : List (Hash × X)) (k : Hash) (x : X) → length (insert_in hash_cmp m k x) ≤ suc (length m)
@@ -48,12 +48,12 @@ want_listed s t seq want.Opened = refl
 want_listed s t seq _ = refl
 
 peer_listed : (half : Half) (s : State) (p : ℕ) (t : Hash) (r : PeerReply) → (after_peer s p t r).listed ≡ s.listed
-peer_listed half s p t peer.Added = (with_wanted_keeps half s t (with_peer p)).listed
+peer_listed half s p t peer.Added = (with_wanted_is s t (with_peer p)).listed
 peer_listed half s p t _ = refl
 
 check_few : (half : Half) (s : State) (t : Hash) (seq : ℕ) (r : CheckReply) → ListsFew s (after_check s t seq r)
 check_few half s t seq check.Complete = insert_few s.listed t seq
-check_few half s t seq (check.Need p places) = same_few s (with_wanted s t (after_ask (check.Need p places))) (with_wanted_keeps half s t (after_ask (check.Need p places))).listed
+check_few half s t seq (check.Need p places) = same_few s (with_wanted s t (after_ask (check.Need p places))) (with_wanted_is s t (after_ask (check.Need p places))).listed
 check_few half s t seq check.NoPeer = omega arith
 check_few half s t seq (check.Waiting n) = omega arith
 check_few half s t seq (check.SeqDiffers x y) = omega arith
@@ -76,12 +76,12 @@ step_few half s s' a (command.Peer p t) reply used acquiring range step =
     (λ g. gives_few s _ s' _ reply (same_few s (after_peer s p t (peer_reply s p t)) (peer_listed half s p t (peer_reply s p t))) g)
     (outcome_cases half s a (command.Peer p t) reply used s' step.outcome)
 step_few half s s' a (command.Base p t bytes state tx) reply used acquiring range step =
-    ⊎_elim (λ r. same_few s s' (refused_keeps half s a (command.Base p t bytes state tx) s' (λ form i. base_own half s t bytes state tx form range i) r).listed)
-    (λ g. gives_few s _ s' _ reply (same_few s (after_base half s t bytes state tx reply) (after_base_keeps half s t bytes state tx reply range).listed) g)
+    ⊎_elim (λ r. same_few s s' (refused_keeps half s a (command.Base p t bytes state tx) s' (λ form i. base_own half s p t bytes state tx form range i) r).listed)
+    (λ g. gives_few s _ s' _ reply (same_few s (after_base half s p t bytes state tx reply) (after_base_keeps half s p t bytes state tx reply range).listed) g)
     (outcome_cases half s a (command.Base p t bytes state tx) reply used s' step.outcome)
 step_few half s s' a (command.Node p t kind path blob) reply used acquiring range step =
-    ⊎_elim (λ r. same_few s s' (refused_keeps half s a (command.Node p t kind path blob) s' (λ form i. node_own half s t kind path (Some blob) form i) r).listed)
-    (λ g. gives_few s _ s' _ reply (same_few s (after_offer half s t kind path blob reply) (after_offer_keeps half s t kind path blob reply).listed) g)
+    ⊎_elim (λ r. same_few s s' (refused_keeps half s a (command.Node p t kind path blob) s' (λ form i. offer_own half s p t kind path blob form range.2 i) r).listed)
+    (λ g. gives_few s _ s' _ reply (same_few s (after_offer half s p t kind path blob reply) (after_offer_keeps half s p t kind path blob reply range.2).listed) g)
     (outcome_cases half s a (command.Node p t kind path blob) reply used s' step.outcome)
 step_few half s s' a (command.Check t) reply used acquiring range step =
     ⊎_elim (λ r. same_few s s' (refused_none half s a (command.Check t) s' refl r).listed)

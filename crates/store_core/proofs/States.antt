@@ -1,7 +1,8 @@
 -- Changes of states, and the steps that they are.
-use Rattle.std.proofs.Common.{◌≡◌, ◌≢◌, ◌<◌, IsTrue, Contains, ⊎_elim, inl, inr, ℕ, zero, suc, List, [], ◌∷◌, ◌++◌, Option, Some, None, Result, Ok, Err, Bool, true, false, cond, refl, sym, ◌∙◌, ap, subst, arith}
+use Rattle.std.proofs.Common.{◌≡◌, ◌≢◌, ◌<◌, IsTrue, Contains, ⊎_elim, inl, inr, ℕ, zero, suc, List, [], ◌∷◌, ◌++◌, Option, Some, None}
+use Rattle.std.proofs.Common.{Result, Ok, Err, IsSomeAnd, Bool, true, false, cond, refl, sym, ◌∙◌, ap, subst, arith}
 use Rattle.std.specs.Map.{lookup, set_value}
-use Rattle.std.specs.Result.{OnErr, IfErr, IsErrAnd}
+use Rattle.std.specs.Result.{OnErr, IfOk, IfErr, IsErrAnd}
 use Rattle.std.specs.Option.{option_map_or, unwrap_or}
 use Rattle.ledger_spec.specs.Bytes.{Bytes, Hash, Half, is_nonzero}
 use Rattle.ledger_spec.specs.Maps.{ForHash, hash_cmp, get_in, set_in}
@@ -17,28 +18,34 @@ use Rattle.ledger_machine.specs.declared.replies.Reply.{Reply}
 use Rattle.ledger_machine.specs.declared.replies.Reply.TheVariants as says
 use Rattle.ledger_machine.specs.State.{State, Acquisition, form_in, with_form, with_forms, with_wanted, stored_seq}
 use Rattle.ledger_machine.specs.declared.replies.NodeReply.{NodeReply}
-use Rattle.ledger_machine.specs.declared.replies.Offered.{Offered}
+use Rattle.ledger_spec.specs.declared.outcomes.Offered.{Offered}
 use Rattle.std.specs.List.{filter_map}
-use Rattle.std.proofs.lemmas.List.Elements.{Contains-append_left, Contains-append_cases}
+use Rattle.std.proofs.lemmas.List.Elements.{Contains-append_left, Contains-append_cases, Contains-append_right}
 use Rattle.ledger_spec.specs.Forms.{header_prefix}
 use Rattle.ledger_spec.specs.declared.ShapeFault.{ShapeFault}
 use Rattle.ledger_spec.specs.Rules.{rule_number}
 use Rattle.ledger_spec.specs.declared.Kind.TheVariants as kinds
-use Rattle.ledger_machine.specs.declared.replies.HeadOffered.{HeadOffered}
-use Rattle.ledger_machine.specs.declared.replies.HeadOffered.TheVariants as head
-use Rattle.ledger_machine.proofs.SoundOffers.{head_stored, node_stored}
-use Rattle.ledger_machine.specs.Offers.{Clash, node_outcome, head_outcome, after_head}
-use Rattle.ledger_machine.specs.Base.{is_present, base_outcomes, base_reply, node_reply, one_reply, after_part, head_forms, node_forms}
+use Rattle.ledger_spec.specs.declared.outcomes.HeadOffered.{HeadOffered}
+use Rattle.ledger_spec.specs.declared.outcomes.HeadOffered.TheVariants as head
+use Rattle.ledger_laws.proofs.SoundOffers.{head_stored, node_stored}
+use Rattle.ledger_machine.specs.Offers.{after_head}
+use Rattle.ledger_spec.specs.Offers.{Clash, node_outcome, head_outcome}
+use Rattle.ledger_machine.specs.Base.{is_present, part_outcome, base_outcomes, base_reply, node_reply, one_reply, after_part}
+use Rattle.ledger_machine.specs.Base.{node_forms, unless_clash, parts_forms, if_present, all_parts, after_parts, after_base}
+use Rattle.ledger_machine.specs.declared.replies.BaseReply.{BaseReply}
+use Rattle.ledger_spec.specs.Offers.{head_forms}
 use Rattle.ledger_spec.specs.declared.Kind.{Kind}
 use Rattle.node_offer.specs.declared.store.OfferFault.{OfferFault}
 use Rattle.node_offer.specs.declared.store.OfferFault.TheVariants as fault
 use Rattle.node_offer.specs.Stored.{HasClash}
-use Rattle.store_core.specs.Refusals.{IsClashReply, HasSomeParts, refusal_of, asked_reply}
+use Rattle.store_core.specs.Refusals.{IsClashReply, IsAsked, HasSomeParts, HasTwoParts, refusal_of, asked_reply}
 use Rattle.ledger_machine.specs.Want.{want_reply, after_want}
 use Rattle.ledger_machine.specs.Peer.{peer_reply, after_peer}
-use Rattle.ledger_machine.specs.Check.{check_given, check_reply, form_verdict, search_reply, missing_of, first_broken, missing_reply, ask_reply, need_or_wait, after_ask, after_check}
+use Rattle.ledger_machine.specs.Check.{check_given, check_reply, form_verdict, search_reply, missing_reply, ask_reply, need_or_wait}
+use Rattle.ledger_machine.specs.Check.{after_ask, after_check}
+use Rattle.ledger_spec.specs.Findings.{missing_of, first_broken}
 use Rattle.ledger_machine.specs.Rotation.{WhileTurning}
-use Rattle.ledger_machine.specs.Steps.{Step, Refused, IsAfter, own_forms}
+use Rattle.ledger_machine.specs.Steps.{Step, Refused, IsAfter, own_forms, MayBeRefused}
 
 some_injective : {X : Type 0} {x y : X} → Some x ≡ Some y → x ≡ y
 some_injective {X} {x} {y} e = ap (λ (o : Option X). elim o [ Some z ↦ z | None ↦ x ]) e
@@ -143,17 +150,17 @@ idle_carries s s' P idle = rw idle tt
 pub step_want : (half : Half) (s s' : State) (actor : ℕ) (t : Hash) (seq : ℕ) (r : WantReply) → s.turning ≡ None → r ≡ want_reply s t seq → s' ≡ after_want s t seq r
     → Step half s actor (command.Want t seq) (says.Want r) [] s'
 step_want half s s' actor t seq r idle e after =
-    record { outcome = record { says = ap says.Want e; after = same_shaded s' _ (after ∙ ap (after_want s t seq) e) }; carries = idle_carries s s' _ idle }
+    record { outcome = record { says = ap says.Want e; after = same_shaded s' _ (after ∙ ap (after_want s t seq) e) }; uses = refl; carries = idle_carries s s' _ idle }
 
 pub step_peer : (half : Half) (s s' : State) (actor p : ℕ) (t : Hash) (r : PeerReply) → s.turning ≡ None → r ≡ peer_reply s p t → s' ≡ after_peer s p t r
     → Step half s actor (command.Peer p t) (says.Peer r) [] s'
 step_peer half s s' actor p t r idle e after =
-    record { outcome = record { says = ap says.Peer e; after = same_shaded s' _ (after ∙ ap (after_peer s p t) e) }; carries = idle_carries s s' _ idle }
+    record { outcome = record { says = ap says.Peer e; after = same_shaded s' _ (after ∙ ap (after_peer s p t) e) }; uses = refl; carries = idle_carries s s' _ idle }
 
 pub step_check : (half : Half) (s s' : State) (actor : ℕ) (t : Hash) (r : CheckReply) → s.turning ≡ None → r ≡ check_reply half s t → s' ≡ after_check s t (stored_seq s t) r
     → Step half s actor (command.Check t) (says.Check r) [] s'
 step_check half s s' actor t r idle e after =
-    record { outcome = record { says = ap says.Check e; after = same_shaded s' _ (after ∙ ap (after_check s t (stored_seq s t)) e) }; carries = idle_carries s s' _ idle }
+    record { outcome = record { says = ap says.Check e; after = same_shaded s' _ (after ∙ ap (after_check s t (stored_seq s t)) e) }; uses = refl; carries = idle_carries s s' _ idle }
 
 nothing_own : (half : Half) (s : State) (actor : ℕ) (c : Command) (form : Bytes) → Contains [] form → Contains (own_forms half s actor c) form × IsTrue (is_nonzero (half form))
 nothing_own half s actor c form h = absurd (let below : h.0 < 0 = h.1 in omega (arith, below))
@@ -161,9 +168,9 @@ nothing_own half s actor c form h = absurd (let below : h.0 < 0 = h.1 in omega (
 pub refused_nothing : (half : Half) (s s' : State) (actor : ℕ) (c : Command) → s' ≡ s → Refused half s actor c s'
 refused_nothing half s s' actor c e = record { forms = []; own = nothing_own half s actor c; same = same_shaded s' s e }
 
-pub step_memory : (half : Half) (s s' : State) (actor : ℕ) (c : Command) → s.turning ≡ None → s' ≡ s → Step half s actor c says.Memory [] s'
-step_memory half s s' actor c idle e =
-    record { outcome = refused_nothing half s s' actor c e; carries = idle_carries s s' _ idle }
+pub step_memory : (half : Half) (s s' : State) (actor : ℕ) (c : Command) → MayBeRefused c → s.turning ≡ None → s' ≡ s → Step half s actor c says.Memory [] s'
+step_memory half s s' actor c may idle e =
+    record { outcome = (may, refused_nothing half s s' actor c e); uses = refl; carries = idle_carries s s' _ idle }
 
 -- a base reply of a peer that serves the open acquisition
 pub base_open : (half : Half) (s : State) (p : ℕ) (t : Hash) (header : Bytes) (state tx : Option Bytes) (a : Acquisition) → get_in hash_cmp s.wanted t ≡ Some a → is_present p a ≡ true
@@ -190,9 +197,9 @@ node_clash half s p t kind path blob a e (Err y) at present clash is =
 -- a node that was not judged
 pub step_node_refused : (half : Half) (s s' : State) (actor p : ℕ) (t : Hash) (kind : Kind) (path : List ℕ) (blob : Bytes) (e : OfferFault) → s.turning ≡ None
     → IsClashReply (node_reply half s p t kind path blob) e → s' ≡ s → Step half s actor (command.Node p t kind path blob) (refusal_of e) [] s'
-step_node_refused half s s' actor p t kind path blob fault.Memory idle clash same = step_memory half s s' actor (command.Node p t kind path blob) idle same
+step_node_refused half s s' actor p t kind path blob fault.Memory idle clash same = step_memory half s s' actor (command.Node p t kind path blob) tt idle same
 step_node_refused half s s' actor p t kind path blob (fault.Clash h old new) idle clash same =
-    record { outcome = (sym clash, refused_nothing half s s' actor (command.Node p t kind path blob) same); carries = idle_carries s s' _ idle }
+    record { outcome = (sym clash, refused_nothing half s s' actor (command.Node p t kind path blob) same); uses = refl; carries = idle_carries s s' _ idle }
 
 with_forms-append : (half : Half) (s : State) (xs ys : List Bytes) → with_forms half s (xs ++ ys) ≡ with_forms half (with_forms half s xs) ys
 with_forms-append half s [] ys = refl
@@ -228,38 +235,73 @@ part_nonzero : (half : Half) (s : State) (t : Hash) (kind : Kind) (blob : Option
 part_nonzero half s t kind None form i = absurd (in_nothing form i)
 part_nonzero half s t kind (Some blob) form i = (node_stored half (form_in s) t kind [] blob form i).nonzero
 
+-- what is judged of a peer that is present is an own form
+own_form : (s : State) (p : ℕ) (t : Hash) (forms : List Bytes) (form : Bytes) → IsAsked s p t → Contains forms form → Contains (if_present p (get_in hash_cmp s.wanted t) forms) form
+own_form s p t forms form asked i = by (get_in hash_cmp s.wanted t) asked
+  where
+    by : (o : Option Acquisition) → IsSomeAnd o (λ a. is_present p a ≡ true) → Contains (if_present p o forms) form
+    by (Some a) present = rw present i
+    by None present = absurd present
+
+-- and so is what is judged behind a part that is no clash
+judged_form : {X : Type 0} (r : Result X Clash) (x : X) (forms : List Bytes) (form : Bytes) → r ≡ Ok x → Contains forms form → Contains (unless_clash r forms) form
+judged_form r x forms form is i = rw is i
+
+not_clash : (r : BaseReply) (c : Clash) → says.Base r ≡ says.Clash c.hash c.old c.new → ⊥
+not_clash r c e = cc
+
 -- some parts of a base reply were stored
-refused_parts : (half : Half) (s s' : State) (actor p : ℕ) (t : Hash) (header : Bytes) (state tx : Option Bytes) → IsTrue (is_nonzero t) → HasSomeParts half s t header state s'
+refused_parts : (half : Half) (s s' : State) (actor p : ℕ) (t : Hash) (header : Bytes) (state tx : Option Bytes) → IsTrue (is_nonzero t) → IsAsked s p t → HasSomeParts half s t header state s'
     → Refused half s actor (command.Base p t header state tx) s'
-refused_parts half s s' actor p t header state tx nonzero (inl e) = refused_nothing half s s' actor (command.Base p t header state tx) e
-refused_parts half s s' actor p t header state tx nonzero (inr (inl e)) =
+refused_parts half s s' actor p t header state tx nonzero asked (inl e) = refused_nothing half s s' actor (command.Base p t header state tx) e
+refused_parts half s s' actor p t header state tx nonzero asked (inr (inl e)) =
     let r : Result HeadOffered Clash = head_outcome half (form_in s) t header in
-    let s1 : State = after_head half s header r in
-    let s2 : State = after_part half s1 t kinds.State state in
-    let B : List Bytes = node_forms half s1 t kinds.State [] state in
-    let C : List Bytes = node_forms half s2 t kinds.Tx [] tx in
     record {
       forms = head_forms r header;
-      own = λ form i. (Contains-append_left (head_forms r header ++ B) C form (Contains-append_left (head_forms r header) B form i), head_nonzero half header r form (λ g. (head_stored half (form_in s) t header nonzero g).nonzero) i);
+      own = λ form i. (
+        own_form s p t (parts_forms half s t header state tx) form asked (Contains-append_left (head_forms r header) _ form i),
+        head_nonzero half header r form (λ g. (head_stored half (form_in s) t header nonzero g).nonzero) i,
+      );
       same = same_shaded s' _ (e ∙ head_forms_are half s header r);
     }
-refused_parts half s s' actor p t header state tx nonzero (inr (inr e)) =
+refused_parts half s s' actor p t header state tx nonzero asked (inr (inr two)) =
     let r : Result HeadOffered Clash = head_outcome half (form_in s) t header in
     let s1 : State = after_head half s header r in
     let s2 : State = after_part half s1 t kinds.State state in
     let A : List Bytes = head_forms r header in
     let B : List Bytes = node_forms half s1 t kinds.State [] state in
-    let C : List Bytes = node_forms half s2 t kinds.Tx [] tx in
+    let C : List Bytes = unless_clash (part_outcome half (form_in s1) t kinds.State state) (node_forms half s2 t kinds.Tx [] tx) in
     record {
       forms = A ++ B;
-      own = λ form i. (Contains-append_left (A ++ B) C form i, ⊎_elim (λ first. head_nonzero half header r form (λ g. (head_stored half (form_in s) t header nonzero g).nonzero) first) (λ second. part_nonzero half s1 t kinds.State state form second) (Contains-append_cases A B form i));
-      same = same_shaded s' _ (e ∙ part_forms_are half s1 t kinds.State state ∙ ap (λ (x : State). with_forms half x B) (head_forms_are half s header r) ∙ sym (with_forms-append half s A B));
+      own = λ form i. (
+        own_form s p t (parts_forms half s t header state tx) form asked
+            (⊎_elim (λ first. Contains-append_left A (unless_clash r (B ++ C)) form first)
+            (λ second. Contains-append_right A (unless_clash r (B ++ C)) form (judged_form r two.head (B ++ C) form two.judged (Contains-append_left B C form second)))
+            (Contains-append_cases A B form i)),
+        ⊎_elim (λ first. head_nonzero half header r form (λ g. (head_stored half (form_in s) t header nonzero g).nonzero) first)
+            (λ second. part_nonzero half s1 t kinds.State state form second) (Contains-append_cases A B form i),
+      );
+      same = same_shaded s' _ (two.after ∙ part_forms_are half s1 t kinds.State state ∙ ap (λ (x : State). with_forms half x B) (head_forms_are half s header r) ∙ sym (with_forms-append half s A B));
     }
+
+-- the reply to a base reply whose parts were judged says them
+parts_after : (half : Half) (s : State) (p : ℕ) (t : Hash) (header : Bytes) (state tx : Option Bytes) (x : Result HeadOffered Clash) (y z : Result (Option Offered) Clash) (r : BaseReply)
+    → says.Base r ≡ all_parts x y z → after_parts half s t header state tx ≡ after_base half s p t header state tx (says.Base r)
+parts_after half s p t header state tx (Ok h) (Ok a) (Ok b) r e = ap (after_base half s p t header state tx) (sym e)
+parts_after half s p t header state tx (Err c) y z r e = absurd (not_clash r c e)
+parts_after half s p t header state tx (Ok h) (Err c) z r e = absurd (not_clash r c e)
+parts_after half s p t header state tx (Ok h) (Ok a) (Err c) r e = absurd (not_clash r c e)
+
+pub base_after : (half : Half) (s s' : State) (p : ℕ) (t : Hash) (header : Bytes) (state tx : Option Bytes) (r : Result BaseReply OfferFault)
+    → IfOk r (λ x. says.Base x ≡ base_outcomes half s t header state tx) → IfOk r (λ x. s' ≡ after_parts half s t header state tx)
+    → IfOk r (λ x. s' ≡ after_base half s p t header state tx (says.Base x))
+base_after half s s' p t header state tx (Err e) reply after = tt
+base_after half s s' p t header state tx (Ok x) reply after = after ∙ parts_after half s p t header state tx _ _ _ x reply
 
 -- a base reply that was not judged
 pub step_base_refused : (half : Half) (s s' : State) (actor p : ℕ) (t : Hash) (header : Bytes) (state tx : Option Bytes) (e : OfferFault) → s.turning ≡ None → IsTrue (is_nonzero t)
-    → IsClashReply (base_reply half s p t header state tx) e → HasSomeParts half s t header state s' → Step half s actor (command.Base p t header state tx) (refusal_of e) [] s'
-step_base_refused half s s' actor p t header state tx fault.Memory idle nonzero clash parts =
-    record { outcome = refused_parts half s s' actor p t header state tx nonzero parts; carries = idle_carries s s' _ idle }
-step_base_refused half s s' actor p t header state tx (fault.Clash h old new) idle nonzero clash parts =
-    record { outcome = (sym clash, refused_parts half s s' actor p t header state tx nonzero parts); carries = idle_carries s s' _ idle }
+    → IsClashReply (base_reply half s p t header state tx) e → IsAsked s p t → HasSomeParts half s t header state s' → Step half s actor (command.Base p t header state tx) (refusal_of e) [] s'
+step_base_refused half s s' actor p t header state tx fault.Memory idle nonzero clash asked parts =
+    record { outcome = (tt, refused_parts half s s' actor p t header state tx nonzero asked parts); uses = refl; carries = idle_carries s s' _ idle }
+step_base_refused half s s' actor p t header state tx (fault.Clash h old new) idle nonzero clash asked parts =
+    record { outcome = (sym clash, refused_parts half s s' actor p t header state tx nonzero asked parts); uses = refl; carries = idle_carries s s' _ idle }

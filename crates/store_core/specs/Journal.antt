@@ -1,19 +1,23 @@
 -- What contracts see of a core, and what it keeps.
-use Rattle.std.specs.Prelude.{◌≡◌, ◌⊎◌, ◌^◌, ℕ, ◌+◌, ◌-◌, ◌<◌, ◌≤◌, ◌++◌, ◌∷◌, [], List, Bool, IsTrue, length, take, slice_index, slice_index_or}
-use Rattle.std.specs.List.{All}
-use Rattle.std.specs.FinMap as finite
-use Rattle.ledger_spec.specs.Bytes.{Half}
+use Rattle.std.specs.Prelude.{◌≡◌, ◌⊎◌, ◌^◌, ℕ, ◌+◌, ◌-◌, ◌<◌, ◌≤◌, ◌++◌, ◌∷◌, [], List, Bool, Some, IsTrue}
+use Rattle.std.specs.Prelude.{length, take, slice_index, slice_index_or}
+use Rattle.std.specs.List.{All, Contains}
+use Rattle.ledger_spec.specs.Bytes.{Hash, Half}
 use Rattle.ledger_machine.specs.declared.commands.Line.{Line}
 use Rattle.ledger_machine.specs.declared.journal.Entry.{Entry}
 use Rattle.ledger_machine.specs.declared.replies.Reply.{Reply}
 use Rattle.ledger_machine.specs.declared.replies.Reply.TheVariants as says
 use Rattle.ledger_machine.specs.Scripts.{numbers_of}
-use Rattle.script_form.specs.Servable.{AreServable}
-use Rattle.ledger_machine.specs.State.{State, opening}
+use Rattle.ledger_machine.specs.State.{State, form_in, retained}
 use Rattle.ledger_machine.specs.Sound.{Sound}
-use Rattle.ledger_machine.specs.Runs.{Answers, Run, answered_by, actors}
+use Rattle.ledger_machine.specs.Runs.{Answers, IsRunOf, opening_of, Projects, answered_by, actors, Waits, next_line}
+use Rattle.ledger_machine.specs.Receipts.{AllStay}
+use Rattle.ledger_machine.specs.Complete.{IsAllStored, AreExact}
+use Rattle.ledger_machine.specs.Collisions.{IsClash, Collides, offered_in}
+use Rattle.script_form.specs.Servable.{AreServable}
 
--- what contracts see of a core: its script's lines, the interval, the store's count of faults at opening and now, the journal, and the state
+-- what contracts see of a core: its script's lines, the interval, the store's count of faults at opening and now, the journal, and the
+-- state
 pub record Ledger : Type 0 where
   pub lines : List Line
   pub interval : ℕ
@@ -22,18 +26,14 @@ pub record Ledger : Type 0 where
   pub journal : List Entry
   pub state : State
 
--- the actor has no line left
-abbrev pub IsDone : List Line → List Entry → ℕ → Type 0
-IsDone lines journal a = answered_by a journal ≡ numbers_of a lines
-
 -- how many entries answered `fault`
-abbrev pub is_fault : Reply → ℕ
-is_fault says.Fault = 1
-is_fault _ = 0
+abbrev pub fault_count : Reply → ℕ
+fault_count says.Fault = 1
+fault_count _ = 0
 
 abbrev pub faults_in : List Entry → ℕ
 faults_in [] = 0
-faults_in (e ∷ es) = is_fault e.reply + faults_in es
+faults_in (e ∷ es) = fault_count e.reply + faults_in es
 
 -- a count rose, or stands at the last value of a u64
 abbrev pub Rose : ℕ → ℕ → Type 0
@@ -44,29 +44,68 @@ abbrev pub RoseBy : ℕ → ℕ → ℕ → Type 0
 RoseBy n before now = (before + n ≤ now) ⊎ (2 ^ 64 - 1 ≤ now)
 
 -- What a core keeps: where its store tells what it holds, its journal is a run that led to a sound state, and no more ledgers are
--- listed than it has entries; each actor's cursor stands behind the lines that it has answered; the journal has room for an entry of
--- each line; and each `fault` has a rise of the store's count of its own.
-pub record Kept (half : Half) (lines : List Line) (cursors : List ℕ) (journal : List Entry) (capacity interval : ℕ) (told : Bool) (opened now : ℕ) (state : State) : Type 0 where
-  pub run : IsTrue told → Run half lines (opening finite.empty interval) journal state
+-- listed than it has entries; each actor's cursor stands behind the lines that it has answered, and no entry before that of the line
+-- that it waits for; the journal has room for an entry of each line; and each `fault` has a rise of the store's count of its own.
+pub record Kept (half : Half) (lines : List Line) (cursors : List ℕ) (journal : List Entry) (capacity interval : ℕ) (told : Bool)
+    (opened now : ℕ) (state : State) : Type 0 where
+  pub run : IsTrue told → IsRunOf half lines interval journal state
   pub sound : IsTrue told → Sound half state
   pub listed_few : IsTrue told → length state.listed ≤ length journal
   pub cursor_count : length cursors ≡ actors
   pub behind : (a : ℕ) → a < actors → slice_index cursors a ≤ length lines
   pub done : (a : ℕ) → a < actors → answered_by a journal ≡ numbers_of a (take (slice_index cursors a) lines)
+  pub waits : Waits lines [] journal
   pub known : All (λ e. e.actor < actors) journal
   pub servable : AreServable lines
   pub room : length lines ≤ capacity
   pub fault_bound : RoseBy (faults_in journal) opened now
 
--- one entry more, by a step of this actor
+-- One entry more, for this actor's next line and by a step of it. The store's count of faults never falls, and the entry answers `fault`
+-- only where the count rose in this very section.
 pub record Advances (half : Half) (told : Bool) (old : Ledger) (a : ℕ) (new : Ledger) : Type 0 where
   pub entry : Entry
+  pub line : Line
+  -- it is the actor's next line, and the actor's entry
+  pub next : next_line old.lines old.journal a ≡ Some line
+  pub number : entry.line ≡ line.number
+  pub actor : entry.actor ≡ a
+  pub journal : new.journal ≡ old.journal ++ entry ∷ []
+  -- the script, the interval and the count at opening are as before
   pub lines : new.lines ≡ old.lines
   pub interval : new.interval ≡ old.interval
   pub opened : new.opened ≡ old.opened
-  pub journal : new.journal ≡ old.journal ++ entry ∷ []
-  pub actor : entry.actor ≡ a
+  -- the count of faults, and the cause of a `fault`
+  pub later : old.faults ≤ new.faults
+  pub cause : entry.reply ≡ says.Fault → Rose old.faults new.faults
+  -- where the store tells what it holds, the state is what a step of that line leaves
   pub step : IsTrue told → Answers half old.lines old.state entry new.state
+
+-- a core's journal is a run of its script to its state
+abbrev pub IsRun : Half → Ledger → Type 0
+IsRun half c = IsRunOf half c.lines c.interval c.journal c.state
+
+-- What holds of a core each time that it is given back, where its store tells what it holds.
+pub record IsJournal (half : Half) (c : Ledger) : Type 0 where
+  -- the journal is a run of the store machine from the script's opening to the actual state
+  pub run : IsRun half c
+  -- each actor's entries are for its first lines, in order, each once, and none stands before that of the line that it waits for
+  pub projects : Projects c.lines c.journal
+  -- each check is complete exactly where the ledger is, in the state before it
+  pub checks : (along : IsRun half c) → AreExact half c.lines (opening_of c.lines c.interval) c.journal c.state along
+  -- what an answer says was received for a target stays, as long as the target is open or its ledger retained
+  pub received : (along : IsRun half c) → AllStay half c.lines (opening_of c.lines c.interval) c.journal c.state along
+  -- each form is stored under its own hash, and each retained ledger is whole
+  pub sound : Sound half c.state
+  -- nothing that a retained ledger reaches is absent
+  pub present : (t : Hash) → Contains (retained c.state) t → IsAllStored (form_in c.state) t
+  -- a clash shows two different forms that the script offers, with one hash
+  pub clashes : (e : Entry) → Contains c.journal e → IsClash e.reply → Collides half (offered_in half c.lines)
+  -- each entry is of a known actor
+  pub known : All (λ e. e.actor < actors) c.journal
+  -- each `fault` has a rise of the store's count of its own
+  pub faults : RoseBy (faults_in c.journal) c.opened c.faults
+  -- the store in memory never fails
+  pub no_fault : faults_in c.journal ≡ 0
 
 -- the first line of the actor from a place on is at this place
 pub record IsNext (lines : List Line) (from a at : ℕ) : Type 0 where

@@ -34,7 +34,13 @@ impl Model for Acquire {
 
     ghost Value = { Acquisition };
 
-    ghost view = { λ a. record { seq = a.seq; present = a.present.items; charges = a.charges.entries; asked = a.asked.items; ticks = a.ticks } };
+    ghost view = { λ a. record {
+      seq = a.seq;
+      present = a.present.items;
+      charges = a.charges.entries;
+      asked = a.asked.items;
+      ticks = a.ticks;
+    } };
 }
 
 impl Acquire {

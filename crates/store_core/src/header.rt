@@ -19,7 +19,8 @@ use shamap_node::Place;
 /// Why the form under the target is not that of an acceptable ledger's header, for the asked sequence
 /// (0 for any) and the floor; none where it is one, or where nothing is stored.
 pub(crate) fn fault_of(form: Option<&Blob>, asked: u32, floor: u32) -> Option<CheckReply>
-    ensures verdict { (rest : Reply) → option_map_or (λ f. form_verdict asked floor f rest) (option_copied form.entry) rest ≡ unwrap_or result rest }
+    ensures verdict { (rest : Reply)
+        → option_map_or (λ f. form_verdict asked floor f rest) (option_copied form.entry) rest ≡ unwrap_or result rest }
 
     // where there is a reason, the acquisition ends
     ensures ends { (s : State) (t : Hash) (seq : ℕ) → IfSome result (λ r. after_check s t seq r ≡ ended s t) }

@@ -5,14 +5,16 @@ ghost use Rattle.ledger_spec.specs.Maps.{hash_cmp, get_in};
 ghost use Rattle.node_offer.specs.Stored.{HasClash};
 ghost use Rattle.ledger_machine.specs.State.{opening, form_in, stored_seq, with_wanted};
 ghost use Rattle.ledger_machine.specs.Scripts.{IsInRange};
-ghost use Rattle.ledger_machine.specs.Offers.{head_outcome, after_head, node_outcome, after_node};
-ghost use Rattle.ledger_machine.specs.Base.{part_outcome, after_part, base_outcomes, base_reply, after_base, node_reply, after_offer};
+ghost use Rattle.ledger_machine.specs.Offers.{after_head, after_node};
+ghost use Rattle.ledger_spec.specs.Offers.{head_outcome, node_outcome};
+ghost use Rattle.ledger_machine.specs.Base.{part_outcome, after_part, base_outcomes, after_parts, base_reply, after_base};
+ghost use Rattle.ledger_machine.specs.Base.{node_reply, after_offer};
 ghost use Rattle.script_form.specs.Servable.{IsServed};
 ghost use Rattle.ledger_machine.specs.Want.{want_reply, after_want};
 ghost use Rattle.ledger_machine.specs.Peer.{peer_reply, after_peer};
 ghost use Rattle.ledger_machine.specs.Check.{check_reply, after_check, after_ask};
 ghost use Rattle.ledger_machine.specs.Steps.{Step};
-ghost use Rattle.store_core.specs.Refusals.{IsClashReply, HasSomeParts, refusal_of, asked_reply};
+ghost use Rattle.store_core.specs.Refusals.{IsClashReply, IsAsked, HasSomeParts, refusal_of, asked_reply};
 
 use crate::acquire::Acquire;
 use crate::header::{fault_of, stored_seq as seq_in};
@@ -159,7 +161,8 @@ impl<H: NodeHash> Machine<H> {
         header: &Blob,
     ) -> Result<HeadOffered, OfferFault>
         ensures outcome { IfOk result (λ o. head_outcome H.half (form_in self.old) target.now header.now ≡ Ok o) }
-        ensures after { OnOk result (self.new ≡ after_head H.half self.old header.now (head_outcome H.half (form_in self.old) target.now header.now)) }
+        ensures after { OnOk result (self.new
+            ≡ after_head H.half self.old header.now (head_outcome H.half (form_in self.old) target.now header.now)) }
         ensures clash { IfErr result (HasClash (head_outcome H.half (form_in self.old) target.now header.now)) }
         ensures err { OnErr result (self.new ≡ self.old) }
     {
@@ -213,7 +216,7 @@ impl<H: NodeHash> Machine<H> {
         tx: &Option<Blob>,
     ) -> Result<BaseReply, OfferFault>
         ensures reply { IfOk result (λ r. Reply.Base r ≡ base_outcomes H.half self.old target.now header.now state.now tx.now) }
-        ensures after { IfOk result (λ r. self.new ≡ after_base H.half self.old target.now header.now state.now tx.now (Reply.Base r)) }
+        ensures after { IfOk result (λ r. self.new ≡ after_parts H.half self.old target.now header.now state.now tx.now) }
         ensures clash { IfErr result (IsClashReply (base_outcomes H.half self.old target.now header.now state.now tx.now)) }
         ensures err { OnErr result (HasSomeParts H.half self.old target.now header.now state.now self.new) }
     {
@@ -234,8 +237,10 @@ impl<H: NodeHash> Machine<H> {
         tx: &Option<Blob>,
     ) -> Result<BaseReply, OfferFault>
         ensures reply { IfOk result (λ r. Reply.Base r ≡ base_reply H.half self.old peer target.now header.now state.now tx.now) }
-        ensures after { IfOk result (λ r. self.new ≡ after_base H.half self.old target.now header.now state.now tx.now (Reply.Base r)) }
+        ensures after { IfOk result (λ r.
+            self.new ≡ after_base H.half self.old peer target.now header.now state.now tx.now (Reply.Base r)) }
         ensures clash { IfErr result (IsClashReply (base_reply H.half self.old peer target.now header.now state.now tx.now)) }
+        ensures asked { OnErr result (IsAsked self.old peer target.now) }
         ensures err { OnErr result (HasSomeParts H.half self.old target.now header.now state.now self.new) }
     {
         let Some(acquire) = self.wanted.get(target) else {
@@ -258,7 +263,7 @@ impl<H: NodeHash> Machine<H> {
         blob: &Blob,
     ) -> Result<NodeReply, OfferFault>
         ensures reply { IfOk result (λ r. Reply.Node r ≡ node_reply H.half self.old peer target.now kind id.now blob.now) }
-        ensures after { IfOk result (λ r. self.new ≡ after_offer H.half self.old target.now kind id.now blob.now (Reply.Node r)) }
+        ensures after { IfOk result (λ r. self.new ≡ after_offer H.half self.old peer target.now kind id.now blob.now (Reply.Node r)) }
         ensures clash { IfErr result (IsClashReply (node_reply H.half self.old peer target.now kind id.now blob.now)) }
         ensures err { OnErr result (self.new ≡ self.old) }
     {

@@ -1,17 +1,11 @@
 //! The core: a script, the journal of what was answered, and the state after it.
-ghost use Rattle.std.specs.Prelude.{◌≡◌, ◌<◌, ◌≤◌, ◌^◌, [], ℕ, true, IfOk, length, count_by, MatchOption, drop, take};
-ghost use Rattle.std.specs.FinMap as map;
-ghost use Rattle.ledger_machine.specs.Scripts.{Rises, line_of, numbers_of};
-ghost use Rattle.script_form.specs.Servable.{AreServable};
+ghost use Rattle.std.specs.Prelude.{◌≡◌, ◌≢◌, ◌↔◌, ◌<◌, ◌≤◌, ◌^◌, [], ℕ, true, IsTrue, IfOk, length, count_by, MatchOption, drop, take};
 ghost use Rattle.std.specs.Option.{option_copied};
-ghost use Rattle.std.specs.List.{Contains};
-ghost use Rattle.ledger_spec.specs.Bytes.{Hash};
-ghost use Rattle.ledger_machine.specs.State.{opening, form_in, retained};
-ghost use Rattle.ledger_machine.specs.Sound.{Sound};
-ghost use Rattle.ledger_machine.specs.Complete.{IsAllStored, AreExact};
-ghost use Rattle.ledger_machine.specs.Collisions.{IsClash, Collides, offered_in};
-ghost use Rattle.ledger_machine.specs.Runs.{Run, Projects};
-ghost use Rattle.store_core.specs.Journal.{IsDone, Advances, IsNext, AllBefore, AllFrom, RoseBy, faults_in};
+ghost use Rattle.ledger_machine.specs.State.{default_interval};
+ghost use Rattle.ledger_machine.specs.Scripts.{Rises, line_of, numbers_of};
+ghost use Rattle.ledger_machine.specs.Runs.{IsDone, IsBlocked, is_answered as answered, opening_of};
+ghost use Rattle.script_form.specs.Servable.{AreServable};
+ghost use Rattle.store_core.specs.Journal.{Advances, IsJournal, IsNext, AllBefore, AllFrom};
 ghost use Rattle.store_core.specs.Totals.{totals_of, is_complete as completes, is_closed as closes};
 
 use crate::machine::Machine;
@@ -31,6 +25,8 @@ const INTERVAL: u32 = 256;
 pub enum Stepped {
     /// An entry was recorded.
     Answered,
+    /// The line that the actor's next line waits for has no entry yet.
+    Blocked,
     /// The actor has no line left.
     Finished,
 }
@@ -57,9 +53,18 @@ impl<H: NodeHash> Model for Core<H> {
 
     ghost coded = { Prim.hlevel (codes, map_code, set_code) };
 
-    ghost view = { λ c. record { lines = c.script.lines.items; interval = c.interval; opened = 0; faults = 0; journal = c.journal.items; state = c.machine } };
+    // The store in memory counts no faults.
+    ghost view = { λ c. record {
+      lines = c.script.lines.items;
+      interval = c.interval;
+      opened = 0;
+      faults = 0;
+      journal = c.journal.items;
+      state = c.machine;
+    } };
 
-    ghost invariant = { λ c. Kept H.half c.script.lines.items c.cursors.items c.journal.items (vec_capacity c.journal) c.interval true 0 0 c.machine };
+    ghost invariant = { λ c.
+        Kept H.half c.script.lines.items c.cursors.items c.journal.items (vec_capacity c.journal) c.interval true 0 0 c.machine };
 }
 
 impl<H: NodeHash> Core<H> {
@@ -69,9 +74,9 @@ impl<H: NodeHash> Core<H> {
         requires { AreServable script.lines.items }
         ensures lines { IfOk result (λ c. c.lines ≡ script.lines.items) }
         ensures journal { IfOk result (λ c. c.journal ≡ []) }
-        ensures interval { IfOk result (λ c. c.interval ≡ 256) }
+        ensures interval { IfOk result (λ c. c.interval ≡ default_interval) }
         ensures counts { IfOk result (λ c. (c.opened ≡ 0) × (c.faults ≡ 0)) }
-        ensures state { IfOk result (λ c. c.state ≡ opening map.empty 256) }
+        ensures state { IfOk result (λ c. c.state ≡ opening_of script.lines.items default_interval) }
     {
         let cursors = vec![in alloc; 0; ACTORS]?;
         let journal = Vec::with_capacity(alloc, script.lines.len())?;
@@ -84,11 +89,13 @@ impl<H: NodeHash> Core<H> {
         })
     }
 
-    /// Answers the actor's next line. An actor past the last one has none.
+    /// Answers the actor's next line, unless it waits for one that has no entry yet. An actor past
+    /// the last one has none.
     pub fn step(&mut self, alloc: Global, actor: u8) -> Stepped
         ensures answered { result ≡ Stepped.Answered → Advances H.half true self.old actor self.new }
-        ensures finished { result ≡ Stepped.Finished → IsDone self.old.lines self.old.journal actor }
-        ensures unchanged { result ≡ Stepped.Finished → self.new ≡ self.old }
+        ensures blocked { (result ≡ Stepped.Blocked) ↔ IsBlocked self.old.lines self.old.journal actor }
+        ensures finished { (result ≡ Stepped.Finished) ↔ IsDone self.old.lines self.old.journal actor }
+        ensures unchanged { result ≢ Stepped.Answered → self.new ≡ self.old }
         ensures few { length self.new.journal ≤ length self.new.lines }
     {
         if actor as usize >= self.cursors.len() {
@@ -96,8 +103,14 @@ impl<H: NodeHash> Core<H> {
         }
         let from = self.cursors[actor as usize];
         let Some(at) = next_of(&self.script.lines, from, actor) else {
+            self.cursors[actor as usize] = self.script.lines.len();
             return Stepped::Finished;
         };
+        let after = self.script.lines[at].after;
+        if after != 0 && !self.is_answered(after) {
+            self.cursors[actor as usize] = at;
+            return Stepped::Blocked;
+        }
         let line = &self.script.lines[at];
         let reply = self.machine.answer(alloc, actor, &line.command);
         let entry = Entry {
@@ -111,6 +124,30 @@ impl<H: NodeHash> Core<H> {
         Stepped::Answered
     }
 
+    /// Whether the actor has no line left.
+    pub fn is_finished(&self, actor: u8) -> bool
+        ensures { IsTrue result ↔ IsDone self.now.lines self.now.journal actor }
+    {
+        if actor as usize >= self.cursors.len() {
+            return true;
+        }
+        let from = self.cursors[actor as usize];
+        next_of(&self.script.lines, from, actor).is_none()
+    }
+
+    /// Whether the line of this number has its entry: its actor's cursor stands behind it.
+    pub fn is_answered(&self, number: u32) -> bool
+        ensures { result ≡ answered self.now.journal number }
+    {
+        let lines = &self.script.lines;
+        let at = first_from(lines, number);
+        if at == lines.len() {
+            return false;
+        }
+        let line = &lines[at];
+        line.number == number && at < self.cursors[line.actor as usize]
+    }
+
     /// The script that the core was opened with.
     pub fn script(&self) -> &Script
         ensures lines { result.now.lines.items ≡ self.now.lines }
@@ -122,22 +159,10 @@ impl<H: NodeHash> Core<H> {
     /// What was answered so far.
     pub fn journal(&self) -> &[Entry]
         ensures journal { result.now ≡ self.now.journal }
-        ensures run { Run H.half self.now.lines (opening map.empty self.now.interval) self.now.journal self.now.state }
-        // Each check is complete exactly where the ledger is, in the state before it.
-        ensures checks { (run : Run H.half self.now.lines (opening map.empty self.now.interval) self.now.journal self.now.state) → AreExact H.half self.now.lines (opening map.empty self.now.interval) self.now.journal self.now.state run }
-        ensures sound { Sound H.half self.now.state }
-        // Nothing that a retained ledger reaches is absent.
-        ensures present { (t : Hash) → Contains (retained self.now.state) t → IsAllStored (form_in self.now.state) t }
-        // A clash shows two different forms that the script offers, with one hash.
-        ensures clashes { (e : Entry) → Contains self.now.journal e → IsClash e.reply → Collides H.half (offered_in H.half self.now.lines) }
-        ensures projects { Projects self.now.lines self.now.journal }
+        // A run from the opening, each check exact, to a sound state, and what else holds each time.
+        ensures kept { IsJournal H.half self.now }
         ensures few { length self.now.journal ≤ length self.now.lines }
-        // Each `fault` has a rise of the store's count of its own.
-        ensures faults { RoseBy (faults_in self.now.journal) self.now.opened self.now.faults }
         ensures listed { length self.now.state.listed ≤ length self.now.journal }
-
-        // The store in memory never fails.
-        ensures no_fault { faults_in self.now.journal ≡ 0 }
     {
         &self.journal
     }

@@ -1,5 +1,6 @@
 use Rattle.std.proofs.Common.{refl}
-use Rattle.missing_walk.proofs.Walking.{walk_over, walk_zero, walk_missing, walk_broken, walk_leaf, walk_inner, walk_none, walk_branch, refused_missing, refused_inner, refused_branch}
+use Rattle.missing_walk.proofs.Walking.{walk_over, walk_zero, walk_missing, walk_broken, walk_leaf, walk_inner, walk_none, walk_branch}
+use Rattle.missing_walk.proofs.Walking.{refused_missing, refused_inner, refused_branch}
 use Rattle.missing_walk.proofs.Noting.{refused}
 use Rattle.missing_walk.proofs.descent.+descent.Goals as goal
 use Rattle.missing_walk.proofs.descent.+descent.Goals.{walk-then-is_over-via-then-is_over, walk-then-is_over-via-else-is_over+then-is_zero}

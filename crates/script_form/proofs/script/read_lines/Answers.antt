@@ -6,7 +6,8 @@ use Rattle.script_form.specs.Grammar.{Says}
 use Rattle.script_form.proofs.Scripts.{reads_end, reads_more, refused_unended, refused_line, over_size}
 use Rattle.script_form.proofs.Servable.{are_servable}
 use Rattle.script_form.proofs.script.read_lines.Goals as goal
-use Rattle.script_form.proofs.script.read_lines.Goals.{then-end-rest-via-then-end-rest, then-end-rest-via-else-end-rest+then-bytes-rest-gt-MOST_BYTES}
+use Rattle.script_form.proofs.script.read_lines.Goals.{then-end-rest-via-then-end-rest}
+use Rattle.script_form.proofs.script.read_lines.Goals.{then-end-rest-via-else-end-rest+then-bytes-rest-gt-MOST_BYTES}
 
 pub loop-rest-preserved : goal.loop-rest-preserved
 loop-rest-preserved c =

@@ -1,4 +1,5 @@
 use Rattle.std.proofs.Common.{List, ℕ, subst}
+use Rattle.run_io.proofs.Bytes.{took_at_most}
 use Rattle.script_form.specs.Grammar.{IsScript}
 use Rattle.script_form.proofs.Scripts.{ended_at}
 use Rattle.script_form.proofs.script.read_script.Goals as goal
@@ -7,3 +8,10 @@ pub returns-clause-ended : goal.returns-clause-ended
 returns-clause-ended g c =
     let P : List ℕ → Type 0 = λ v. IsScript v c.in_ok-lines.lines.items in
     ended_at _ _ c.in-Ok.bytes.items c.in_ok-lines.lines.items c.in-Ok.ensures.rest c.in-Ok.ensures.read (subst P c.deref.ensures.value c.in_ok-lines.ensures.script)
+
+-- all that was read stands in front
+pub returns-clause-taken : goal.returns-clause-taken
+returns-clause-taken g c = took_at_most _ _ _ c.in-Ok.ensures.rest
+
+pub returns-in_err-lines-clause-taken : goal.returns-in_err-lines-clause-taken
+returns-in_err-lines-clause-taken g c = took_at_most _ _ _ c.in-Ok.ensures.rest

@@ -1,5 +1,5 @@
 use Rattle.std.proofs.Common.{arith, refl, ◌≡◌, ◌≤◌, ◌+◌, ◌-◌, ◌*◌, ◌∙◌, length, drop, length-take, length-drop}
-use Rattle.shamap_node.proofs.Hashes.{write_step, write_all, write_size}
+use Rattle.ledger_spec.proofs.Hashes.{write_step, write_all, write_size}
 use Rattle.shamap_node.proofs.forms.body_of.Goals as goal
 
 pub loop-b-preserved : goal.loop-b-preserved

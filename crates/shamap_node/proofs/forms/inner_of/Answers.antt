@@ -1,7 +1,9 @@
 use Rattle.std.proofs.Common.{sym, ◌∙◌}
-use Rattle.shamap_node.proofs.Inners.{made, not_inner_length, not_inner_prefix}
+use Rattle.ledger_spec.proofs.Inners.{not_inner_length, not_inner_prefix}
+use Rattle.shamap_node.proofs.Inners.{made}
 use Rattle.shamap_node.proofs.forms.inner_of.Goals as goal
-use Rattle.shamap_node.proofs.forms.inner_of.Goals.{then-form-ne516-via-then-form-ne516, then-form-ne516-via-else-form-ne516+then-not-begins}
+use Rattle.shamap_node.proofs.forms.inner_of.Goals.{then-form-ne516-via-then-form-ne516}
+use Rattle.shamap_node.proofs.forms.inner_of.Goals.{then-form-ne516-via-else-form-ne516+then-not-begins}
 
 pub returns-then-form-ne516 : goal.returns-then-form-ne516
 returns-then-form-ne516 c =

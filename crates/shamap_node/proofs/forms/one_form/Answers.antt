@@ -1,4 +1,4 @@
-use Rattle.shamap_node.proofs.Reading.{same_reading}
+use Rattle.ledger_spec.proofs.Readings.{same_reading}
 use Rattle.shamap_node.proofs.Seen.{held_by_form}
 use Rattle.shamap_node.proofs.forms.one_form.Goals as goal
 

@@ -2,7 +2,9 @@ use Rattle.std.proofs.Common.{sym, ◌∙◌, ap, List, arith, Vec, Global}
 use Rattle.ledger_spec.specs.declared.Place.{Place}
 use Rattle.store_core.proofs.Asking.{taken, passed, filled}
 use Rattle.store_core.proofs.acquire.unasked.Goals as goal
-use Rattle.store_core.proofs.acquire.unasked.Goals.{then-len-lt-MOST_ASKED+then-not-is_among+in_ok-push, else-len-lt-MOST_ASKED, else-len-lt-MOST_ASKED-via-then-len-lt-MOST_ASKED+else-not-is_among, else-len-lt-MOST_ASKED-via-else-len-lt-MOST_ASKED}
+use Rattle.store_core.proofs.acquire.unasked.Goals.{then-len-lt-MOST_ASKED+then-not-is_among+in_ok-push, else-len-lt-MOST_ASKED}
+use Rattle.store_core.proofs.acquire.unasked.Goals.{else-len-lt-MOST_ASKED-via-then-len-lt-MOST_ASKED+else-not-is_among}
+use Rattle.store_core.proofs.acquire.unasked.Goals.{else-len-lt-MOST_ASKED-via-else-len-lt-MOST_ASKED}
 
 pub loop-place-preserved : goal.loop-place-preserved
 loop-place-preserved c =

@@ -7,7 +7,7 @@ pub returns-in-Err-base-clause-step : goal.returns-in-Err-base-clause-step
 returns-in-Err-base-clause-step g c =
     let range = subst IsInRange c.in-Base.is c.requires.in_range in
     rw (c.in-Base.is, c.refusal.ensures) (step_base_refused g.H.NodeHash.half c.args.self.now c.base.new.self c.args.actor c.in-Base.peer c.in-Base.target c.in-Base.header c.in-Base.state c.in-Base.tx c.in-Err-base.fault
-    c.known.ensures.idle range c.in-Err-base.ensures.clash c.in-Err-base.ensures.err)
+    c.known.ensures.idle range.0 c.in-Err-base.ensures.clash c.in-Err-base.ensures.asked c.in-Err-base.ensures.err)
 
 pub returns-in-Err-node-clause-step : goal.returns-in-Err-node-clause-step
 returns-in-Err-node-clause-step g c =

@@ -1,0 +1,30 @@
+//! Places in a run at which whoever hands in a gate is told of each actor.
+
+/// Where an actor stands. No lock is held there.
+#[derive(Clone, Copy, Debug, PartialEq, Eq)]
+pub enum Point {
+    /// Before a node is fetched for a read.
+    BeforeFetch,
+    /// After a node was fetched for a read.
+    AfterFetch,
+    /// Before a section on the core.
+    BeforeCommit,
+    /// Between two slices of one command.
+    BetweenSlices,
+    /// After a section that recorded an entry.
+    Answered,
+}
+
+/// Is passed by each actor at each point of its run, outside every lock.
+pub trait Gate: Sync {
+    /// The actor comes to the point, and goes on as this call returns.
+    fn pass(&self, actor: u8, point: Point);
+}
+
+/// A gate that lets every actor pass at once.
+#[derive(Clone, Copy, Debug)]
+pub struct OpenGate;
+
+impl Gate for OpenGate {
+    fn pass(&self, _actor: u8, _point: Point) {}
+}

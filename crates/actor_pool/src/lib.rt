@@ -1,0 +1,12 @@
+//! Runs the actors of a script on threads, over one core under a lock.
+#![tactic(auto)]
+
+mod gate;
+mod pool;
+mod shared;
+
+pub use gate::{Gate, OpenGate, Point};
+pub use pool::run_actors;
+
+#[cfg(test)]
+mod tests;

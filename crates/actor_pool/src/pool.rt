@@ -1,0 +1,160 @@
+//! One worker for each actor, in rounds.
+ghost use Rattle.std.specs.Prelude.{◌≡◌, ◌<◌, ◌+◌, length};
+ghost use Rattle.ledger_machine.specs.Runs.{Projects, IsFull};
+ghost use Rattle.store_core.specs.Journal.{IsJournal};
+ghost use Rattle.actor_pool.specs.Order.{IsOf, IsSameRun, AreAnswered};
+
+use crate::gate::{Gate, Point};
+use crate::shared::{Pinned, Shared, answered_locked, is_left_locked, step_locked, unlocked};
+use half_hash::NodeHash;
+use std::alloc::Global;
+use std::marker::Brand;
+use std::sync::{Mutex, Wait};
+use std::thread;
+use std::thread::Threads;
+use store_core::{Core, Stepped};
+
+/// How many actors there are, numbered from 0.
+const ACTORS: u8 = 64;
+
+/// How often a worker tries a line that waits before it leaves it to the next round.
+const TRIES: u32 = 64;
+
+/// Answers every line of the core's script: each actor's by a worker of its own, over the core
+/// under one lock, and what the workers leave undone here, in line order.
+pub fn run_actors<R: Threads + Wait + Sync, H: NodeHash, G: Gate>(
+    rt: &R,
+    alloc: Global,
+    core: Core<H>,
+    gate: &G,
+) -> Core<H>
+    ensures same { IsSameRun core result }
+    // A run from the opening, each check exact, to a sound state, and what was received stays along it.
+    ensures kept { IsJournal H.half result }
+    ensures full { IsFull result.lines result.journal }
+{
+    let mut core = run_workers::<R, H, G, Brand>(rt, alloc, core, gate);
+    run_rest(alloc, &mut core, gate);
+    // For its contract.
+    let _ = core.journal();
+    core
+}
+
+/// What the workers do of the lines, in rounds: while lines are left, and the last round answered
+/// one.
+fn run_workers<R: Threads + Wait + Sync, H: NodeHash, G: Gate, J: Pinned + Send + Sync>(
+    rt: &R,
+    alloc: Global,
+    core: Core<H>,
+    gate: &G,
+) -> Core<H>
+    requires { IsOf J.lines J.interval J.opened core }
+    ensures { IsOf J.lines J.interval J.opened result }
+{
+    let lines = core.script().lines.len();
+    let mut answered = core.journal().len();
+    let shared: Mutex<Shared<H, J>> = Mutex::new(Shared::new(core));
+    while answered < lines {
+        run_round(rt, alloc, &shared, gate, lines);
+        let now = answered_locked(rt, &shared);
+        if now <= answered {
+            break;
+        }
+        answered = now;
+    }
+    unlocked(shared)
+}
+
+/// Runs one worker for each actor that has a line left, and waits for them. One that can't be
+/// started leaves its lines undone.
+fn run_round<R: Threads + Wait + Sync, H: NodeHash, G: Gate, J: Pinned + Send + Sync>(
+    rt: &R,
+    alloc: Global,
+    shared: &Mutex<Shared<H, J>>,
+    gate: &G,
+    lines: usize,
+) {
+    thread::scope(thread::scope_env(), rt, |scope| {
+        for actor in 0..ACTORS {
+            if is_left_locked(rt, shared, actor) {
+                let _ = scope.spawn(move || work(rt, alloc, shared, gate, actor, lines));
+            }
+        }
+    });
+}
+
+/// Runs an actor's lines, of which there are at most so many, until it has none, or its next one
+/// waits each time that it is tried.
+fn work<R: Wait, H: NodeHash, G: Gate, J: Pinned>(
+    rt: &R,
+    alloc: Global,
+    shared: &Mutex<Shared<H, J>>,
+    gate: &G,
+    actor: u8,
+    lines: usize,
+) {
+    for _ in 0..lines {
+        if !answer(rt, alloc, shared, gate, actor) {
+            break;
+        }
+    }
+}
+
+/// Tries the actor's next line until it is answered. False where there is none, or it still waits.
+fn answer<R: Wait, H: NodeHash, G: Gate, J: Pinned>(
+    rt: &R,
+    alloc: Global,
+    shared: &Mutex<Shared<H, J>>,
+    gate: &G,
+    actor: u8,
+) -> bool {
+    for _ in 0..TRIES {
+        gate.pass(actor, Point::BeforeCommit);
+        match step_locked(rt, alloc, shared, actor) {
+            Stepped::Answered => {
+                gate.pass(actor, Point::Answered);
+                return true;
+            }
+            Stepped::Blocked => thread::yield_now(),
+            Stepped::Finished => return false,
+        }
+    }
+    false
+}
+
+/// Answers every line that has no entry yet, in line order.
+fn run_rest<H: NodeHash, G: Gate>(alloc: Global, core: &mut Core<H>, gate: &G)
+    ensures same { IsSameRun core.old core.new }
+    ensures projects { Projects core.new.lines core.new.journal }
+    ensures full { IsFull core.new.lines core.new.journal }
+{
+    for at in 0..core.script().lines.len() {
+        run_line(alloc, core, gate, at);
+    }
+    // For their contracts.
+    let _ = core.journal();
+    let _ = core.script();
+}
+
+/// Answers the line at a place where it has no entry yet. Those before it have theirs, so it is its
+/// actor's next one, and isn't blocked.
+fn run_line<H: NodeHash, G: Gate>(alloc: Global, core: &mut Core<H>, gate: &G, at: usize)
+    requires within { at < length core.old.lines }
+    requires before { AreAnswered core.old.lines core.old.journal at }
+    ensures same { IsSameRun core.old core.new }
+    ensures answered { AreAnswered core.new.lines core.new.journal (at + 1) }
+{
+    // For its contract: the journal projects the script.
+    let _ = core.journal();
+    let line = &core.script().lines[at];
+    let number = line.number;
+    let actor = line.actor;
+    if core.is_answered(number) {
+        return;
+    }
+    gate.pass(actor, Point::BeforeCommit);
+    match core.step(alloc, actor) {
+        Stepped::Answered => gate.pass(actor, Point::Answered),
+        _ => unreachable!(),
+    }
+}

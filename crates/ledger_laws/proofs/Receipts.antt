@@ -1,0 +1,349 @@
+-- What an answer says was received stays, where its target reaches it.
+use Rattle.std.proofs.Common.{◌≡◌, ◌⊎◌, ⊎_elim, ℕ, Bool, true, false, not, if◌then◌else◌, ◌==◌, List, [], ◌∷◌, ◌++◌, length, Option, None}
+use Rattle.std.proofs.Common.{Some, is_some, Result, Ok, Err, Contains, refl, sym, ap, ◌∙◌, subst}
+use Rattle.std.specs.Ordering.{is_eq}
+use Rattle.std.specs.FinMap as finite
+use Rattle.std.specs.FinSet as set
+use Rattle.std.specs.Cmp.Lexicographic.{same_text}
+use Rattle.std.proofs.lemmas.Cmp.{nat_list_cmp_total, tied_itself}
+use Rattle.ledger_spec.specs.declared.Kind.{Kind}
+use Rattle.ledger_spec.specs.declared.Kind.TheVariants as kinds
+use Rattle.ledger_spec.specs.declared.ShapeFault.{ShapeFault}
+use Rattle.ledger_spec.specs.Maps.{hash_cmp, get_in}
+use Rattle.ledger_spec.specs.Bytes.{Bytes, Hash, Half, Lookup, Nodes, same_bytes}
+use Rattle.ledger_spec.specs.Forms.{Held, header, form_of, hash_of, header_prefix}
+use Rattle.ledger_spec.specs.Reach.{root}
+use Rattle.ledger_spec.specs.Rules.{fault_of}
+use Rattle.ledger_spec.specs.Spots.{Spot, no_base, no_parent, empty_branch, under_leaf, wanted, spot_of}
+use Rattle.ledger_spec.specs.Wire.{read_offered}
+use Rattle.ledger_spec.proofs.OfferLaws.{err_ok, ok_same}
+use Rattle.ledger_spec.proofs.ReachLaws.{Grows, reach_grows, reach_joins}
+use Rattle.ledger_machine.specs.declared.commands.Command.{Command}
+use Rattle.ledger_machine.specs.declared.commands.Command.TheVariants as command
+use Rattle.ledger_machine.specs.declared.commands.Line.{Line}
+use Rattle.ledger_machine.specs.declared.journal.Entry.{Entry}
+use Rattle.ledger_spec.specs.declared.outcomes.Offered.{Offered}
+use Rattle.ledger_spec.specs.declared.outcomes.Offered.TheVariants as offered
+use Rattle.ledger_spec.specs.declared.outcomes.HeadOffered.{HeadOffered}
+use Rattle.ledger_spec.specs.declared.outcomes.HeadOffered.TheVariants as head
+use Rattle.ledger_machine.specs.declared.replies.WantReply.{WantReply}
+use Rattle.ledger_machine.specs.declared.replies.WantReply.TheVariants as want
+use Rattle.ledger_machine.specs.declared.replies.PeerReply.{PeerReply}
+use Rattle.ledger_machine.specs.declared.replies.PeerReply.TheVariants as peer
+use Rattle.ledger_machine.specs.declared.replies.CheckReply.{CheckReply}
+use Rattle.ledger_machine.specs.declared.replies.CheckReply.TheVariants as check
+use Rattle.ledger_machine.specs.declared.replies.BaseReply.TheVariants as base
+use Rattle.ledger_machine.specs.declared.replies.NodeReply.TheVariants as node
+use Rattle.ledger_machine.specs.declared.replies.Reply.{Reply}
+use Rattle.ledger_machine.specs.declared.replies.Reply.TheVariants as says
+use Rattle.ledger_machine.specs.State.{State, Acquisition, form_in, roots, with_form, with_forms, stored_seq}
+use Rattle.ledger_machine.specs.Want.{want_reply, after_want}
+use Rattle.ledger_machine.specs.Peer.{peer_reply, after_peer, with_peer}
+use Rattle.ledger_machine.specs.Check.{check_reply, after_check, after_ask}
+use Rattle.ledger_machine.specs.Offers.{after_head, after_node}
+use Rattle.ledger_spec.specs.Offers.{Clash, head_given, head_outcome, node_given, spot_outcome, wire_outcome, node_outcome, stored_by}
+use Rattle.ledger_machine.specs.Base.{is_present, part_outcome, given_part, after_part, all_parts, base_outcomes, base_for, base_reply}
+use Rattle.ledger_machine.specs.Base.{after_parts, after_base, one_reply, node_for, node_reply, after_offer}
+use Rattle.ledger_machine.specs.Scripts.{IsAcquiring}
+use Rattle.ledger_machine.specs.Steps.{Step, IsAfter, Answered, Gives}
+use Rattle.ledger_machine.specs.Runs.{Run, used_by}
+use Rattle.ledger_machine.specs.Receipts.{IsReceived, IsHeadReceived, IsReceivedPart, Receives, IsKept, Stays, AllStay}
+use Rattle.ledger_laws.proofs.SoundKeeps.{shaded_same, with_wanted_grow}
+use Rattle.ledger_laws.proofs.SoundForms.{get_more, old_stays, in_head}
+use Rattle.ledger_laws.proofs.SoundOffers.{in_one}
+use Rattle.ledger_laws.proofs.SoundSteps.{outcome_cases, line_at}
+use Rattle.ledger_laws.proofs.Ways.{IsNamed, named_reached, wanted_named}
+
+-- growth upon growth
+grows_on : {l m n : Lookup} → Grows l m → Grows m n → Grows l n
+grows_on a b h form e = b h form (a h form e)
+
+-- what is stored stays beside one more form
+with_form_grows : (half : Half) (s : State) (form : Bytes) → Grows (form_in s) (form_in (with_form half s form))
+with_form_grows half s form = at (form_in s (half form)) refl
+  where
+    at : (o : Option Bytes) → form_in s (half form) ≡ o
+        → Grows (form_in s) (form_in (if is_some o then s else record s { nodes = finite.insert s.nodes (half form) form; born = set.insert s.born (half form) }))
+    at (Some old) e = λ h was x. x
+    at None e = old_stays s.nodes (half form) form e
+
+-- and beside several
+with_forms_grow : (half : Half) (s : State) (forms : List Bytes) → Grows (form_in s) (form_in (with_forms half s forms))
+with_forms_grow half s [] = λ h was x. x
+with_forms_grow half s (form ∷ forms) = grows_on (with_form_grows half s form) (with_forms_grow half (with_form half s form) forms)
+
+-- what a rotation keeps is no part of what is stored
+after_grows : (t s' : State) → IsAfter t s' → Grows (form_in t) (form_in s')
+after_grows t s' e h form x = ap (λ (n : Nodes). finite.get n h) (shaded_same t s' e).nodes ∙ x
+
+head_grows : (half : Half) (s : State) (bytes : Bytes) (r : Result HeadOffered Clash) → Grows (form_in s) (form_in (after_head half s bytes r))
+head_grows half s bytes (Ok head.Good) = with_form_grows half s (header_prefix ++ bytes)
+head_grows half s bytes (Ok head.Duplicate) = λ h was x. x
+head_grows half s bytes (Ok (head.BadLength n)) = λ h was x. x
+head_grows half s bytes (Ok (head.BadHash found)) = λ h was x. x
+head_grows half s bytes (Err c) = λ h was x. x
+
+part_grows : (half : Half) (s : State) (t : Hash) (kind : Kind) (blob : Option Bytes) → Grows (form_in s) (form_in (after_part half s t kind blob))
+part_grows half s t kind None = λ h was x. x
+part_grows half s t kind (Some blob) = with_forms_grow half s (stored_by (read_offered half blob) (node_outcome half (form_in s) t kind [] blob))
+
+-- no answer to a command that acquires a ledger takes a form away
+want_grows : (s : State) (t : Hash) (seq : ℕ) (r : WantReply) → Grows (form_in s) (form_in (after_want s t seq r))
+want_grows s t seq want.Opened = λ h was x. x
+want_grows s t seq _ = λ h was x. x
+
+peer_grows : (half : Half) (s : State) (p : ℕ) (t : Hash) (r : PeerReply) → Grows (form_in s) (form_in (after_peer s p t r))
+peer_grows half s p t peer.Added = with_wanted_grow s t (with_peer p)
+peer_grows half s p t _ = λ h was x. x
+
+check_grows : (half : Half) (s : State) (t : Hash) (seq : ℕ) (r : CheckReply) → Grows (form_in s) (form_in (after_check s t seq r))
+check_grows half s t seq check.Complete = λ h was x. x
+check_grows half s t seq (check.Need peer places) = with_wanted_grow s t (after_ask (check.Need peer places))
+check_grows half s t seq (check.SeqDiffers asked found) = λ h was x. x
+check_grows half s t seq check.ZeroState = λ h was x. x
+check_grows half s t seq (check.BelowFloor f) = λ h was x. x
+check_grows half s t seq (check.Malformed place rule) = λ h was x. x
+check_grows half s t seq _ = λ h was x. x
+
+base_grows : (half : Half) (s : State) (p : ℕ) (t : Hash) (bytes : Bytes) (state tx : Option Bytes) (reply : Reply) → Grows (form_in s) (form_in (after_base half s p t bytes state tx reply))
+base_grows half s p t bytes state tx (says.Base (base.Parts h a b)) =
+    let r : Result HeadOffered Clash = head_outcome half (form_in s) t bytes in
+    let s1 : State = after_head half s bytes r in
+    let s2 : State = after_part half s1 t kinds.State state in
+    grows_on (head_grows half s bytes r) (grows_on (part_grows half s1 t kinds.State state) (part_grows half s2 t kinds.Tx tx))
+base_grows half s p t bytes state tx _ = λ h was x. x
+
+node_grows : (half : Half) (s : State) (p : ℕ) (t : Hash) (kind : Kind) (path : List ℕ) (blob : Bytes) (reply : Reply) → Grows (form_in s) (form_in (after_offer half s p t kind path blob reply))
+node_grows half s p t kind path blob (says.Node (node.One o)) = with_forms_grow half s (stored_by (read_offered half blob) (node_outcome half (form_in s) t kind path blob))
+node_grows half s p t kind path blob _ = λ h was x. x
+
+-- the answer of a row
+answer_grows : (half : Half) (s : State) (a : ℕ) (c : Command) (reply : Reply) (used : List Held) (s' : State) → IsAcquiring c → Answered half s a c reply used s' → Grows (form_in s) (form_in s')
+answer_grows half s a (command.Want t seq) reply used s' acquiring g = grows_on (want_grows s t seq (want_reply s t seq)) (after_grows (after_want s t seq (want_reply s t seq)) s' g.after)
+answer_grows half s a (command.Peer p t) reply used s' acquiring g = grows_on (peer_grows half s p t (peer_reply s p t)) (after_grows (after_peer s p t (peer_reply s p t)) s' g.after)
+answer_grows half s a (command.Base p t bytes state tx) reply used s' acquiring g = grows_on (base_grows half s p t bytes state tx reply) (after_grows (after_base half s p t bytes state tx reply) s' g.after)
+answer_grows half s a (command.Node p t kind path blob) reply used s' acquiring g = grows_on (node_grows half s p t kind path blob reply) (after_grows (after_offer half s p t kind path blob reply) s' g.after)
+answer_grows half s a (command.Check t) reply used s' acquiring g = grows_on (check_grows half s t (stored_seq s t) (check_reply half s t)) (after_grows (after_check s t (stored_seq s t) (check_reply half s t)) s' g.after)
+answer_grows half s a _ reply used s' acquiring g = absurd acquiring
+
+-- what is stored stays at each step of a command that acquires a ledger
+pub step_grows : (half : Half) (s s' : State) (a : ℕ) (c : Command) (reply : Reply) (used : List Held) → IsAcquiring c → Step half s a c reply used s' → Grows (form_in s) (form_in s')
+step_grows half s s' a c reply used acquiring step =
+    ⊎_elim (λ r. grows_on (with_forms_grow half s r.forms) (after_grows (with_forms half s r.forms) s' r.same)) (λ g. answer_grows half s a c reply used s' acquiring g)
+    (outcome_cases half s a c reply used s' step.outcome)
+
+-- and along each run of such commands
+pub run_grows : (half : Half) (lines : List Line) (s : State) (entries : List Entry) (s' : State) → ((l : Line) → Contains lines l → IsAcquiring l.command)
+    → Run half lines s entries s' → Grows (form_in s) (form_in s')
+run_grows half lines s [] s' each run = subst (λ (x : State). Grows (form_in s) (form_in x)) (sym run) (λ h was x. x)
+run_grows half lines s (e ∷ rest) s' each run =
+    let line : Line = run.1.line in
+    grows_on (step_grows half s run.0 e.actor line.command e.reply (used_by e) (each line (line_at lines run.1.place line run.1.stands)) run.1.step) (run_grows half lines run.0 rest s' each run.2)
+
+-- what is kept stays so
+pub kept_grows : (half : Half) (s s' : State) (targets : List Hash) (n : Held) → Grows (form_in s) (form_in s') → IsKept half s targets n → IsKept half s' targets n
+kept_grows half s s' targets n up k = record { stored = up (hash_of half n) (form_of n) k.stored; reached = reach_grows up k.reached }
+
+-- and is reached from a list that has the target
+pub kept_among : (half : Half) (s : State) (t : Hash) (targets : List Hash) (n : Held) → Contains targets t → IsKept half s (t ∷ []) n → IsKept half s targets n
+kept_among half s t targets n among k = record {
+  stored = k.stored;
+  reached = reach_joins (λ r c stored. root (subst (Contains targets) (sym (in_one t r c)) among) stored) k.reached;
+}
+
+-- a new form is found under its hash
+new_stored : (half : Half) (s : State) (form : Bytes) → form_in s (half form) ≡ None → form_in (with_form half s form) (half form) ≡ Some form
+new_stored half s form free = at (form_in s (half form)) free
+  where
+    at : (o : Option Bytes) → o ≡ None
+        → form_in (if is_some o then s else record s { nodes = finite.insert s.nodes (half form) form; born = set.insert s.born (half form) }) (half form) ≡ Some form
+    at (Some old) e = cc
+    at None e = get_more s.nodes (half form) form (half form) true (ap is_eq (tied_itself nat_list_cmp_total (half form)))
+
+-- a node that is there already is stored
+same_stored : (half : Half) (s : State) (n : Held) (old : Bytes) (o : Offered) (c : Clash) (b : Bool) → same_bytes old (form_of n) ≡ b → form_in s (hash_of half n) ≡ Some old
+    → (if b then Ok offered.Duplicate else Err c) ≡ Ok o
+    → form_in (with_forms half s (stored_by (Ok n) (if b then Ok offered.Duplicate else Err c))) (hash_of half n) ≡ Some (form_of n)
+same_stored half s n old o c true is there e = there ∙ ap Some (same_text old (form_of n) (sym is))
+same_stored half s n old o c false is there e = absurd (err_ok e)
+
+-- a node with the wanted hash is stored, now or before
+given_stored : (half : Half) (s : State) (n : Held) (fault : Option ShapeFault) (held : Option Bytes) (o : Offered) → form_in s (hash_of half n) ≡ held
+    → node_given fault (hash_of half n) (form_of n) held ≡ Ok o
+    → form_in (with_forms half s (stored_by (Ok n) (node_given fault (hash_of half n) (form_of n) held))) (hash_of half n) ≡ Some (form_of n)
+given_stored half s n None None o free e = new_stored half s (form_of n) free
+given_stored half s n (Some fault) None o free e = new_stored half s (form_of n) free
+given_stored half s n None (Some old) o there e =
+    same_stored half s n old o (record { hash = hash_of half n; old = old; new = form_of n }) (same_bytes old (form_of n)) refl there e
+given_stored half s n (Some fault) (Some old) o there e =
+    same_stored half s n old o (record { hash = hash_of half n; old = old; new = form_of n }) (same_bytes old (form_of n)) refl there e
+
+-- an outcome behind a test, other than a bad hash
+past_hash : (b : Bool) (r : Result Offered Clash) (h found : Hash) (o : Offered) → (if b then r else Ok (offered.BadHash h found)) ≡ Ok o → IsReceived o
+    → (b ≡ true) × (r ≡ Ok o)
+past_hash true r h found o e received = (refl, e)
+past_hash false r h found o e received = absurd (subst IsReceived (sym (ok_same e)) received)
+
+-- a node that is received at a place is kept
+spot_kept : (half : Half) (s : State) (t : Hash) (kind : Kind) (path : List ℕ) (n : Held) (x : Spot) (o : Offered) → spot_of (form_in s) t kind path ≡ x
+    → spot_outcome half (form_in s) kind path n x ≡ Ok o → IsReceived o
+    → IsKept half (with_forms half s (stored_by (Ok n) (spot_outcome half (form_in s) kind path n x))) (t ∷ []) n
+spot_kept half s t kind path n no_base o is e received = absurd (subst IsReceived (sym (ok_same e)) received)
+spot_kept half s t kind path n (no_parent p) o is e received = absurd (subst IsReceived (sym (ok_same e)) received)
+spot_kept half s t kind path n (empty_branch p) o is e received = absurd (subst IsReceived (sym (ok_same e)) received)
+spot_kept half s t kind path n (under_leaf p) o is e received = absurd (subst IsReceived (sym (ok_same e)) received)
+spot_kept half s t kind path n (wanted h parent) o is e received =
+    let given : Result Offered Clash = node_given (fault_of n parent kind path) h (form_of n) (form_in s h) in
+    let out : Result Offered Clash = if same_bytes (hash_of half n) h then given else Ok (offered.BadHash h (hash_of half n)) in
+    let past : (same_bytes (hash_of half n) h ≡ true) × (given ≡ Ok o) = past_hash (same_bytes (hash_of half n) h) given h (hash_of half n) o e received in
+    let same : hash_of half n ≡ h = same_text (hash_of half n) h (sym past.0) in
+    let own : Result Offered Clash = node_given (fault_of n parent kind path) (hash_of half n) (form_of n) (form_in s (hash_of half n)) in
+    let as_given : own ≡ given = ap (λ x. node_given (fault_of n parent kind path) x (form_of n) (form_in s x)) same in
+    let there : form_in (with_forms half s (stored_by (Ok n) out)) (hash_of half n) ≡ Some (form_of n) =
+    subst (λ r. form_in (with_forms half s (stored_by (Ok n) r)) (hash_of half n) ≡ Some (form_of n)) (as_given ∙ past.1 ∙ sym e)
+    (given_stored half s n (fault_of n parent kind path) (form_in s (hash_of half n)) o refl (as_given ∙ past.1)) in
+    let name : IsNamed (form_in s) t (hash_of half n) = subst (IsNamed (form_in s) t) (sym same) (wanted_named (form_in s) t kind path h parent is) in
+    record {
+      stored = there;
+      reached = named_reached (form_in s) (form_in (with_forms half s (stored_by (Ok n) out))) t (hash_of half n) (with_forms_grow half s (stored_by (Ok n) out)) name (form_of n, there);
+    }
+
+-- a node that is read and received is kept
+read_kept : (half : Half) (s : State) (t : Hash) (kind : Kind) (path : List ℕ) (r : Result Held ℕ) (n : Held) (o : Offered) → r ≡ Ok n
+    → wire_outcome half (form_in s) t kind path r ≡ Ok o → IsReceived o → IsKept half (with_forms half s (stored_by r (wire_outcome half (form_in s) t kind path r))) (t ∷ []) n
+read_kept half s t kind path (Err cause) n o is e received = absurd (err_ok is)
+read_kept half s t kind path (Ok m) n o is e received =
+    subst (λ x. IsKept half (with_forms half s (stored_by (Ok m) (wire_outcome half (form_in s) t kind path (Ok m)))) (t ∷ []) x) (ok_same is)
+    (spot_kept half s t kind path m (spot_of (form_in s) t kind path) o refl e received)
+
+node_kept : (half : Half) (s : State) (t : Hash) (kind : Kind) (path : List ℕ) (blob : Bytes) (n : Held) (o : Offered) → node_outcome half (form_in s) t kind path blob ≡ Ok o
+    → IsReceivedPart half (Some blob) (Some o) n → IsKept half (after_node half s t kind path blob) (t ∷ []) n
+node_kept half s t kind path blob n o e received = read_kept half s t kind path (read_offered half blob) n o received.1 e received.0
+
+-- a part that is given, and answered so
+part_given : (r : Result Offered Clash) (o : Offered) → given_part r ≡ Ok (Some o) → r ≡ Ok o
+part_given (Ok x) o e = cc
+part_given (Err c) o e = absurd (err_ok e)
+
+part_kept : (half : Half) (s : State) (t : Hash) (kind : Kind) (blob : Option Bytes) (a : Option Offered) (n : Held) → part_outcome half (form_in s) t kind blob ≡ Ok a
+    → IsReceivedPart half blob a n → IsKept half (after_part half s t kind blob) (t ∷ []) n
+part_kept half s t kind None a n e received = absurd received
+part_kept half s t kind (Some blob) None n e received = absurd received
+part_kept half s t kind (Some blob) (Some o) n e received = node_kept half s t kind [] blob n o (part_given (node_outcome half (form_in s) t kind [] blob) o e) received
+
+-- an answer to a header behind the tests of its length and its hash
+past_tests : (a b : Bool) (n : ℕ) (found : Hash) (r : Result HeadOffered Clash) (h : HeadOffered)
+    → (if not a then Ok (head.BadLength n) else if not b then Ok (head.BadHash found) else r) ≡ Ok h → IsHeadReceived h → (b ≡ true) × (r ≡ Ok h)
+past_tests false b n found r h e received = absurd (subst IsHeadReceived (sym (ok_same e)) received)
+past_tests true false n found r h e received = absurd (subst IsHeadReceived (sym (ok_same e)) received)
+past_tests true true n found r h e received = (refl, e)
+
+-- a header of the right hash is stored, now or before
+head_stored : (half : Half) (s : State) (bytes : Bytes) (held : Option Bytes) (h : HeadOffered) → form_in s (half (header_prefix ++ bytes)) ≡ held
+    → head_given (half (header_prefix ++ bytes)) (header_prefix ++ bytes) held ≡ Ok h
+    → form_in (after_head half s bytes (head_given (half (header_prefix ++ bytes)) (header_prefix ++ bytes) held)) (half (header_prefix ++ bytes)) ≡ Some (header_prefix ++ bytes)
+head_stored half s bytes None h free e = new_stored half s (header_prefix ++ bytes) free
+head_stored half s bytes (Some old) h there e = at (same_bytes old (header_prefix ++ bytes)) refl e
+  where
+    clash : Clash
+    clash = record { hash = half (header_prefix ++ bytes); old = old; new = header_prefix ++ bytes }
+
+    at : (b : Bool) → same_bytes old (header_prefix ++ bytes) ≡ b → (if b then Ok head.Duplicate else Err clash) ≡ Ok h
+        → form_in (after_head half s bytes (if b then Ok head.Duplicate else Err clash)) (half (header_prefix ++ bytes)) ≡ Some (header_prefix ++ bytes)
+    at true is e = there ∙ ap Some (same_text old (header_prefix ++ bytes) (sym is))
+    at false is e = absurd (err_ok e)
+
+-- a header that is received is kept
+head_kept : (half : Half) (s : State) (t : Hash) (bytes : Bytes) (h : HeadOffered) → head_outcome half (form_in s) t bytes ≡ Ok h → IsHeadReceived h
+    → IsKept half (after_head half s bytes (head_outcome half (form_in s) t bytes)) (t ∷ []) (header bytes)
+head_kept half s t bytes h e received =
+    let form : Bytes = header_prefix ++ bytes in
+    let given : Result HeadOffered Clash = head_given t form (form_in s t) in
+    let past : (same_bytes (half form) t ≡ true) × (given ≡ Ok h) = past_tests (length bytes == 118) (same_bytes (half form) t) (length bytes) (half form) given h e received in
+    let same : half form ≡ t = same_text (half form) t (sym past.0) in
+    let as_given : head_given (half form) form (form_in s (half form)) ≡ given = ap (λ x. head_given x form (form_in s x)) same in
+    let there : form_in (after_head half s bytes (head_outcome half (form_in s) t bytes)) (half form) ≡ Some form =
+    subst (λ r. form_in (after_head half s bytes r) (half form) ≡ Some form) (as_given ∙ past.1 ∙ sym e) (head_stored half s bytes (form_in s (half form)) h refl (as_given ∙ past.1)) in
+    record { stored = there; reached = root (subst (λ x. Contains (t ∷ []) x) (sym same) (in_head t [])) (form, there) }
+
+-- the parts of an answer
+parts_are : (x : Result HeadOffered Clash) (y z : Result (Option Offered) Clash) (h : HeadOffered) (a b : Option Offered) → all_parts x y z ≡ says.Base (base.Parts h a b)
+    → (x ≡ Ok h) × (y ≡ Ok a) × (z ≡ Ok b)
+parts_are (Err c) y z h a b e = cc
+parts_are (Ok x) (Err c) z h a b e = cc
+parts_are (Ok x) (Ok y) (Err c) h a b e = cc
+parts_are (Ok x) (Ok y) (Ok z) h a b e = let first : x ≡ h = cc in let second : y ≡ a = cc in let third : z ≡ b = cc in (ap Ok first, ap Ok second, ap Ok third)
+
+-- an answer with parts is to a present peer
+base_present : (half : Half) (s : State) (p : ℕ) (t : Hash) (bytes : Bytes) (state tx : Option Bytes) (o : Option Acquisition) (h : HeadOffered) (a b : Option Offered)
+    → base_for half s p t bytes state tx o ≡ says.Base (base.Parts h a b) → base_outcomes half s t bytes state tx ≡ says.Base (base.Parts h a b)
+base_present half s p t bytes state tx None h a b e = cc
+base_present half s p t bytes state tx (Some x) h a b e = at (is_present p x) (base_outcomes half s t bytes state tx) e
+  where
+    at : (z : Bool) (r : Reply) → (if z then r else says.Base base.Unasked) ≡ says.Base (base.Parts h a b) → r ≡ says.Base (base.Parts h a b)
+    at true r e = e
+    at false r e = cc
+
+-- and so is one with a node's outcome
+node_present : (half : Half) (s : State) (p : ℕ) (t : Hash) (kind : Kind) (path : List ℕ) (blob : Bytes) (o : Option Acquisition) (x : Offered)
+    → node_for half s p t kind path blob o ≡ says.Node (node.One x) → node_outcome half (form_in s) t kind path blob ≡ Ok x
+node_present half s p t kind path blob None x e = cc
+node_present half s p t kind path blob (Some a) x e = at (is_present p a) (node_outcome half (form_in s) t kind path blob) e
+  where
+    at : (z : Bool) (r : Result Offered Clash) → (if z then one_reply r else says.Node node.Unasked) ≡ says.Node (node.One x) → r ≡ Ok x
+    at true (Ok o) e = cc
+    at true (Err c) e = cc
+    at false r e = cc
+
+-- what the parts of a base reply bring is kept
+base_kept : (half : Half) (s : State) (t : Hash) (bytes : Bytes) (state tx : Option Bytes) (h : HeadOffered) (a b : Option Offered) (n : Held)
+    → base_outcomes half s t bytes state tx ≡ says.Base (base.Parts h a b)
+    → (IsHeadReceived h × (n ≡ header bytes)) ⊎ IsReceivedPart half state a n ⊎ IsReceivedPart half tx b n → IsKept half (after_parts half s t bytes state tx) (t ∷ []) n
+base_kept half s t bytes state tx h a b n e received =
+    let r : Result HeadOffered Clash = head_outcome half (form_in s) t bytes in
+    let s1 : State = after_head half s bytes r in
+    let s2 : State = after_part half s1 t kinds.State state in
+    let s3 : State = after_part half s2 t kinds.Tx tx in
+    let each : (r ≡ Ok h) × (part_outcome half (form_in s1) t kinds.State state ≡ Ok a) × (part_outcome half (form_in s2) t kinds.Tx tx ≡ Ok b) =
+    parts_are r (part_outcome half (form_in s1) t kinds.State state) (part_outcome half (form_in s2) t kinds.Tx tx) h a b e in
+    let second : Grows (form_in s1) (form_in s2) = part_grows half s1 t kinds.State state in
+    let third : Grows (form_in s2) (form_in s3) = part_grows half s2 t kinds.Tx tx in
+    ⊎_elim
+    (λ first. subst (λ x. IsKept half s3 (t ∷ []) x) (sym first.1) (kept_grows half s1 s3 (t ∷ []) (header bytes) (grows_on second third) (head_kept half s t bytes h each.0 first.0)))
+    (λ other. ⊎_elim
+    (λ given. kept_grows half s2 s3 (t ∷ []) n third (part_kept half s1 t kinds.State state a n each.1 given))
+    (λ given. part_kept half s2 t kinds.Tx tx b n each.2 given)
+    other)
+    received
+
+-- what an answer says was received is kept after it
+pub received_kept : (half : Half) (s s' : State) (a : ℕ) (c : Command) (reply : Reply) (used : List Held) (t : Hash) (n : Held) → Step half s a c reply used s' → Receives half t c reply n
+    → IsKept half s' (t ∷ []) n
+received_kept half s s' a (command.Base p target bytes state tx) (says.Base (base.Parts h x y)) used t n step received =
+    let g : Gives (base_reply half s p target bytes state tx) (after_parts half s target bytes state tx) (says.Base (base.Parts h x y)) s' = step.outcome in
+    subst (λ u. IsKept half s' (u ∷ []) n) received.0
+    (kept_grows half (after_parts half s target bytes state tx) s' (target ∷ []) n (after_grows (after_parts half s target bytes state tx) s' g.after)
+    (base_kept half s target bytes state tx h x y n (base_present half s p target bytes state tx (get_in hash_cmp s.wanted target) h x y (sym g.says)) received.1))
+received_kept half s s' a (command.Node p target kind path blob) (says.Node (node.One o)) used t n step received =
+    let g : Gives (node_reply half s p target kind path blob) (after_node half s target kind path blob) (says.Node (node.One o)) s' = step.outcome in
+    subst (λ u. IsKept half s' (u ∷ []) n) received.0
+    (kept_grows half (after_node half s target kind path blob) s' (target ∷ []) n (after_grows (after_node half s target kind path blob) s' g.after)
+    (node_kept half s target kind path blob n o (node_present half s p target kind path blob (get_in hash_cmp s.wanted target) o (sym g.says)) received.1))
+received_kept half s s' a _ _ used t n step received = absurd received
+
+-- along a run, of such commands alone, what is kept stays, and so what was received
+module _ (half : Half) (lines : List Line) (each : (l : Line) → Contains lines l → IsAcquiring l.command) where
+  stays : (t : Hash) (n : Held) (s : State) (entries : List Entry) (s' : State) (run : Run half lines s entries s') → IsKept half s (t ∷ []) n → Stays half t n lines s entries s' run
+  stays t n s [] s' run kept = λ among. kept_among half s t (roots s) n among kept
+  stays t n s (e ∷ rest) s' run kept =
+      let line : Line = run.1.line in
+      let fit : IsAcquiring line.command = each line (line_at lines run.1.place line run.1.stands) in
+      let later : IsKept half run.0 (t ∷ []) n = kept_grows half s run.0 (t ∷ []) n (step_grows half s run.0 e.actor line.command e.reply (used_by e) fit run.1.step) kept in
+      λ among. (kept_among half s t (roots s) n among kept, stays t n run.0 rest s' run.2 later)
+
+  pub all_stay : (s : State) (entries : List Entry) (s' : State) (run : Run half lines s entries s') → AllStay half lines s entries s' run
+  all_stay s [] s' run = tt
+  all_stay s (e ∷ rest) s' run = (
+    (λ t n received. stays t n run.0 rest s' run.2 (received_kept half s run.0 e.actor run.1.line.command e.reply (used_by e) t n run.1.step received)),
+    all_stay run.0 rest s' run.2,
+  )

@@ -1,0 +1,133 @@
+-- Steps and runs of the commands that acquire a ledger keep a state sound.
+use Rattle.std.proofs.Common.{◌≡◌, ◌⊎◌, inl, inr, ⊎_elim, ℕ, List, [], ◌∷◌, Option, Some, Contains, slice_get, All, IsTrue, refl, sym}
+use Rattle.std.proofs.Common.{subst}
+use Rattle.std.proofs.lemmas.Option.{slice_get_within, get_or_from_slice_get}
+use Rattle.std.proofs.lemmas.List.Elements.{All-contains}
+use Rattle.ledger_spec.specs.declared.Kind.{Kind}
+use Rattle.ledger_spec.specs.Bytes.{Bytes, Hash, Half, is_nonzero}
+use Rattle.ledger_spec.specs.Forms.{Held}
+use Rattle.ledger_machine.specs.declared.commands.Command.{Command}
+use Rattle.ledger_machine.specs.declared.commands.Command.TheVariants as command
+use Rattle.ledger_machine.specs.declared.commands.Line.{Line}
+use Rattle.ledger_machine.specs.declared.journal.Entry.{Entry}
+use Rattle.ledger_machine.specs.declared.replies.WantReply.{WantReply}
+use Rattle.ledger_machine.specs.declared.replies.WantReply.TheVariants as want
+use Rattle.ledger_machine.specs.declared.replies.PeerReply.{PeerReply}
+use Rattle.ledger_machine.specs.declared.replies.PeerReply.TheVariants as peer
+use Rattle.ledger_machine.specs.declared.replies.Reply.{Reply}
+use Rattle.ledger_machine.specs.declared.replies.Reply.TheVariants as says
+use Rattle.std.specs.Cmp.Lexicographic.{nat_list_cmp_total}
+use Rattle.std.proofs.lemmas.Cmp.{nat_cmp_total}
+use Rattle.std.proofs.lemmas.Map.Views.{All-values-insert_entry}
+use Rattle.ledger_spec.specs.Maps.{hash_cmp, insert_in}
+use Rattle.ledger_machine.specs.State.{State, fresh, stored_seq}
+use Rattle.ledger_machine.specs.Scripts.{AreBytes, IsAcquiring, IsInRange}
+use Rattle.ledger_machine.specs.Want.{want_reply, after_want}
+use Rattle.ledger_machine.specs.Peer.{peer_reply, after_peer, with_peer}
+use Rattle.ledger_machine.specs.Check.{check_reply, after_check}
+use Rattle.ledger_machine.specs.Sound.{Sound}
+use Rattle.ledger_machine.specs.Steps.{Step, Outcomes, Answered, Refused, Gives}
+use Rattle.ledger_machine.specs.Runs.{Run, used_by}
+use Rattle.ledger_laws.proofs.SoundKeeps.{Keeps, keeps_sound, keeps_self, keeps_after, wanted_keeps, with_wanted_keeps, same_keeps}
+use Rattle.std.specs.Ordering.{nat_cmp}
+use Rattle.ledger_laws.proofs.SoundTables.{none_rises, insert_rises}
+use Rattle.ledger_laws.proofs.SoundKeeps.{HasCharges, shaded_same, shaded_tables}
+use Rattle.ledger_laws.proofs.SoundForms.{refused_keeps, refused_none}
+use Rattle.ledger_laws.proofs.SoundCheck.{check_sound}
+use Rattle.ledger_laws.proofs.SoundOffers.{AreOffered, after_base_keeps, after_offer_keeps, base_own, offer_own}
+
+-- a command is refused, or answered by its row
+pub outcome_cases : (half : Half) (s : State) (a : ℕ) (c : Command) (reply : Reply) (used : List Held) (s' : State) → Outcomes half s a c reply used s'
+    → Refused half s a c s' ⊎ Answered half s a c reply used s'
+outcome_cases half s a c says.Fault used s' o = inl o.1
+outcome_cases half s a c says.Memory used s' o = inl o.1
+outcome_cases half s a c (says.Clash h old new) used s' o = inl o.1
+outcome_cases half s a c (says.ZeroHash form) used s' o = inl o.1
+outcome_cases half s a c reply used s' o = inr o
+
+-- each answer to `want` keeps a state sound
+want_keeps : (half : Half) (s : State) (t : Hash) (seq : ℕ) (r : WantReply) → Keeps half s (after_want s t seq r)
+want_keeps half s t seq want.Opened =
+    wanted_keeps half s (insert_in hash_cmp s.wanted t (fresh seq)) (insert_rises nat_list_cmp_total s.wanted t (fresh seq))
+    (λ all. All-values-insert_entry hash_cmp t (fresh seq) HasCharges s.wanted all (none_rises nat_cmp))
+want_keeps half s t seq _ = keeps_self half s
+
+-- and each answer to `peer`
+peer_keeps : (half : Half) (s : State) (p : ℕ) (t : Hash) (r : PeerReply) → Keeps half s (after_peer s p t r)
+peer_keeps half s p t peer.Added = with_wanted_keeps half s t (with_peer p) (λ a rises. insert_rises nat_cmp_total a.charges p 0 rises)
+peer_keeps half s p t _ = keeps_self half s
+
+-- the state after an answer that keeps a state sound
+gives_sound : (half : Half) (s t s' : State) (r reply : Reply) → Sound half s → Keeps half s t → Gives r t reply s' → Sound half s'
+gives_sound half s t s' r reply sound k g = keeps_sound half s s' sound (keeps_after half s t s' k g.after)
+
+-- the state after an answer whose state is sound
+gives_same : (half : Half) (t s' : State) (r reply : Reply) → Sound half t → Gives r t reply s' → Sound half s'
+gives_same half t s' r reply sound g = keeps_sound half t s' sound (same_keeps half t s' (shaded_same t s' g.after) (shaded_tables half t s' g.after))
+
+-- a step of `want`
+pub want_sound : (half : Half) (s s' : State) (a : ℕ) (t : Hash) (seq : ℕ) (reply : Reply) (used : List Held) → Sound half s → Step half s a (command.Want t seq) reply used s' → Sound half s'
+want_sound half s s' a t seq reply used sound step =
+    ⊎_elim (λ r. keeps_sound half s s' sound (refused_none half s a (command.Want t seq) s' refl r))
+    (λ g. gives_sound half s (after_want s t seq (want_reply s t seq)) s' (says.Want (want_reply s t seq)) reply sound (want_keeps half s t seq (want_reply s t seq)) g)
+    (outcome_cases half s a (command.Want t seq) reply used s' step.outcome)
+
+-- a step of `peer`
+pub peer_sound : (half : Half) (s s' : State) (a p : ℕ) (t : Hash) (reply : Reply) (used : List Held) → Sound half s → Step half s a (command.Peer p t) reply used s' → Sound half s'
+peer_sound half s s' a p t reply used sound step =
+    ⊎_elim (λ r. keeps_sound half s s' sound (refused_none half s a (command.Peer p t) s' refl r))
+    (λ g. gives_sound half s (after_peer s p t (peer_reply s p t)) s' (says.Peer (peer_reply s p t)) reply sound (peer_keeps half s p t (peer_reply s p t)) g)
+    (outcome_cases half s a (command.Peer p t) reply used s' step.outcome)
+
+-- a step of `check`
+pub check_step_sound : (half : Half) (s s' : State) (a : ℕ) (t : Hash) (reply : Reply) (used : List Held) → Sound half s → Step half s a (command.Check t) reply used s' → Sound half s'
+check_step_sound half s s' a t reply used sound step =
+    ⊎_elim (λ r. keeps_sound half s s' sound (refused_none half s a (command.Check t) s' refl r))
+    (λ g. gives_same half (after_check s t (stored_seq s t) (check_reply half s t)) s' (says.Check (check_reply half s t)) reply (check_sound half s t (check_reply half s t) refl sound) g)
+    (outcome_cases half s a (command.Check t) reply used s' step.outcome)
+
+-- a step of `base`
+pub base_sound : (half : Half) (s s' : State) (a p : ℕ) (t : Hash) (bytes : Bytes) (state tx : Option Bytes) (reply : Reply) (used : List Held) → AreOffered t bytes state tx → Sound half s
+    → Step half s a (command.Base p t bytes state tx) reply used s' → Sound half s'
+base_sound half s s' a p t bytes state tx reply used is sound step =
+    ⊎_elim (λ r. keeps_sound half s s' sound (refused_keeps half s a (command.Base p t bytes state tx) s' (λ form i. base_own half s p t bytes state tx form is i) r))
+    (λ g. gives_sound half s _ s' _ reply sound (after_base_keeps half s p t bytes state tx reply is) g)
+    (outcome_cases half s a (command.Base p t bytes state tx) reply used s' step.outcome)
+
+-- a step of `node`
+pub node_sound : (half : Half) (s s' : State) (a p : ℕ) (t : Hash) (kind : Kind) (path : List ℕ) (blob : Bytes) (reply : Reply) (used : List Held) → AreBytes blob → Sound half s
+    → Step half s a (command.Node p t kind path blob) reply used s' → Sound half s'
+node_sound half s s' a p t kind path blob reply used all sound step =
+    ⊎_elim (λ r. keeps_sound half s s' sound (refused_keeps half s a (command.Node p t kind path blob) s' (λ form i. offer_own half s p t kind path blob form all i) r))
+    (λ g. gives_sound half s _ s' _ reply sound (after_offer_keeps half s p t kind path blob reply all) g)
+    (outcome_cases half s a (command.Node p t kind path blob) reply used s' step.outcome)
+
+-- each step of a command that acquires a ledger leads from a sound state to a sound state
+pub acquiring_step_sound : (half : Half) (s s' : State) (a : ℕ) (c : Command) (reply : Reply) (used : List Held) → IsAcquiring c → IsInRange c → Sound half s → Step half s a c reply used s'
+    → Sound half s'
+acquiring_step_sound half s s' a (command.Want t seq) reply used acquiring range sound step = want_sound half s s' a t seq reply used sound step
+acquiring_step_sound half s s' a (command.Peer p t) reply used acquiring range sound step = peer_sound half s s' a p t reply used sound step
+acquiring_step_sound half s s' a (command.Base p t bytes state tx) reply used acquiring range sound step = base_sound half s s' a p t bytes state tx reply used range sound step
+acquiring_step_sound half s s' a (command.Node p t kind path blob) reply used acquiring range sound step = node_sound half s s' a p t kind path blob reply used range.2 sound step
+acquiring_step_sound half s s' a (command.Check t) reply used acquiring range sound step = check_step_sound half s s' a t reply used sound step
+acquiring_step_sound half s s' a _ reply used acquiring range sound step = absurd acquiring
+
+-- a line at a place is a line of the script
+pub line_at : (lines : List Line) (place : ℕ) (l : Line) → slice_get lines place ≡ Some l → Contains lines l
+line_at lines place l e = (place, slice_get_within lines place l e, get_or_from_slice_get lines place l l e)
+
+-- each run over such commands leads from a sound state to a sound state
+pub acquiring_run_sound : (half : Half) (lines : List Line) (s : State) (entries : List Entry) (s' : State)
+    → ((l : Line) → Contains lines l → IsAcquiring l.command × IsInRange l.command) → Sound half s → Run half lines s entries s' → Sound half s'
+acquiring_run_sound half lines s [] s' each sound run = subst (λ x. Sound half x) (sym run) sound
+acquiring_run_sound half lines s (e ∷ rest) s' each sound run =
+    let line : Line = run.1.line in
+    let fit : IsAcquiring line.command × IsInRange line.command = each line (line_at lines run.1.place line run.1.stands) in
+    acquiring_run_sound half lines run.0 rest s' each
+    (acquiring_step_sound half s run.0 e.actor line.command e.reply (used_by e) fit.0 fit.1 sound run.1.step) run.2
+
+-- the same, where all lines are such commands
+pub acquiring_lines_sound : (half : Half) (lines : List Line) (s : State) (entries : List Entry) (s' : State)
+    → All (λ l. IsAcquiring l.command) lines → All (λ l. IsInRange l.command) lines → Sound half s → Run half lines s entries s' → Sound half s'
+acquiring_lines_sound half lines s entries s' acquiring range sound run =
+    acquiring_run_sound half lines s entries s' (λ l i. (All-contains (λ x. IsAcquiring x.command) lines l acquiring i, All-contains (λ x. IsInRange x.command) lines l range i)) sound run

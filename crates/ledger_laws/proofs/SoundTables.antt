@@ -1,0 +1,100 @@
+-- Tables whose keys rise stay such tables as entries come, change and go.
+use Rattle.std.proofs.Common.{◌≡◌, ◌<◌, ℕ, suc, length, arith, Bool, true, false, cond, List, [], ◌∷◌, Option, None, Some, refl, sym, ap, ◌∙◌, subst}
+use Rattle.std.specs.List.{All, AllByRecursion}
+use Rattle.std.specs.List.Sorted.{IsStrictlySortedBy}
+use Rattle.std.specs.Map.{keys_of, values_of, lookup, remove_entry, set_value}
+use Rattle.std.specs.BTreeMap.{insert_entry, is_at}
+use Rattle.std.specs.Cmp.{IsTotalOrder}
+use Rattle.std.specs.Ordering.{match_ordering, ordering_reverse, nat_cmp}
+use Rattle.std.specs.declared.cmp.Ordering.{Ordering}
+use Rattle.std.specs.declared.cmp.Ordering.TheVariants.{Less, Equal, Greater}
+use Rattle.std.proofs.lemmas.Map.{keys-set_value}
+use Rattle.std.proofs.lemmas.Map.Views.{All-values-set_value, All-values-insert_entry, All-map-remove_entry}
+use Rattle.ledger_spec.specs.declared.Kind.TheVariants as kinds
+use Rattle.ledger_spec.specs.Maps.{ForHash, ForActor, hash_cmp, numbered_cmp, IsMap, insert_in}
+use Rattle.ledger_spec.specs.Bytes.{Half}
+use Rattle.ledger_spec.specs.Tree.{AreItems}
+use Rattle.ledger_machine.specs.State.{State, Acquisition, Session}
+use Rattle.ledger_machine.specs.Sound.{AreTables}
+
+-- what is greater the other way is less
+turned : {K : Type 0} {R : K → K → Ordering} → IsTotalOrder R → (k h : K) → R k h ≡ Greater → R h k ≡ Less
+turned o k h e = o.antisymm h k ∙ ap ordering_reverse e
+
+-- the keys behind one that is greater are greater
+all_behind : {K : Type 0} {R : K → K → Ordering} → IsTotalOrder R → (k h : K) (hs : List K) → R k h ≡ Less → AllByRecursion (λ y. R h y ≡ Less) hs → AllByRecursion (λ y. R k y ≡ Less) hs
+all_behind o k h [] less all = tt
+all_behind o k h (y ∷ hs) less all = (o.trans k h y less all.0, all_behind o k h hs less all.1)
+
+module _ {K X : Type 0} {R : K → K → Ordering} (o : IsTotalOrder R) where
+  -- each key after an entry was put is its key, or was one before
+  all_keys_inserted : (P : K → Type 0) (m : List (K × X)) (k : K) (x : X) → AllByRecursion P (keys_of m) → P k → AllByRecursion P (keys_of (insert_in R m k x))
+  all_keys_inserted P [] k x all own = (own, tt)
+  all_keys_inserted P (e ∷ m) k x all own = by (R k e.0) (all_keys_inserted P m k x all.1 own)
+    where
+      by : (r : Ordering) → AllByRecursion P (keys_of (insert_in R m k x)) → AllByRecursion P (keys_of (match_ordering r ((k, x) ∷ e ∷ m) ((e.0, x) ∷ m) (e ∷ insert_in R m k x)))
+      by Less rest = (own, all)
+      by Equal rest = all
+      by Greater rest = (all.0, rest)
+
+  pub insert_rises : (m : List (K × X)) (k : K) (x : X) → IsMap R m → IsMap R (insert_in R m k x)
+  unfolding IsStrictlySortedBy
+  insert_rises [] k x rises = (tt, tt)
+  insert_rises (e ∷ m) k x rises = by (R k e.0) refl (insert_rises m k x rises.1)
+    where
+      by : (r : Ordering) → R k e.0 ≡ r → IsMap R (insert_in R m k x) → IsMap R (match_ordering r ((k, x) ∷ e ∷ m) ((e.0, x) ∷ m) (e ∷ insert_in R m k x))
+      by Less is rest = ((is, all_behind o k e.0 (keys_of m) is rises.0), rises)
+      by Equal is rest = rises
+      by Greater is rest = (all_keys_inserted (λ y. R e.0 y ≡ Less) m k x rises.0 (turned o k e.0 is), rest)
+
+-- a table without entries
+pub none_rises : {K : Type 0} (R : K → K → Ordering) → IsStrictlySortedBy R []
+unfolding IsStrictlySortedBy
+none_rises R = tt
+
+-- the keys that are left were keys before
+all_keys_removed : {K X : Type 0} (P : K → Type 0) (test : K → Bool) (m : List (K × X)) → AllByRecursion P (keys_of m) → AllByRecursion P (keys_of (remove_entry test m))
+all_keys_removed P test [] all = tt
+all_keys_removed P test (e ∷ m) all = by (test e.0) (all_keys_removed P test m all.1)
+  where
+    by : (b : Bool) → AllByRecursion P (keys_of (remove_entry test m)) → AllByRecursion P (keys_of (cond b m (e ∷ remove_entry test m)))
+    by true rest = all.1
+    by false rest = (all.0, rest)
+
+pub remove_rises : {K X : Type 0} (R : K → K → Ordering) (test : K → Bool) (m : List (K × X)) → IsMap R m → IsMap R (remove_entry test m)
+unfolding IsStrictlySortedBy
+remove_rises R test [] rises = tt
+remove_rises R test (e ∷ m) rises = by (test e.0) (remove_rises R test m rises.1)
+  where
+    by : (b : Bool) → IsMap R (remove_entry test m) → IsMap R (cond b m (e ∷ remove_entry test m))
+    by true rest = rises.1
+    by false rest = (all_keys_removed (λ y. R e.0 y ≡ Less) test m rises.0, rest)
+
+pub set_rises : {K X : Type 0} (R : K → K → Ordering) (test : K → Bool) (m : List (K × X)) (x : X) → IsMap R m → IsMap R (set_value test m x)
+set_rises R test m x rises = subst (λ ks. IsStrictlySortedBy R ks) (sym (keys-set_value test m x)) rises
+
+same_some : {A : Type 0} {x y : A} → Some x ≡ Some y → x ≡ y
+same_some e = cc
+
+none_some : {A : Type 0} {x : A} → None ≡ Some x → ⊥
+none_some e = cc
+
+-- what is true of each value is true of one that is found
+pub all_found : {K X : Type 0} (P : X → Type 0) (test : K → Bool) (m : List (K × X)) (x : X) → All P (values_of m) → lookup test m ≡ Some x → P x
+all_found P test [] x all e = absurd (none_some e)
+all_found {K} {X} P test (e ∷ m) x all is = by (test e.0) (all_found P test m x (λ k d lt. all (suc k) d (omega arith))) is
+  where
+    by : (b : Bool) → (lookup test m ≡ Some x → P x) → cond b (Some e.1) (lookup test m) ≡ Some x → P x
+    by true rest same = subst P (same_some same) (all 0 e.1 (omega arith))
+    by false rest later = rest later
+
+-- the same tables
+pub same_tables : (half : Half) (s s' : State) → s'.listed ≡ s.listed → s'.wanted ≡ s.wanted → s'.views ≡ s.views → s'.sessions ≡ s.sessions → AreTables half s → AreTables half s'
+same_tables half s s' listed wanted views sessions t = record {
+  listed = subst (λ m. IsMap hash_cmp m) (sym listed) t.listed;
+  wanted = subst (λ m. IsMap hash_cmp m) (sym wanted) t.wanted;
+  charges = subst (λ (m : ForHash Acquisition). All (λ a. IsMap nat_cmp a.charges) (values_of m)) (sym wanted) t.charges;
+  views = subst (λ m. IsMap numbered_cmp m) (sym views) t.views;
+  sessions = subst (λ m. IsMap numbered_cmp m) (sym sessions) t.sessions;
+  edits = subst (λ (m : ForActor Session). All (λ e. AreItems half kinds.State e.accounts × AreItems half kinds.Tx e.txs) (values_of m)) (sym sessions) t.edits;
+}

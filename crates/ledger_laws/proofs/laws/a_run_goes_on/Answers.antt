@@ -1,0 +1,5 @@
+use Rattle.ledger_laws.proofs.RunLaws.{run_more}
+use Rattle.ledger_laws.proofs.laws.a_run_goes_on.Goals as goal
+
+pub returns : goal.returns
+returns c = run_more

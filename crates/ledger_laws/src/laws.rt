@@ -1,0 +1,82 @@
+//! Laws of the machine, each the contract of an empty function.
+ghost use Rattle.std.specs.Prelude.{◌≡◌, ◌≢◌, ◌↔◌, ◌++◌, ◌∷◌, [], ℕ, List, Some};
+ghost use Rattle.std.specs.List.{Contains};
+ghost use Rattle.std.specs.FinMap as map;
+ghost use Rattle.ledger_spec.specs.Bytes.{Nodes, IsHalf};
+ghost use Rattle.ledger_spec.specs.Forms.{Held};
+ghost use Rattle.ledger_spec.specs.Maps.{hash_cmp, get_in};
+ghost use Rattle.ledger_machine.specs.State.{State, form_in, opening, retained};
+ghost use Rattle.ledger_machine.specs.Sound.{Sound, IsStoredAt};
+ghost use Rattle.ledger_machine.specs.Scripts.{IsAcquiring, IsInRange};
+ghost use Rattle.ledger_machine.specs.Steps.{Step};
+ghost use Rattle.ledger_machine.specs.Runs.{Run, Answers, IsRunOf};
+ghost use Rattle.ledger_machine.specs.Receipts.{AllStay};
+ghost use Rattle.ledger_machine.specs.Complete.{IsAllStored, IsExact, AreExact};
+ghost use Rattle.ledger_machine.specs.Collisions.{offered_in, Collides, IsClash};
+ghost use Rattle.ledger_machine.specs.declared.commands.Command.{Command};
+ghost use Rattle.ledger_machine.specs.declared.commands.Line.{Line};
+ghost use Rattle.ledger_machine.specs.declared.journal.Entry.{Entry};
+ghost use Rattle.ledger_machine.specs.declared.replies.CheckReply.{CheckReply};
+ghost use Rattle.ledger_machine.specs.declared.replies.Reply.{Reply};
+
+/// A store that has only records, each a form under its own hash, is sound.
+pub fn the_opening_is_sound()
+    ensures { (half : List ℕ → List ℕ) (records : Nodes) (interval : ℕ)
+        → ((h form : List ℕ) → map.get records h ≡ Some form → IsStoredAt half h form)
+        → Sound half (opening records interval) }
+{}
+
+/// A run goes on by one step.
+pub fn a_run_goes_on()
+    ensures { (half : List ℕ → List ℕ) (lines : List Line) (s mid s' : State) (entries : List Entry) (e : Entry)
+        → Run half lines s entries mid → Answers half lines mid e s' → Run half lines s (entries ++ e ∷ []) s' }
+{}
+
+/// Each step of a command that acquires a ledger leads from a sound state to a sound state.
+pub fn steps_keep_the_store_sound()
+    ensures { (half : List ℕ → List ℕ) → IsHalf half → (s s' : State) (a : ℕ) (c : Command) (reply : Reply) (used : List Held)
+        → IsAcquiring c → IsInRange c → Sound half s → Step half s a c reply used s' → Sound half s' }
+{}
+
+/// So does each run along a journal, where the script's lines are such commands.
+pub fn a_run_keeps_the_store_sound()
+    ensures { (half : List ℕ → List ℕ) → IsHalf half → (lines : List Line) (s : State) (entries : List Entry) (s' : State)
+        → ((l : Line) → Contains lines l → IsAcquiring l.command × IsInRange l.command)
+        → Sound half s → Run half lines s entries s' → Sound half s' }
+{}
+
+/// What an answer of a run says was received for a target is stored under its own hash from then on, and
+/// reached from what is retained or open, in each state up to which the target was one of these throughout.
+pub fn what_was_received_stays()
+    ensures { (half : List ℕ → List ℕ) (lines : List Line) → ((l : Line) → Contains lines l → IsAcquiring l.command)
+        → (s : State) (entries : List Entry) (s' : State) (run : Run half lines s entries s') → AllStay half lines s entries s' run }
+{}
+
+/// A check of an open acquisition that meets no fault and has memory answers complete exactly where
+/// each node that the target reaches is stored and the ledger is acceptable: of the asked sequence
+/// or any was asked for, with a state map, not below the floor, and with no rule of shape broken.
+pub fn a_check_is_complete_exactly_where_the_ledger_is()
+    ensures { (half : List ℕ → List ℕ) (s s' : State) (a : ℕ) (c : Command) (reply : Reply) (used : List Held)
+        → Step half s a c reply used s' → IsExact half s c reply }
+{}
+
+/// So does each check of a run.
+pub fn the_checks_of_a_run_are_exact()
+    ensures { (half : List ℕ → List ℕ) (lines : List Line) (s : State) (entries : List Entry) (s' : State)
+        → (run : Run half lines s entries s') → AreExact half lines s entries s' run }
+{}
+
+/// In a sound state nothing that a retained ledger reaches is absent.
+pub fn nothing_of_a_retained_ledger_is_absent()
+    ensures { (half : List ℕ → List ℕ) (s : State) (t : List ℕ)
+        → Sound half s → Contains (retained s) t → IsAllStored (form_in s) t }
+{}
+
+/// Over a store that was empty at first a clash shows two different forms that the script offers,
+/// with one hash. So without such forms no entry is a clash.
+pub fn a_clash_shows_two_forms_with_one_hash()
+    ensures { (half : List ℕ → List ℕ) (lines : List Line) (interval : ℕ) (entries : List Entry) (s' : State) (e : Entry)
+        → ((l : Line) → Contains lines l → IsAcquiring l.command)
+        → IsRunOf half lines interval entries s'
+        → Contains entries e → IsClash e.reply → Collides half (offered_in half lines) }
+{}

@@ -1,5 +1,0 @@
-use Rattle.ledger_machine.proofs.Completeness.{step_exact}
-use Rattle.ledger_machine.proofs.laws.a_check_is_complete_exactly_where_the_ledger_is.Goals as goal
-
-pub returns : goal.returns
-returns c = step_exact

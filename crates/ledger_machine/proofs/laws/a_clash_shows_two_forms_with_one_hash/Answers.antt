@@ -1,5 +1,0 @@
-use Rattle.ledger_machine.proofs.Collisions.{clash_collides}
-use Rattle.ledger_machine.proofs.laws.a_clash_shows_two_forms_with_one_hash.Goals as goal
-
-pub returns : goal.returns
-returns c = clash_collides

@@ -1,5 +1,0 @@
-use Rattle.ledger_machine.proofs.RunLaws.{run_more}
-use Rattle.ledger_machine.proofs.laws.a_run_goes_on.Goals as goal
-
-pub returns : goal.returns
-returns c = run_more

@@ -1,5 +1,0 @@
-use Rattle.node_offer.proofs.States.{after_node_is}
-use Rattle.node_offer.proofs.node.offer.Goals as goal
-
-pub returns-clause-after : goal.returns-clause-after
-returns-clause-after g c = λ s same born. after_node_is g.H.NodeHash.half s c.args.nodes.now c.judge.new.nodes c.args.target.now c.args.kind c.args.id.now c.args.blob.now c.judge.result same born c.judge.ensures.outcome c.judge.ensures.kept

@@ -1,0 +1,6 @@
+use Rattle.std.proofs.Common.{arith}
+use Rattle.std.proofs.lemmas.List.{length-take-le}
+use Rattle.node_wire.proofs.chunks.take_chunk.Goals as goal
+
+pub slice_bounds-hash_from-end : goal.slice_bounds-hash_from-end
+slice_bounds-hash_from-end c = omega (arith, length-take-le 32 c.args.chunk.now (omega (arith, c.requires)))

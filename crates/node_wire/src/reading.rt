@@ -1,0 +1,164 @@
+//! Wire forms, read: the type byte, which is the last one, tells how the others are taken.
+ghost use Rattle.std.specs.Prelude.{◌≡◌, ◌≢◌, ◌++◌, length, List, ℕ, IfErr, IfOk, MatchResult, Ok, Err};
+ghost use Rattle.ledger_spec.specs.Forms.{Held, inner_prefix, leaf_form};
+ghost use Rattle.ledger_spec.specs.Bytes.{zero_hash};
+ghost use Rattle.ledger_spec.specs.Wire.{Wire, read_wire, read_typed, read_offered, is_read, full};
+ghost use Rattle.ledger_spec.specs.Wire.{checked_leaf, keyed_leaf as keyed_leaf_of};
+ghost use Rattle.shamap_node.specs.Nodes.{held, held_leaf};
+ghost use Rattle.node_wire.specs.Faults.{code, Tells, TellsData, TellsFront, TellsKeyed};
+ghost use Rattle.node_wire.specs.declared.fault.WireFault.TheVariants as faults;
+
+use crate::WireFault;
+use crate::chunks::compressed_inner;
+use half_hash::{Blob, Hash32, NodeHash, Prefix, known_half};
+use shamap_node::{DATA_LIMIT, Inner, Item, Kind, Leaf, Node, inner_of};
+use std::alloc::Global;
+
+/// The node of a wire form, or the first cause for which the bytes are none: that there are none; their type; then a full inner
+/// node's length, or the length of chunks and chunk by chunk a position of 16 or more, a position that an earlier chunk had and a
+/// zero hash; that an inner node has a branch; or a leaf's length, that its data is not too long, and that its key is not zero.
+pub fn decode_wire<H: NodeHash>(alloc: Global, bytes: &[u8]) -> Result<Node, WireFault>
+    ensures node { IfOk result (λ n. read_wire H.half bytes.now ≡ Ok (held n)) }
+    ensures cause { IfErr result (λ f. f ≢ faults.Memory → read_wire H.half bytes.now ≡ Err (code f)) }
+
+    // what the cause tells of the bytes
+    ensures tells { IfErr result (Tells bytes.now) }
+
+    // a node's wire form is read as that node, if there is memory
+    ensures form { IfOk result (λ n. Wire H.half (held n) bytes.now) }
+    ensures back { (n : Held) → Wire H.half n bytes.now → MatchResult result (λ node. held node ≡ n) (λ f. f ≡ faults.Memory) }
+{
+    known_half::<H>();
+    read_bytes::<H>(alloc, bytes)
+}
+
+/// The same of what a peer offers, of which account states and full inner nodes alone are read at present: each other type byte is
+/// refused as an unknown one.
+pub fn decode_offered<H: NodeHash>(alloc: Global, bytes: &[u8]) -> Result<Node, WireFault>
+    ensures node { IfOk result (λ n. read_offered H.half bytes.now ≡ Ok (held n)) }
+    ensures cause { IfErr result (λ f. f ≢ faults.Memory → read_offered H.half bytes.now ≡ Err (code f)) }
+    ensures tells { IfErr result (Tells bytes.now) }
+{
+    if let Some(last) = bytes.last() {
+        if !is_offered(*last) {
+            return Err(WireFault::TypeByte(*last));
+        }
+    }
+    Ok(decode_wire::<H>(alloc, bytes)?)
+}
+
+// Whether offered nodes of this type are read.
+fn is_offered(type_byte: u8) -> bool
+    ensures { result ≡ is_read type_byte }
+{
+    type_byte == 1 || type_byte == 2
+}
+
+// The same as `decode_wire`.
+fn read_bytes<H: NodeHash>(alloc: Global, bytes: &[u8]) -> Result<Node, WireFault>
+    ensures node { IfOk result (λ n. read_wire H.half bytes.now ≡ Ok (held n)) }
+    ensures cause { IfErr result (λ f. f ≢ faults.Memory → read_wire H.half bytes.now ≡ Err (code f)) }
+    ensures tells { IfErr result (Tells bytes.now) }
+{
+    if bytes.is_empty() {
+        return Err(WireFault::Empty);
+    }
+    let (front, last) = bytes.split_at(bytes.len() - 1);
+    Ok(typed_node::<H>(alloc, front, last[0])?)
+}
+
+// The node of what stands before the type byte.
+fn typed_node<H: NodeHash>(alloc: Global, front: &[u8], type_byte: u8) -> Result<Node, WireFault>
+    ensures node { IfOk result (λ n. read_typed H.half front.now type_byte ≡ Ok (held n)) }
+    ensures cause { IfErr result (λ f. f ≢ faults.Memory → read_typed H.half front.now type_byte ≡ Err (code f)) }
+    ensures tells { IfErr result (TellsFront type_byte front.now) }
+{
+    match type_byte {
+        0 => Ok(Node::Leaf(bare_leaf::<H>(alloc, front)?)),
+        1 => Ok(Node::Leaf(keyed_leaf(alloc, Kind::State, front)?)),
+        2 => Ok(Node::Inner(full_inner(front)?)),
+        3 => Ok(Node::Inner(compressed_inner(front)?)),
+        4 => Ok(Node::Leaf(keyed_leaf(alloc, Kind::Tx, front)?)),
+        other => Err(WireFault::TypeByte(other)),
+    }
+}
+
+// The inner node of sixteen hashes.
+fn full_inner(front: &[u8]) -> Result<Inner, WireFault>
+    ensures inner { IfOk result (λ inner. full front.now ≡ Ok (held (Node.Inner inner))) }
+    ensures cause { IfErr result (λ f. (full front.now ≡ Err (code f)) × (f ≢ faults.Memory)) }
+    ensures tells { IfErr result (TellsFront 2 front.now) }
+{
+    if front.len() != 512 {
+        return Err(WireFault::FullLength(front.len()));
+    }
+    match inner_of(&inner_form(front)) {
+        Some(inner) => Ok(inner),
+        None => Err(WireFault::EmptyInner),
+    }
+}
+
+// The form of an inner node.
+fn inner_form(hashes: &[u8]) -> [u8; 516]
+    requires { length hashes.now ≡ 512 }
+    ensures { result ≡ inner_prefix ++ hashes.now }
+{
+    let mut form = [0; 516];
+    form[..4].copy_from_slice(&Prefix::Min.bytes());
+    form[4..].copy_from_slice(hashes);
+    form
+}
+
+// The leaf of a bare transaction: its key is its hash.
+fn bare_leaf<H: NodeHash>(alloc: Global, front: &[u8]) -> Result<Leaf, WireFault>
+    ensures leaf { IfOk result (λ leaf.
+        checked_leaf Kind.Set (H.half (leaf_form Kind.Set zero_hash front.now)) front.now ≡ Ok (held_leaf leaf)) }
+    ensures cause { IfErr result (λ f. f ≢ faults.Memory →
+        checked_leaf Kind.Set (H.half (leaf_form Kind.Set zero_hash front.now)) front.now ≡ Err (code f)) }
+    ensures tells { IfErr result (TellsData (length front.now)) }
+{
+    let key = H::half_parts(&Prefix::Txn.bytes(), front, &[]);
+    Ok(leaf_from(alloc, Kind::Set, key, front)?)
+}
+
+// The leaf of data and then a key.
+fn keyed_leaf(alloc: Global, kind: Kind, front: &[u8]) -> Result<Leaf, WireFault>
+    ensures leaf { IfOk result (λ leaf. keyed_leaf_of kind front.now ≡ Ok (held_leaf leaf)) }
+    ensures cause { IfErr result (λ f. f ≢ faults.Memory → keyed_leaf_of kind front.now ≡ Err (code f)) }
+    ensures tells { IfErr result (TellsKeyed (length front.now)) }
+{
+    if front.len() < 32 {
+        return Err(WireFault::LeafShort(front.len()));
+    }
+    let (data, key) = front.split_at(front.len() - 32);
+    Ok(leaf_from(alloc, kind, hash_from(key), data)?)
+}
+
+// The leaf of a key and data, or why they are none.
+fn leaf_from(alloc: Global, kind: Kind, key: Hash32, bytes: &[u8]) -> Result<Leaf, WireFault>
+    ensures leaf { IfOk result (λ leaf. checked_leaf kind key bytes.now ≡ Ok (held_leaf leaf)) }
+    ensures cause { IfErr result (λ f. f ≢ faults.Memory → checked_leaf kind key bytes.now ≡ Err (code f)) }
+    ensures tells { IfErr result (TellsData (length bytes.now)) }
+{
+    if bytes.len() > DATA_LIMIT {
+        return Err(WireFault::TooLong(bytes.len()));
+    }
+    if key.is_zero() {
+        return Err(WireFault::ZeroKey);
+    }
+    let value = Blob::from_slice(alloc, bytes)?;
+    match Item::new(key, value) {
+        Ok(item) => Ok(Leaf { kind, item }),
+        Err(_) => unreachable!(),
+    }
+}
+
+// The hash of 32 bytes.
+pub(crate) fn hash_from(piece: &[u8]) -> Hash32
+    requires { length piece.now ≡ 32 }
+    ensures { result ≡ piece.now }
+{
+    let mut bytes = [0; 32];
+    bytes.copy_from_slice(piece);
+    Hash32 { bytes }
+}

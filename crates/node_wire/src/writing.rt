@@ -1,0 +1,96 @@
+//! Wire forms, written. An inner node is written compressed where fewer than twelve of its branches aren't empty, else in full; this
+//! threshold is the project's own.
+ghost use Rattle.std.specs.Prelude.{◌≡◌, ◌++◌, ◌∷◌, [], IfOk, OnOk};
+ghost use Rattle.std.specs.List.{concat, flat_map, filter};
+ghost use Rattle.ledger_spec.specs.Bytes.{is_nonzero};
+ghost use Rattle.ledger_spec.specs.Wire.{wire_of, chunk_bytes, chunks_of};
+ghost use Rattle.shamap_node.specs.Nodes.{held, held_leaf};
+
+use half_hash::{Blob, Hash32, Memory};
+use shamap_node::{Inner, Kind, Leaf, Node};
+use std::alloc::Global;
+
+/// The fewest branches that aren't empty of an inner node that is written in full.
+const FULL_FROM: u8 = 12;
+
+/// The wire form of a node: data, and the key behind it unless it is a bare transaction, of a leaf; the chunks of an inner node
+/// with fewer than twelve branches that aren't empty, positions rising, or else its sixteen hashes; and last the type byte.
+pub fn encode_wire(alloc: Global, node: &Node) -> Result<Blob, Memory>
+    ensures { IfOk result (λ blob. blob ≡ wire_of (held node.now)) }
+{
+    match node {
+        Node::Leaf(leaf) => Ok(leaf_wire(alloc, leaf)?),
+        Node::Inner(inner) => Ok(inner_wire(alloc, inner)?),
+    }
+}
+
+// The wire form of a leaf.
+fn leaf_wire(alloc: Global, leaf: &Leaf) -> Result<Blob, Memory>
+    ensures { IfOk result (λ blob. blob ≡ wire_of (held_leaf leaf.now)) }
+{
+    let data = leaf.item.data();
+    let key = &leaf.item.key().bytes;
+    match leaf.kind {
+        Kind::Set => Ok(joined(alloc, data, &[], 0)?),
+        Kind::State => Ok(joined(alloc, data, key, 1)?),
+        Kind::Tx => Ok(joined(alloc, data, key, 4)?),
+    }
+}
+
+// Data, a key or none, and the type byte.
+fn joined(alloc: Global, front: &[u8], key: &[u8], type_byte: u8) -> Result<Blob, Memory>
+    ensures { IfOk result (λ blob. blob ≡ front.now ++ key.now ++ type_byte ∷ []) }
+{
+    let mut bytes = Vec::from_slice(alloc, front)?;
+    bytes.extend_from_slice(key)?;
+    bytes.push(type_byte)?;
+    Ok(Blob::new(bytes))
+}
+
+// The wire form of an inner node.
+fn inner_wire(alloc: Global, inner: &Inner) -> Result<Blob, Memory>
+    ensures { IfOk result (λ blob. blob ≡ wire_of (held (Node.Inner inner.now))) }
+{
+    if inner.count() < FULL_FROM {
+        Ok(compressed(alloc, inner)?)
+    } else {
+        Ok(full(alloc, inner)?)
+    }
+}
+
+// The chunks of the branches that aren't empty.
+fn compressed(alloc: Global, inner: &Inner) -> Result<Blob, Memory>
+    ensures { IfOk result (λ blob. blob ≡ flat_map chunk_bytes (chunks_of inner.now.hashes) ++ 3 ∷ []) }
+{
+    let mut bytes = Vec::new(alloc);
+    for b in 0..16u8 {
+        add_chunk(&mut bytes, &inner.branch(b), b)?;
+    }
+    bytes.push(3)?;
+    Ok(Blob::new(bytes))
+}
+
+// Adds a branch, unless it is empty.
+fn add_chunk(bytes: &mut Vec<u8>, hash: &Hash32, position: u8) -> Result<(), Memory>
+    ensures { OnOk result (bytes.new.items ≡ bytes.old.items
+        ++ flat_map chunk_bytes (filter (λ c. is_nonzero c.hash) (record { hash = hash.now; position = position } ∷ []))) }
+{
+    if hash.is_zero() {
+        return Ok(());
+    }
+    bytes.extend_from_slice(&hash.bytes)?;
+    bytes.push(position)?;
+    Ok(())
+}
+
+// The sixteen hashes.
+fn full(alloc: Global, inner: &Inner) -> Result<Blob, Memory>
+    ensures { IfOk result (λ blob. blob ≡ concat inner.now.hashes ++ 2 ∷ []) }
+{
+    let mut bytes = Vec::new(alloc);
+    for b in 0..16u8 {
+        bytes.extend_from_slice(&inner.branch(b).bytes)?;
+    }
+    bytes.push(2)?;
+    Ok(Blob::new(bytes))
+}

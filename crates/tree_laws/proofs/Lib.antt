@@ -1,0 +1,11 @@
+pub mod Trees
+pub mod Shapes
+pub mod Orders
+pub mod Sights
+pub mod ByteItems
+pub mod Standing
+pub mod PathLaw
+pub mod WholeLaw
+pub mod PageLaw
+pub mod MapPages
+pub mod StorePages

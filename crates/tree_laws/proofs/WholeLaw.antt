@@ -1,0 +1,463 @@
+-- A whole tree commits to its items.
+use Rattle.std.proofs.Common.{◌≡◌, ◌≢◌, ◌⊎◌, inl, inr, ⊎_elim, ◌≤◌, ◌<◌, ◌+◌, ◌-◌, ◌*◌, ◌==◌, ◌&&◌, not, ℕ, zero, suc, Bool, true, false}
+use Rattle.std.proofs.Common.{if◌then◌else◌, List, [], ◌∷◌, ◌++◌, length, take, drop, get_or, map, nat_le, cond, IsTrue, Option, None}
+use Rattle.std.proofs.Common.{Some, refl, sym, ap, ◌∙◌, subst, arith, length-append, length-drop, lit≤, filter_map, flat_map}
+use Rattle.std.proofs.lemmas.Bool.{cond-true, cond-false, eqb-true, eqb-false, eq-eqb, ne_eqb, leb-true, le-leb, and_parts, and_from}
+use Rattle.std.proofs.lemmas.Bool.{not-true, cases_Bool, cases_eq, false≢true}
+use Rattle.std.proofs.lemmas.List.{append-nil, get_or_past, take-take, same_from_push, same_lists, length-map, length-take-le}
+use Rattle.std.proofs.lemmas.List.Elements.{filter-append, filter_map-append, All-from_recursion, All-get_or}
+use Rattle.std.proofs.lemmas.List.FromFn.{get_or-range_with_len, length-range_with_len, get_or-map-range_with_len}
+use Rattle.std.proofs.lemmas.List.Sums.{length-filter}
+use Rattle.std.proofs.Math.Seq.{take-append_seam}
+use Rattle.std.specs.Option.{option_and_then}
+use Rattle.std.specs.List.{concat, list_any, list_all, slice_index_or, filter, count_by, range_with_len, AllByRecursion}
+use Rattle.std.specs.List.Sorted.{IsStrictlySortedBy}
+use Rattle.nib_path.specs.Paths.{nibbles, lies_under}
+use Rattle.ledger_spec.specs.declared.Kind.{Kind}
+use Rattle.ledger_spec.specs.declared.Kind.TheVariants.{State, Tx}
+use Rattle.ledger_spec.specs.declared.Place.TheVariants.{Header, Node}
+use Rattle.ledger_spec.specs.declared.ShapeFault.{ShapeFault}
+use Rattle.ledger_spec.specs.declared.ShapeFault.TheVariants.{Foreign}
+use Rattle.ledger_spec.specs.Maps.{hash_cmp, IsMap}
+use Rattle.ledger_spec.specs.Bytes.{Bytes, Hash, Half, Lookup, Items, zero_hash, is_zero, is_nonzero, branches, IsHalf}
+use Rattle.ledger_spec.specs.Forms.{Held, inner, leaf, header, Form, IsHeld, inner_prefix, leaf_form, hash_or_zero, header_of}
+use Rattle.ledger_spec.specs.Rules.{fault_of, is_lone}
+use Rattle.ledger_spec.specs.Findings.{Sight, missing, broken, sound, Met, sight_of, judged, seen_as, held_of, branches_of, walk}
+use Rattle.ledger_spec.specs.Findings.{walk_map, walk_ledger, header_or_foreign, header_sight, maps_of, item_at, items_of, Whole}
+use Rattle.ledger_spec.specs.Tree.{Entry, part, form_of_part, form_at}
+use Rattle.ledger_spec.specs.Header.{state_root_of, tx_root_of}
+use Rattle.ledger_spec.specs.Spots.{header_in}
+use Rattle.ledger_spec.specs.Commits.{AreOwn, AreByteForms, IsWholeMap, Commits}
+use Rattle.ledger_spec.proofs.Readings.{holds, holds_header}
+use Rattle.ledger_spec.proofs.Growth.{found, met, no_cons, both_nil}
+use Rattle.tree_laws.proofs.Trees.{Sized, under_begins, under_from, kid_hash, concat_map}
+use Rattle.tree_laws.proofs.Sights.{Sees, sees_sound}
+use Rattle.tree_laws.proofs.ByteItems.{byte_items}
+use Rattle.tree_laws.proofs.Shapes.{zero_is, KeepsLeaf, keeps_leaf, above_bottom}
+use Rattle.tree_laws.proofs.Orders.{all_append, all_weaker, map_branches}
+
+-- a list under a test that lets all through, or nothing
+pub filter_all : (test : Entry → Bool) (xs : Items) → AllByRecursion (λ e. test e ≡ true) xs → filter test xs ≡ xs
+filter_all test [] all = refl
+filter_all test (x ∷ xs) all = cond-true (test x) _ _ all.0 ∙ ap (λ l. x ∷ l) (filter_all test xs all.1)
+
+pub filter_none : (test : Entry → Bool) (xs : Items) → AllByRecursion (λ e. test e ≡ false) xs → filter test xs ≡ []
+filter_none test [] all = refl
+filter_none test (x ∷ xs) all = cond-false (test x) _ _ all.0 ∙ filter_none test xs all.1
+
+-- two tests in a row, the second narrower
+pub filter_twice : (wide narrow : Entry → Bool) → ((e : Entry) → narrow e ≡ true → wide e ≡ true) → (xs : Items) → filter narrow (filter wide xs) ≡ filter narrow xs
+filter_twice wide narrow within [] = refl
+filter_twice wide narrow within (x ∷ xs) = by_test (wide x) (narrow x) refl refl (filter_twice wide narrow within xs)
+  where
+    by_test : (w n : Bool) → wide x ≡ w → narrow x ≡ n → filter narrow (filter wide xs) ≡ filter narrow xs → filter narrow (cond w (x ∷ filter wide xs) (filter wide xs)) ≡ cond n (x ∷ filter narrow xs) (filter narrow xs)
+    by_test true true is_w is_n rest = cond-true (narrow x) _ _ is_n ∙ ap (λ l. x ∷ l) rest
+    by_test true false is_w is_n rest = cond-false (narrow x) _ _ is_n ∙ rest
+    by_test false true is_w is_n rest = absurd (false≢true (sym is_w ∙ within x is_n))
+    by_test false false is_w is_n rest = rest
+
+-- what lies under a branch lies under the path, and under no other branch
+pub under_up : (path : List ℕ) (b : ℕ) (k : Hash) → lies_under (path ++ b ∷ []) k ≡ true → lies_under path k ≡ true
+under_up path b k under =
+    let front : path ≡ take (length path) (nibbles k) =
+    sym (take-append_seam path (b ∷ [])) ∙ ap (take (length path)) (under_begins (path ++ b ∷ []) k under)
+    ∙ take-take (length path) (length (path ++ b ∷ [])) (nibbles k) (omega (arith, length-append path (b ∷ [])))
+    in
+    under_from path k front
+
+pub under_other : (path : List ℕ) (b c : ℕ) (k : Hash) → (b ≡ c → ⊥) → lies_under (path ++ b ∷ []) k ≡ true → lies_under (path ++ c ∷ []) k ≡ false
+under_other path b c k differ under = by_test (lies_under (path ++ c ∷ []) k) refl
+  where
+    by_test : (t : Bool) → lies_under (path ++ c ∷ []) k ≡ t → lies_under (path ++ c ∷ []) k ≡ false
+    by_test false is = is
+    by_test true is =
+        let sizes : length (path ++ b ∷ []) ≡ length (path ++ c ∷ []) = omega (arith, length-append path (b ∷ []), length-append path (c ∷ [])) in
+        let one : path ++ b ∷ [] ≡ path ++ c ∷ [] = under_begins (path ++ b ∷ []) k under ∙ ap (λ n. take n (nibbles k)) sizes ∙ sym (under_begins (path ++ c ∷ []) k is) in
+        let same : b ≡ c = (same_from_push path path b c one).1 in
+        absurd (differ same)
+
+-- nothing is found in a join where nothing is found in each part
+pub clean_each : {A B F : Type 0} (find : B → Option F) (f : A → List B) (xs : List A) → filter_map find (flat_map f xs) ≡ [] → AllByRecursion (λ x. filter_map find (f x) ≡ []) xs
+clean_each find f [] clean = tt
+clean_each find f (x ∷ xs) clean =
+    let both : (filter_map find (f x) ≡ []) × (filter_map find (flat_map f xs) ≡ []) = both_nil _ _ (sym (filter_map-append find (f x) (flat_map f xs)) ∙ clean) in
+    (both.0, clean_each find f xs both.1)
+
+pub found_join : {A B F : Type 0} (find : B → Option F) (f : A → List B) (xs : List A) → filter_map find (flat_map f xs) ≡ flat_map (λ x. filter_map find (f x)) xs
+found_join find f [] = refl
+found_join find f (x ∷ xs) = filter_map-append find (f x) (flat_map f xs) ∙ ap (λ l. filter_map find (f x) ++ l) (found_join find f xs)
+
+-- what is true of each branch
+pub at_branch : (P : ℕ → Type 0) → AllByRecursion P branches → (b : ℕ) → b < 16 → P b
+at_branch P all b below =
+    let is : get_or branches b 0 ≡ b = get_or-range_with_len 0 16 b 0 below ∙ Rattle.std.proofs.Common.zero-add b in
+    subst P is (All-get_or P branches b 0 (omega (arith, length-range_with_len 0 16)) (All-from_recursion P branches all))
+
+-- a branch's hash has 32 bytes, also past the end
+pub size_at : (hashes : List Hash) (b : ℕ) → IsTrue (list_all (λ h. length h == 32) hashes) → length (slice_index_or hashes b zero_hash) ≡ 32
+size_at [] b sizes = refl
+size_at (h ∷ hashes) zero sizes = eqb-true (length h) 32 (and_parts (length h == 32) (list_all (λ h. length h == 32) hashes) sizes).0
+size_at (h ∷ hashes) (suc b) sizes = size_at hashes b (and_parts (length h == 32) (list_all (λ h. length h == 32) hashes) sizes).1
+
+-- sixteen hashes are those at the branches
+pub hashes_at_branches : (hashes : List Hash) → length hashes ≡ 16 → hashes ≡ map (λ b. slice_index_or hashes b zero_hash) branches
+hashes_at_branches hashes count =
+    same_lists hashes (map (λ b. slice_index_or hashes b zero_hash) branches) (count ∙ sym (length-map branches (λ b. slice_index_or hashes b zero_hash) ∙ length-range_with_len 0 16))
+    (λ k d below.
+    let same : get_or hashes k d ≡ get_or hashes k zero_hash = Rattle.std.proofs.lemmas.List.get_or_default hashes k d zero_hash below in
+    same ∙ sym (get_or-map-range_with_len (λ b. slice_index_or hashes b zero_hash) 0 16 k k d (omega arith) (omega arith)))
+
+-- the entries of the maps under the branches that lie under one of them
+module _ (path : List ℕ) (b : ℕ) (g : ℕ → Items) (under : (c : ℕ) → AllByRecursion (λ (e : Entry). lies_under (path ++ c ∷ []) e.0 ≡ true) (g c)) where
+  abbrev under_b : Entry → Bool
+  under_b e = lies_under (path ++ b ∷ []) e.0
+
+  others_skipped : (c : ℕ) → (c ≡ b → ⊥) → filter under_b (g c) ≡ []
+  others_skipped c differ = filter_none under_b (g c) (all_weaker (λ (e : Entry). lies_under (path ++ c ∷ []) e.0 ≡ true) (λ e. under_b e ≡ false) (λ e u. under_other path c b e.0 differ u) (g c) (under c))
+
+  skip_range : (a n : ℕ) → (b < a) ⊎ (a + n ≤ b) → filter under_b (flat_map g (range_with_len a n)) ≡ []
+  skip_range a zero away = refl
+  skip_range a (suc n) away =
+      let differ : a ≡ b → ⊥ = λ e. ⊎_elim (λ l. omega arith) (λ l. omega arith) away in
+      filter-append under_b (g a) (flat_map g (range_with_len (a + 1) n)) ∙ ap (λ l. l ++ filter under_b (flat_map g (range_with_len (a + 1) n))) (others_skipped a differ)
+      ∙ skip_range (a + 1) n (⊎_elim (λ l. inl (omega arith)) (λ l. inr (omega arith)) away)
+
+  pick_range : (a n : ℕ) → a ≤ b → b < a + n → filter under_b (flat_map g (range_with_len a n)) ≡ g b
+  pick_range a zero from upto = absurd (omega arith)
+  pick_range a (suc n) from upto =
+      filter-append under_b (g a) (flat_map g (range_with_len (a + 1) n))
+      ∙ ⊎_elim
+      (λ (same : a ≡ b).
+      ap (λ l. filter under_b (g a) ++ l) (skip_range (a + 1) n (inl (omega arith))) ∙ append-nil (filter under_b (g a)) ∙ ap (λ c. filter under_b (g c)) same ∙ filter_all under_b (g b) (under b))
+      (λ (differ : a ≡ b → ⊥).
+      ap (λ l. l ++ filter under_b (flat_map g (range_with_len (a + 1) n))) (others_skipped a differ) ∙ pick_range (a + 1) n (omega arith) (omega arith))
+      (cases_eq a b)
+
+  pub pick : (16 ≤ b → g b ≡ []) → filter under_b (flat_map g branches) ≡ g b
+  pick past = ⊎_elim (λ (below : b < 16). pick_range 0 16 (omega arith) (omega arith)) (λ (above : 16 ≤ b). skip_range 0 16 (inr (omega arith)) ∙ sym (past above)) (Rattle.std.proofs.lemmas.Bool.cases_lt b 16)
+
+-- each branch that isn't empty has some entries
+pub enough_below : (k : ℕ) (hash : ℕ → Hash) (g : ℕ → Items) → ((b : ℕ) → is_zero (hash b) ≡ false → k ≤ length (g b)) → (xs : List ℕ)
+    → k * length (filter is_nonzero (map hash xs)) ≤ length (flat_map g xs)
+enough_below k hash g each [] = omega arith
+enough_below k hash g each (x ∷ xs) = by_test (is_zero (hash x)) refl (enough_below k hash g each xs)
+  where
+    by_test : (t : Bool) → is_zero (hash x) ≡ t → k * length (filter is_nonzero (map hash xs)) ≤ length (flat_map g xs)
+        → k * length (cond (not t) (hash x ∷ filter is_nonzero (map hash xs)) (filter is_nonzero (map hash xs))) ≤ length (g x ++ flat_map g xs)
+    by_test true is rest = omega (arith, length-append (g x) (flat_map g xs), rest)
+    by_test false is rest =
+        let more : k ≤ length (g x) = each x is in
+        let times : k * suc (length (filter is_nonzero (map hash xs))) ≡ k + k * length (filter is_nonzero (map hash xs)) = Rattle.std.proofs.Common.mul-suc k (length (filter is_nonzero (map hash xs))) ∙ Rattle.std.proofs.Common.add_comm _ _ in
+        omega (arith, length-append (g x) (flat_map g xs), rest, more, times)
+
+-- how many entries a place has at least that isn't empty: two where a leaf would stand alone
+abbrev pub weight : Option (List Hash) → List ℕ → ℕ
+weight parent path = if is_lone parent path then 2 else 1
+
+weight_most : (t : Bool) → (if t then 2 else 1) ≤ 2
+weight_most true = omega arith
+weight_most false = omega arith
+
+five_tests : (a b c d : Bool) (w r e l : ShapeFault) → (if a then Some w else if b then Some r else if c then Some e else if d then Some l else None) ≡ None → d ≡ false
+five_tests true b c d w r e l h = cc
+five_tests false true c d w r e l h = cc
+five_tests false false true d w r e l h = cc
+five_tests false false false true w r e l h = cc
+five_tests false false false false w r e l h = refl
+
+-- a leaf that breaks no rule isn't alone
+pub not_lone : (kind own : Kind) (key bytes : Bytes) (parent : Option (List Hash)) (path : List ℕ) → fault_of (leaf own key bytes) parent kind path ≡ None → is_lone parent path ≡ false
+not_lone kind own key bytes parent path e =
+    five_tests (not (Rattle.ledger_spec.specs.Rules.same_kind own kind)) (length path == 0) (not (lies_under path key)) (is_lone parent path) Rattle.ledger_spec.specs.declared.ShapeFault.TheVariants.WrongKind
+    Rattle.ledger_spec.specs.declared.ShapeFault.TheVariants.LeafAtRoot (Rattle.ledger_spec.specs.declared.ShapeFault.TheVariants.LeafElsewhere key) Rattle.ledger_spec.specs.declared.ShapeFault.TheVariants.LoneLeaf e
+
+-- some hash that isn't zero is counted
+some_counted : (hashes : List Hash) → IsTrue (list_any is_nonzero hashes) → 1 ≤ length (filter is_nonzero hashes)
+some_counted [] some = cc
+some_counted (h ∷ hashes) some = by_test (is_nonzero h) some (some_counted hashes)
+  where
+    by_test : (t : Bool) → (Rattle.std.proofs.Common.◌||◌ t (list_any is_nonzero hashes)) ≡ true → (IsTrue (list_any is_nonzero hashes) → 1 ≤ length (filter is_nonzero hashes))
+        → 1 ≤ length (cond t (h ∷ filter is_nonzero hashes) (filter is_nonzero hashes))
+    by_test true is rest = omega arith
+    by_test false is rest = rest is
+
+-- two entries, where one branch alone counts twice
+two_at_least : (k count size : ℕ) → 1 ≤ count → (count ≡ 1 → k ≡ 2) → 1 ≤ k → k * count ≤ size → 2 ≤ size
+two_at_least k count size some alone one fits =
+    ⊎_elim
+    (λ (e : count ≡ 1). let two : k ≡ 2 = alone e in let twice : k * count ≡ 2 = ap (λ m. m * count) two ∙ ap (λ m. 2 * m) e in omega arith)
+    (λ (other : count ≡ 1 → ⊥). let enough : 2 ≤ count = omega arith in let times : 1 * count ≤ k * count = Rattle.std.proofs.Common.mul-le-mul_right count one in omega arith)
+    (cases_eq count 1)
+
+one_at_least : (k count size : ℕ) → 1 ≤ count → 1 ≤ k → k * count ≤ size → 1 ≤ size
+one_at_least k count size some one fits = let times : 1 * count ≤ k * count = Rattle.std.proofs.Common.mul-le-mul_right count one in omega arith
+
+-- one entry below the root is a leaf
+single_form : (half : Half) (kind : Kind) (all : Items) (left : ℕ) (path : List ℕ) (e : Entry) → 0 < length path → form_of_part half kind all left path (e ∷ []) ≡ Some (leaf_form kind e.0 e.1)
+unfolding form_of_part
+single_form half kind all zero path e below = refl
+single_form half kind all (suc left) [] e below = absurd (omega arith)
+single_form half kind all (suc left) (n ∷ path) e below = refl
+
+-- more are an inner node
+inner_form : (half : Half) (kind : Kind) (all : Items) (left : ℕ) (path : List ℕ) (there : Items) → (1 ≤ length there) → (0 < length path → 2 ≤ length there)
+    → form_of_part half kind all (suc left) path there ≡ Some (inner_prefix ++ flat_map (kid_hash half kind all left path) branches)
+unfolding form_of_part
+inner_form half kind all left path [] some many = absurd (omega arith)
+inner_form half kind all left [] (e ∷ others) some many = refl
+inner_form half kind all left (n ∷ path) (e ∷ []) some many = absurd (omega (arith, many (omega arith)))
+inner_form half kind all left (n ∷ path) (e ∷ f ∷ others) some many = refl
+
+module _ (half : Half) (sized : Sized half) (nodes : Lookup) (own : (h : Hash) (form : Bytes) → nodes h ≡ Some form → half form ≡ h) (kind : Kind) where
+  -- the entries that a walk meets
+  abbrev entries : List Met → Items
+  entries walked = filter_map (λ m. item_at m.sight) walked
+
+  -- what is seen at a place
+  abbrev seen_at : Option (List Hash) → List ℕ → Hash → Sight
+  seen_at parent path h = sight_of half (λ n. fault_of n parent kind path) (nodes h)
+
+  -- the entries below a place are a map, and its tree has the place's hash
+  record Made (left : ℕ) (parent : Option (List Hash)) (path : List ℕ) (h : Hash) (items : Items) : Type 0 where
+    rising : IsMap hash_cmp items
+    each : AllByRecursion (λ (e : Entry). IsHeld half (leaf kind e.0 e.1)) items
+    under : AllByRecursion (λ (e : Entry). lies_under path e.0 ≡ true) items
+    root : (all : Items) → part all path ≡ items → hash_or_zero half (form_of_part half kind all left path (part all path)) ≡ h
+    enough : is_zero h ≡ false → weight parent path ≤ length items
+
+  no_rise : IsMap {X = Bytes} hash_cmp []
+  unfolding IsStrictlySortedBy
+  no_rise = tt
+
+  one_rise : (e : Entry) → IsMap hash_cmp (e ∷ [])
+  unfolding IsStrictlySortedBy
+  one_rise e = (tt, tt)
+
+  empty_form : (all : Items) (left : ℕ) (path : List ℕ) → form_of_part half kind all left path [] ≡ None
+  unfolding form_of_part
+  empty_form all left path = refl
+
+  -- nothing at a zero hash
+  made_zero : (left : ℕ) (parent : Option (List Hash)) (path : List ℕ) (h : Hash) → length h ≡ 32 → is_zero h ≡ true → Made left parent path h []
+  made_zero left parent path h size none = record {
+    rising = no_rise;
+    each = tt;
+    under = tt;
+    root = λ all is. ap (λ p. hash_or_zero half (form_of_part half kind all left path p)) is ∙ ap (hash_or_zero half) (empty_form all left path) ∙ sym (zero_is h size none);
+    enough = λ some. absurd (false≢true (sym some ∙ none));
+  }
+
+  -- a leaf
+  made_leaf : (left : ℕ) (parent : Option (List Hash)) (path : List ℕ) (h : Hash) (k : Kind) (key bytes : Bytes) → Sees half (λ n. fault_of n parent kind path) (nodes h) (leaf k key bytes)
+      → Made left parent path h ((key, bytes) ∷ [])
+  made_leaf left parent path h k key bytes sees =
+      let kept : KeepsLeaf kind k key path = keeps_leaf kind k key bytes parent path sees.fits in
+      let is : Form half (leaf k key bytes) sees.form = holds half sized (leaf k key bytes) sees.form sees.holds in
+      let form : sees.form ≡ leaf_form kind key bytes = is.1 ∙ ap (λ q. leaf_form q key bytes) kept.kinds in
+      record {
+        rising = one_rise (key, bytes);
+        each = (subst (λ q. IsHeld half (leaf q key bytes)) kept.kinds is.0, tt);
+        under = (kept.under, tt);
+        root = λ all there.
+            ap (λ p. hash_or_zero half (form_of_part half kind all left path p)) there ∙ ap (hash_or_zero half) (single_form half kind all left path (key, bytes) kept.below)
+            ∙ ap half (sym form) ∙ own h sees.form sees.stored;
+        enough = λ some.
+            let single : weight parent path ≡ 1 = ap (λ (t : Bool). if t then 2 else 1) (not_lone kind k key bytes parent path sees.fits) in
+            omega arith;
+      }
+
+  -- the weight of a place below an inner node is one for all its branches
+  abbrev least : List Hash → List ℕ → ℕ
+  least hashes path = if nat_le 2 (length path + 1) && (count_by is_nonzero hashes == 1) then 2 else 1
+
+  kid_weight : (hashes : List Hash) (path : List ℕ) (b : ℕ) → weight (Some hashes) (path ++ b ∷ []) ≡ least hashes path
+  kid_weight hashes path b = ap (λ (n : ℕ). if nat_le 2 n && (count_by is_nonzero hashes == 1) then 2 else 1) (length-append path (b ∷ []))
+
+  kid_weight_alone : (hashes : List Hash) (path : List ℕ) → 0 < length path → count_by is_nonzero hashes ≡ 1 → least hashes path ≡ 2
+  kid_weight_alone hashes path below alone =
+      cond-true (nat_le 2 (length path + 1) && (count_by is_nonzero hashes == 1)) 2 1 (and_from (nat_le 2 (length path + 1)) (count_by is_nonzero hashes == 1) (le-leb 2 (length path + 1) (omega arith)) (eq-eqb (count_by is_nonzero hashes) 1 alone))
+
+  weight_some : (t : Bool) → 1 ≤ (if t then 2 else 1)
+  weight_some true = omega arith
+  weight_some false = omega arith
+
+  -- an inner node with what is below it
+  made_inner : (left : ℕ) (parent : Option (List Hash)) (path : List ℕ) (h : Hash) (hashes : List Hash) → Sees half (λ n. fault_of n parent kind path) (nodes h) (inner hashes)
+      → (g : ℕ → Items) → ((b : ℕ) → Made left (Some hashes) (path ++ b ∷ []) (slice_index_or hashes b zero_hash) (g b)) → ((b : ℕ) → 16 ≤ b → g b ≡ [])
+      → Made (suc left) parent path h (flat_map g branches)
+  made_inner left parent path h hashes sees g kids past =
+      let is : Form half (inner hashes) sees.form = holds half sized (inner hashes) sees.form sees.holds in
+      let k : ℕ = least hashes path in
+      let hash : ℕ → Hash = λ b. slice_index_or hashes b zero_hash in
+      let at : hashes ≡ map hash branches = hashes_at_branches hashes is.0.count in
+      let all_of : k * length (filter is_nonzero (map hash branches)) ≤ length (flat_map g branches) =
+      enough_below k hash g (λ b some. subst (λ n. n ≤ length (g b)) (kid_weight hashes path b) ((kids b).enough some)) branches
+      in
+      let counted : length (filter is_nonzero (map hash branches)) ≡ count_by is_nonzero hashes = ap (λ l. length (filter is_nonzero l)) (sym at) ∙ length-filter is_nonzero hashes in
+      let some : 1 ≤ count_by is_nonzero hashes = subst (λ n. 1 ≤ n) (length-filter is_nonzero hashes) (some_counted hashes is.0.some) in
+      let fits : k * count_by is_nonzero hashes ≤ length (flat_map g branches) = subst (λ n. k * n ≤ length (flat_map g branches)) counted all_of in
+      let one : 1 ≤ length (flat_map g branches) = one_at_least k (count_by is_nonzero hashes) (length (flat_map g branches)) some (weight_some _) fits in
+      let many : 0 < length path → 2 ≤ length (flat_map g branches) = λ below.
+      two_at_least k (count_by is_nonzero hashes) (length (flat_map g branches)) some (kid_weight_alone hashes path below) (weight_some _) fits
+      in
+      record {
+        rising = map_branches path g (λ b. (kids b).rising) (λ b. (kids b).under) 0 16;
+        each = join_all (λ e. IsHeld half (leaf kind e.0 e.1)) (λ b. (kids b).each) branches;
+        under = join_all (λ e. lies_under path e.0 ≡ true) (λ b. all_weaker (λ (e : Entry). lies_under (path ++ b ∷ []) e.0 ≡ true) (λ e. lies_under path e.0 ≡ true) (λ e u. under_up path b e.0 u) (g b) ((kids b).under)) branches;
+        root = λ all there.
+            let each_kid : (b : ℕ) → kid_hash half kind all left path b ≡ hash b = λ b.
+            (kids b).root all
+            (sym (filter_twice (λ e. lies_under path e.0) (λ e. lies_under (path ++ b ∷ []) e.0) (λ e u. under_up path b e.0 u) all)
+            ∙ ap (filter (λ e. lies_under (path ++ b ∷ []) e.0)) there ∙ pick path b g (λ c. (kids c).under) (past b))
+            in
+            let pieces : flat_map (kid_hash half kind all left path) branches ≡ concat hashes =
+            ap (λ (f : ℕ → Hash). flat_map f branches) (λ i b. each_kid b i) ∙ sym (concat_map hash branches) ∙ ap concat (sym at)
+            in
+            ap (λ p. hash_or_zero half (form_of_part half kind all (suc left) path p)) there ∙ ap (hash_or_zero half) (inner_form half kind all left path (flat_map g branches) one many)
+            ∙ ap (λ p. half (inner_prefix ++ p)) pieces ∙ ap half (sym is.1) ∙ own h sees.form sees.stored;
+        enough = λ nonzero. enough_here (flat_map g branches) one many;
+      }
+    where
+      join_all : (P : Entry → Type 0) → ((b : ℕ) → AllByRecursion P (g b)) → (xs : List ℕ) → AllByRecursion P (flat_map g xs)
+      join_all P all [] = tt
+      join_all P all (x ∷ xs) = all_append P (g x) (flat_map g xs) (all x) (join_all P all xs)
+
+      enough_here : (items : Items) → 1 ≤ length items → (0 < length path → 2 ≤ length items) → weight parent path ≤ length items
+      enough_here items one many = by_parent parent
+        where
+          by_parent : (p : Option (List Hash)) → weight p path ≤ length items
+          by_parent None = one
+          by_parent (Some above) = by_test (nat_le 2 (length path) && (count_by is_nonzero above == 1)) refl
+            where
+              by_test : (t : Bool) → (nat_le 2 (length path) && (count_by is_nonzero above == 1)) ≡ t → (if t then 2 else 1) ≤ length items
+              by_test false is = one
+              by_test true is = let deep : 2 ≤ length path = leb-true 2 (length path) (and_parts (nat_le 2 (length path)) (count_by is_nonzero above == 1) is).0 in many (omega arith)
+
+  -- nothing is found in what is walked
+  abbrev Clean : List Met → Type 0
+  Clean walked = filter_map found walked ≡ []
+
+  -- what is seen at a place, where nothing is found, and what is below it
+  by_sight : (left : ℕ) (parent : Option (List Hash)) (path : List ℕ) (h : Hash) (x : Sight) (below : List Hash → List Met) → seen_at parent path h ≡ x → is_zero h ≡ false
+      → ((hashes : List Hash) → Sees half (λ n. fault_of n parent kind path) (nodes h) (inner hashes) → Clean (below hashes) → Made left parent path h (entries (below hashes)))
+      → Clean (met (Node kind path) h parent x ∷ branches_of x below) → Made left parent path h (entries (met (Node kind path) h parent x ∷ branches_of x below))
+  by_sight left parent path h missing below is some go clean = absurd (no_cons clean)
+  by_sight left parent path h (broken fault) below is some go clean = absurd (no_cons clean)
+  by_sight left parent path h (sound (leaf k key bytes)) below is some go clean = made_leaf left parent path h k key bytes (sees_sound half _ (nodes h) (leaf k key bytes) is)
+  by_sight left parent path h (sound (inner hashes)) below is some go clean = go hashes (sees_sound half _ (nodes h) (inner hashes) is) clean
+  by_sight left parent path h (sound (header bytes)) below is some go clean =
+      let foreign : Some Foreign ≡ None = (sees_sound half (λ n. fault_of n parent kind path) (nodes h) (header bytes) is).fits in cc
+
+  -- at the bottom there is no inner node
+  bottom : (parent : Option (List Hash)) (path : List ℕ) (h : Hash) (x : Sight) → length path ≡ 64 → seen_at parent path h ≡ x → is_zero h ≡ false
+      → Clean (met (Node kind path) h parent x ∷ []) → Made 0 parent path h (entries (met (Node kind path) h parent x ∷ []))
+  bottom parent path h missing deep is some clean = absurd (no_cons clean)
+  bottom parent path h (broken fault) deep is some clean = absurd (no_cons clean)
+  bottom parent path h (sound (leaf k key bytes)) deep is some clean = made_leaf 0 parent path h k key bytes (sees_sound half _ (nodes h) (leaf k key bytes) is)
+  bottom parent path h (sound (inner hashes)) deep is some clean =
+      let above : length path < 64 = above_bottom kind hashes parent path (omega arith) (sees_sound half (λ n. fault_of n parent kind path) (nodes h) (inner hashes) is).fits in
+      absurd (omega arith)
+  bottom parent path h (sound (header bytes)) deep is some clean =
+      let foreign : Some Foreign ≡ None = (sees_sound half (λ n. fault_of n parent kind path) (nodes h) (header bytes) is).fits in cc
+
+  -- a zero hash has no walk
+  abbrev Walked : ℕ → Option (List Hash) → List ℕ → Hash → List Met
+  Walked left parent path h = walk half nodes kind left parent path h
+
+  no_walk : (left : ℕ) (parent : Option (List Hash)) (path : List ℕ) (h : Hash) → is_zero h ≡ true → Walked left parent path h ≡ []
+  unfolding walk
+  no_walk zero parent path h none = cond-true (is_zero h) _ _ none
+  no_walk (suc left) parent path h none = cond-true (is_zero h) _ _ none
+
+  -- what is walked below a branch, and below an inner node
+  abbrev kid : ℕ → List ℕ → List Hash → ℕ → List Met
+  kid left path hashes b = Walked left (Some hashes) (path ++ b ∷ []) (slice_index_or hashes b zero_hash)
+
+  abbrev below : ℕ → List ℕ → List Hash → List Met
+  below left path hashes = flat_map (kid left path hashes) branches
+
+  past_end : (left : ℕ) (path : List ℕ) (hashes : List Hash) (b : ℕ) → length hashes ≡ 16 → 16 ≤ b → kid left path hashes b ≡ []
+  past_end left path hashes b count past =
+      let none : slice_index_or hashes b zero_hash ≡ zero_hash = get_or_past hashes b zero_hash (omega arith) in
+      no_walk left (Some hashes) (path ++ b ∷ []) (slice_index_or hashes b zero_hash) (ap is_zero none)
+
+  kid_clean : (left : ℕ) (path : List ℕ) (hashes : List Hash) → length hashes ≡ 16 → Clean (below left path hashes) → (b : ℕ) → Clean (kid left path hashes b)
+  kid_clean left path hashes count clean b =
+      ⊎_elim (λ (low : b < 16). at_branch (λ c. Clean (kid left path hashes c)) (clean_each found (kid left path hashes) branches clean) b low)
+      (λ (past : 16 ≤ b). ap (filter_map found) (past_end left path hashes b count past))
+      (Rattle.std.proofs.lemmas.Bool.cases_lt b 16)
+
+  -- each branch below an inner node is made
+  abbrev EachMade : ℕ → List ℕ → Type 0
+  EachMade left path = (hashes : List Hash) (b : ℕ) → IsTrue (list_all (λ g. length g == 32) hashes) → Clean (kid left path hashes b)
+      → Made left (Some hashes) (path ++ b ∷ []) (slice_index_or hashes b zero_hash) (entries (kid left path hashes b))
+
+  made_below : (left : ℕ) (parent : Option (List Hash)) (path : List ℕ) (h : Hash) → EachMade left path → (hashes : List Hash) → Sees half (λ n. fault_of n parent kind path) (nodes h) (inner hashes)
+      → Clean (below left path hashes) → Made (suc left) parent path h (entries (below left path hashes))
+  made_below left parent path h each hashes sees clean =
+      let is : Form half (inner hashes) sees.form = holds half sized (inner hashes) sees.form sees.holds in
+      subst (Made (suc left) parent path h) (sym (found_join (λ (m : Met). item_at m.sight) (kid left path hashes) branches))
+      (made_inner left parent path h hashes sees (λ b. entries (kid left path hashes b)) (λ b. each hashes b is.0.sizes (kid_clean left path hashes is.0.count clean b))
+      (λ b past. ap entries (past_end left path hashes b is.0.count past)))
+
+  -- the walk below a place where nothing is found
+  made : (left : ℕ) (parent : Option (List Hash)) (path : List ℕ) (h : Hash) → left + length path ≡ 64 → length h ≡ 32 → Clean (Walked left parent path h) → Made left parent path h (entries (Walked left parent path h))
+  unfolding walk
+  made zero parent path h level size clean = by_zero (is_zero h) refl clean
+    where
+      by_zero : (t : Bool) → is_zero h ≡ t → Clean (if t then [] else met (Node kind path) h parent (seen_at parent path h) ∷ [])
+          → Made 0 parent path h (entries (if t then [] else met (Node kind path) h parent (seen_at parent path h) ∷ []))
+      by_zero true is clean = made_zero 0 parent path h size is
+      by_zero false is clean = bottom parent path h (seen_at parent path h) (omega arith) refl is clean
+  made (suc left) parent path h level size clean =
+      by_zero (is_zero h) refl
+      (λ hashes b sizes clean_b. made left (Some hashes) (path ++ b ∷ []) (slice_index_or hashes b zero_hash) (omega (arith, length-append path (b ∷ []))) (size_at hashes b sizes) clean_b)
+      clean
+    where
+      by_zero : (t : Bool) → is_zero h ≡ t → EachMade left path
+          → Clean (if t then [] else met (Node kind path) h parent (seen_at parent path h) ∷ branches_of (seen_at parent path h) (below left path))
+          → Made (suc left) parent path h (entries (if t then [] else met (Node kind path) h parent (seen_at parent path h) ∷ branches_of (seen_at parent path h) (below left path)))
+      by_zero true is each clean = made_zero (suc left) parent path h size is
+      by_zero false is each clean = by_sight (suc left) parent path h (seen_at parent path h) (below left path) refl is (made_below left parent path h each) clean
+
+-- a whole map commits to its items
+pub map_commits : (half : Half) → IsHalf half → (nodes : Lookup) → AreOwn half nodes → AreByteForms nodes → (kind : Kind) (root : Hash) → length root ≡ 32 → IsWholeMap half nodes kind root → Commits half nodes kind root
+unfolding walk_map form_at
+map_commits half is_half nodes own forms kind root size whole =
+    let sized : Sized half = is_half.size in
+    let is : Made half sized nodes (λ h form e. sym (own h form e)) kind 64 None [] root (items_of half nodes kind root) =
+    made half sized nodes (λ h form e. sym (own h form e)) kind 64 None [] root refl size whole
+    in
+    let all : part (items_of half nodes kind root) [] ≡ items_of half nodes kind root = filter_all (λ (e : Entry). lies_under [] e.0) (items_of half nodes kind root) is.under in
+    record {
+      are = record { rising = is.rising; each = is.each; bytes = byte_items half sized nodes forms kind is_half.bytes root };
+      root_is = is.root (items_of half nodes kind root) all;
+    }
+
+-- a root in a header has 32 bytes
+root_size : (bytes : Bytes) (at : ℕ) → length bytes ≡ 118 → at ≤ 86 → length (take 32 (drop at bytes)) ≡ 32
+root_size bytes at size within = length-take-le 32 (drop at bytes) (omega (arith, length-drop at bytes))
+
+-- a whole ledger commits to its items
+pub ledger_commits : (half : Half) → IsHalf half → (nodes : Lookup) → AreOwn half nodes → AreByteForms nodes → (target : Hash) (bytes : Bytes) → header_in nodes target ≡ Some bytes → Whole half nodes target
+    → Commits half nodes State (state_root_of bytes) × Commits half nodes Tx (tx_root_of bytes)
+unfolding walk_ledger
+ledger_commits half is_half nodes own forms target bytes stored whole = at (nodes target) stored whole
+  where
+    by_header : (form : Bytes) (o : Option Bytes) → header_of form ≡ o → o ≡ Some bytes → filter_map found (met Header target None (header_or_foreign o) ∷ maps_of half nodes (header_or_foreign o)) ≡ []
+        → Commits half nodes State (state_root_of bytes) × Commits half nodes Tx (tx_root_of bytes)
+    by_header form None is e clean = let no : None ≡ Some bytes = e in cc
+    by_header form (Some b) is e clean =
+        let same : b ≡ bytes = cc in
+        let size : length bytes ≡ 118 = (holds_header half form bytes (is ∙ e)).0 in
+        let both : IsWholeMap half nodes State (state_root_of b) × IsWholeMap half nodes Tx (tx_root_of b) =
+        both_nil _ _ (sym (filter_map-append found (walk_map half nodes State (state_root_of b)) (walk_map half nodes Tx (tx_root_of b))) ∙ clean)
+        in (
+          map_commits half is_half nodes own forms State (state_root_of bytes) (root_size bytes 76 size (lit≤ tt)) (subst (λ x. IsWholeMap half nodes State (state_root_of x)) same both.0),
+          map_commits half is_half nodes own forms Tx (tx_root_of bytes) (root_size bytes 44 size (lit≤ tt)) (subst (λ x. IsWholeMap half nodes Tx (tx_root_of x)) same both.1),
+        )
+
+    at : (o : Option Bytes) → option_and_then header_of o ≡ Some bytes → filter_map found (met Header target None (header_sight o) ∷ maps_of half nodes (header_sight o)) ≡ []
+        → Commits half nodes State (state_root_of bytes) × Commits half nodes Tx (tx_root_of bytes)
+    at None e clean = let no : None ≡ Some bytes = e in cc
+    at (Some form) e clean = by_header form (header_of form) refl e clean
