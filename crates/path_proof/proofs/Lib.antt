@@ -1,0 +1,4 @@
+pub mod Steps
+pub mod PathLaws
+pub mod Walks
+pub mod WholeReads

@@ -1,0 +1,68 @@
+-- The law on paths, for shared nodes.
+use Rattle.std.proofs.Common.{◌≡◌, ◌≢◌, zero, suc, List, [], ◌∷◌, Option, None, Some, IfSome, Result, Ok, Err, IfOk, sym, subst, arith}
+use Rattle.std.proofs.Common.{◌≤◌, take, length, ap, ◌∙◌, ℕ}
+use Rattle.std.specs.Option.{option_map}
+use Rattle.std.specs.declared.sync.Arc.{Arc}
+use Rattle.std.specs.declared.alloc.Global.{Global}
+use Rattle.shamap_node.specs.declared.Node.{Node}
+use Rattle.shamap_node.specs.declared.Node.TheVariants as node
+use Rattle.shamap_node.specs.Nodes.{held}
+use Rattle.ledger_spec.specs.declared.Kind.{Kind}
+use Rattle.ledger_spec.specs.declared.Kind.TheVariants.{State, Tx, Set}
+use Rattle.ledger_spec.specs.Bytes.{Bytes, Hash, Half}
+use Rattle.ledger_spec.specs.Forms.{IsItem, IsHeld, leaf}
+use Rattle.ledger_spec.specs.Reads as spec
+use Rattle.ledger_spec.specs.Reads.{IsKey, IsNode, AreNodes, AnswersOrShows}
+use Rattle.tree_laws.proofs.Trees.{Sized}
+use Rattle.tree_laws.proofs.PathLaw.{answers_or_shows}
+use Rattle.path_proof.specs.declared.Outcome.{Outcome}
+use Rattle.path_proof.specs.declared.reading.Answer.{Answer}
+use Rattle.path_proof.specs.declared.reading.ReadFault.{ReadFault}
+use Rattle.nib_path.specs.Paths.{nibbles}
+use Rattle.ledger_spec.specs.Rules.{fault_of}
+use Rattle.path_proof.specs.Ways.{Fits}
+use Rattle.path_proof.proofs.Steps.{above}
+use Rattle.path_proof.specs.Paths.{held_nodes, outcome_by, IsAbove}
+
+-- a leaf of the map's kind has a form, bare transactions apart
+leaf_held : (half : Half) (kind own : Kind) (key bytes : Bytes) → kind ≢ Set → IsItem key bytes → own ≡ kind
+    → IsHeld half (leaf own key bytes)
+leaf_held half kind State key bytes other item same = item
+leaf_held half kind Tx key bytes other item same = item
+leaf_held half kind Set key bytes other item same = absurd (other (sym same))
+
+pub node_is : (half : Half) (kind : Kind) → kind ≢ Set → (n : Node) → IsNode half kind (held n)
+node_is half kind other (node.Inner i) = i.valid
+node_is half kind other (node.Leaf l) = leaf_held half kind l.kind l.item.key l.item.value other l.item.valid
+
+pub nodes_are : (half : Half) (kind : Kind) → kind ≢ Set → (used : List (Arc Node Global)) → AreNodes half kind (held_nodes used)
+nodes_are half kind other [] n (k, within, is) = absurd (omega arith)
+nodes_are half kind other (a ∷ used) n (zero, within, is) = subst (IsNode half kind) is (node_is half kind other a.value)
+nodes_are half kind other (a ∷ used) n (suc k, within, is) = nodes_are half kind other used n (k, omega arith, is)
+
+pub law_of : (half : Half) → Sized half → (kind : Kind) (root key : Hash) (used : List (Arc Node Global)) (result : Option Outcome)
+    → IsKey key
+    → option_map (outcome_by (held_nodes used)) result ≡ spec.follow half kind root key (held_nodes used)
+    → IfSome result (λ o. kind ≢ Set → AnswersOrShows half kind root key (held_nodes used) (outcome_by (held_nodes used) o))
+law_of half sized kind root key used None is_key exact = tt
+law_of half sized kind root key used (Some o) is_key exact =
+    λ other. answers_or_shows half sized kind root key (held_nodes used) (outcome_by (held_nodes used) o) is_key
+    (nodes_are half kind other used) (sym exact)
+
+pub law_of_read : (half : Half) → Sized half → (kind : Kind) (root key : Hash) (result : Result Answer ReadFault) → IsKey key
+    → IfOk result (λ a. spec.follow half kind root key (held_nodes a.used.items) ≡ Some (outcome_by (held_nodes a.used.items) a.outcome))
+    → IfOk result (λ a. kind ≢ Set
+    → AnswersOrShows half kind root key (held_nodes a.used.items) (outcome_by (held_nodes a.used.items) a.outcome))
+law_of_read half sized kind root key (Ok a) is_key path =
+    λ other. answers_or_shows half sized kind root key (held_nodes a.used.items) (outcome_by (held_nodes a.used.items) a.outcome) is_key
+    (nodes_are half kind other a.used.items) path
+law_of_read half sized kind root key (Err _) is_key path = tt
+
+-- a node that fits a place on the way has levels below it, if it is an inner one
+pub fits_above : (half : Half) (kind : Kind) (over : Option (List Hash)) (path : List ℕ) (h key : Hash) (depth : ℕ)
+    (result : Result (Arc Node Global) ReadFault) → depth ≤ 64 → length key ≡ 32
+    → path ≡ take depth (nibbles key) → IfOk result (λ a. Fits half kind over path h (held a.value))
+    → IfOk result (λ a. IsAbove (held a.value) depth)
+fits_above half kind over path h key depth (Ok a) within size is fits =
+    above (held a.value) over kind key depth within size (sym (ap (fault_of (held a.value) over kind) is) ∙ fits.rules)
+fits_above half kind over path h key depth (Err _) within size is fits = tt

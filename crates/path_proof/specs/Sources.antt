@@ -1,0 +1,40 @@
+-- What a source of nodes answers, by the map that it tells.
+use Rattle.std.specs.Prelude.{◌≡◌, Bool, IsTrue, List, Option, None, Some, Result, Ok, Err}
+use Rattle.std.specs.List.{AllByRecursion}
+use Rattle.std.specs.Bool.{⊤}
+use Rattle.std.specs.declared.sync.Arc.{Arc}
+use Rattle.std.specs.declared.alloc.Global.{Global}
+use Rattle.shamap_node.specs.declared.Node.{Node}
+use Rattle.shamap_node.specs.Nodes.{held}
+use Rattle.shamap_node.specs.Laws.{is_no_node}
+use Rattle.std.specs.FinMap as map
+use Rattle.ledger_spec.specs.Bytes.{Bytes, Half, Lookup, Nodes}
+use Rattle.ledger_spec.specs.Forms.{Held, IsHeld, form_of}
+use Rattle.ledger_spec.specs.Pages.{IsStoredNode}
+use Rattle.ledger_spec.specs.Findings.{held_of}
+use Rattle.path_proof.specs.declared.source.FetchFault.{FetchFault}
+use Rattle.path_proof.specs.declared.source.FetchFault.TheVariants.{Fault, Foreign, Memory}
+
+-- nothing is stored
+abbrev pub no_nodes : Nodes
+no_nodes = map.empty
+
+-- what is held there is no node's form: a header's
+abbrev pub IsForeign : Half → Option Bytes → Type 0
+IsForeign half there = (form : Bytes) × (there ≡ Some form) × IsTrue (is_no_node (held_of half form))
+
+-- what is held there is the form of this node
+abbrev pub Holds : Half → Option Bytes → Held → Type 0
+Holds half there n = (there ≡ Some (form_of n)) × IsHeld half n
+
+-- the nodes are those that the source holds under their hashes, where it tells what it holds
+abbrev pub AreHeld : Half → Bool → Lookup → List Held → Type 0
+AreHeld half tells nodes used = IsTrue tells → AllByRecursion (IsStoredNode half nodes) used
+
+-- the answer to a hash under which this is held
+abbrev pub Gives : Half → Option Bytes → Result (Option (Arc Node Global)) FetchFault → Type 0
+Gives half there (Ok (Some node)) = Holds half there (held node.value)
+Gives half there (Ok None) = there ≡ None
+Gives half there (Err Foreign) = IsForeign half there
+Gives half there (Err Fault) = ⊤
+Gives half there (Err Memory) = ⊤

@@ -1,0 +1,25 @@
+//! Reads of one key along a path of nodes, and the judgement of such a path.
+#![tactic(auto)]
+
+mod following;
+mod laws;
+mod reading;
+mod source;
+mod waypoints;
+
+pub use following::{follow, known_key};
+pub use laws::a_whole_map_is_read;
+pub use reading::{Answer, ReadFault, node_at, read};
+pub use source::{FetchFault, NoSource, NodeSource};
+
+/// What a path says of its key.
+#[derive(Clone, Copy, Debug, PartialEq, Eq)]
+pub enum Outcome {
+    /// The map has nothing at the key.
+    Nothing,
+    /// The path ends at the key's leaf, whose data is the value.
+    Value,
+}
+
+#[cfg(test)]
+mod tests;

@@ -1,0 +1,177 @@
+//! Reads of a key in the map below a root.
+ghost use Rattle.std.specs.Prelude.{◌≡◌, ◌≢◌, ◌≤◌, IfErr, IfOk, IsTrue, Some, take};
+ghost use Rattle.nib_path.specs.Paths.{nibbles};
+ghost use Rattle.std.specs.FinMap as map;
+ghost use Rattle.run_io.specs.Bytes.{Rose};
+ghost use Rattle.ledger_spec.specs.Reads as spec;
+ghost use Rattle.ledger_spec.specs.Reads.{AnswersOrShows};
+ghost use Rattle.shamap_node.specs.Nodes.{held, hashes_above};
+ghost use Rattle.path_proof.specs.Paths.{held_nodes, outcome_by, hashes_kept, IsAbove};
+ghost use Rattle.path_proof.specs.Sources.{AreHeld, Holds};
+ghost use Rattle.path_proof.specs.Ways.{Ends, Fits, HasCause};
+
+use crate::following::known_key;
+use crate::waypoints::Waypoint;
+use crate::{FetchFault, NodeSource, Outcome};
+use half_hash::{Hash32, NodeHash, known_half};
+use nib_path::NodeId;
+use shamap_node::{Inner, Kind, Node, ShapeFault, shape};
+use std::alloc::{AllocFailed, Global};
+use std::sync::Arc;
+
+/// What was read at a key, with the path of nodes that says so, root first.
+#[derive(Drop)]
+pub struct Answer {
+    pub outcome: Outcome,
+    pub used: Vec<Arc<Node>>,
+}
+
+/// Why a read gives no answer.
+#[derive(Clone, Copy)]
+pub enum ReadFault {
+    /// The source holds nothing under this hash, which is the first such on the way.
+    Absent(Hash32),
+    /// The source failed, and its count rose.
+    Fault,
+    /// What is held for this place, the first such on the way, breaks this rule there.
+    Shape { place: NodeId, rule: ShapeFault },
+    /// Memory was refused.
+    Memory,
+}
+
+impl<T: Drop> From<AllocFailed<T>> for ReadFault {
+    ghost use Rattle.std.specs.Prelude.{◌≡◌};
+    ghost use Rattle.path_proof.specs.declared.reading.ReadFault.TheVariants as faults;
+
+    ghost from_gives = { λ _ e. e ≡ faults.Memory };
+
+    fn from(_: AllocFailed<T>) -> Self {
+        ReadFault::Memory
+    }
+}
+
+/// What is at the key in the map below the root: nothing or the data of the key's leaf, with the path
+/// that says so. The first place on the way that can't be passed is the answer else: nothing is held
+/// for it, or what is held breaks a rule there.
+pub fn read<H: NodeHash, S: NodeSource<H>>(
+    alloc: Global,
+    source: &mut S,
+    root: &Hash32,
+    kind: Kind,
+    key: &Hash32,
+) -> Result<Answer, ReadFault>
+    ensures path { IfOk result (λ a.
+        spec.follow H.half kind root.now key.now (held_nodes a.used.items) ≡ Some (outcome_by (held_nodes a.used.items) a.outcome)) }
+
+    // what is used is held, where the source tells what it holds
+    ensures held { IfOk result (λ a. AreHeld H.half S.tells (map.get (S.stored source.old)) (held_nodes a.used.items)) }
+
+    // the answer is that of each map of states or transactions with this root, or the nodes show two with one hash
+    ensures law { IfOk result (λ a. kind ≢ Kind.Set →
+        AnswersOrShows H.half kind root.now key.now (held_nodes a.used.items) (outcome_by (held_nodes a.used.items) a.outcome)) }
+    ensures cause { IfErr result (HasCause H.half kind root.now key.now S.tells (map.get (S.stored source.old))) }
+    ensures fault { IfErr result (λ fault. fault ≡ ReadFault.Fault → Rose (S.faults source.old) (S.faults source.new)) }
+    ensures same { IsTrue S.tells → S.stored source.new ≡ S.stored source.old }
+    ensures later { S.faults source.old ≤ S.faults source.new }
+{
+    known_key(key);
+    known_half::<H>();
+    read_path::<H, S>(alloc, source, root, kind, key)
+}
+
+// The same as `read`.
+fn read_path<H: NodeHash, S: NodeSource<H>>(
+    alloc: Global,
+    source: &mut S,
+    root: &Hash32,
+    kind: Kind,
+    key: &Hash32,
+) -> Result<Answer, ReadFault>
+    ensures path { IfOk result (λ a.
+        spec.follow H.half kind root.now key.now (held_nodes a.used.items) ≡ Some (outcome_by (held_nodes a.used.items) a.outcome)) }
+    ensures held { IfOk result (λ a. AreHeld H.half S.tells (map.get (S.stored source.old)) (held_nodes a.used.items)) }
+    ensures cause { IfErr result (HasCause H.half kind root.now key.now S.tells (map.get (S.stored source.old))) }
+    ensures fault { IfErr result (λ fault. fault ≡ ReadFault.Fault → Rose (S.faults source.old) (S.faults source.new)) }
+    ensures same { IsTrue S.tells → S.stored source.new ≡ S.stored source.old }
+    ensures later { S.faults source.old ≤ S.faults source.new }
+{
+    let mut used = Vec::new(alloc);
+    if root.is_zero() {
+        return Ok(Answer {
+            outcome: Outcome::Nothing,
+            used,
+        });
+    }
+    let mut waypoint = Waypoint::root(root);
+    loop {
+        let node = node_on::<H, S>(alloc, source, &waypoint, kind, key)?;
+        let next = waypoint.after(&node, key);
+        used.push(node)?;
+        match next {
+            Ok(below) => waypoint = below,
+            Err(outcome) => return Ok(Answer { outcome, used }),
+        }
+    }
+}
+
+// The node that the source gives for a place on the way, if it may stand there.
+fn node_on<H: NodeHash, S: NodeSource<H>>(
+    alloc: Global,
+    source: &mut S,
+    waypoint: &Waypoint,
+    kind: Kind,
+    key: &Hash32,
+) -> Result<Arc<Node>, ReadFault>
+    ensures fits { IfOk result (λ a.
+        Fits H.half kind (hashes_kept waypoint.now.parent) (take waypoint.now.depth (nibbles key.now)) waypoint.now.wanted (held a.value)) }
+    ensures above { IfOk result (λ a. IsAbove (held a.value) waypoint.now.depth) }
+    ensures held { IfOk result (λ a. IsTrue S.tells → Holds H.half (map.get (S.stored source.old) waypoint.now.wanted) (held a.value)) }
+    ensures ends { IfErr result (Ends H.half kind S.tells (map.get (S.stored source.old))
+        (hashes_kept waypoint.now.parent) (take waypoint.now.depth (nibbles key.now)) waypoint.now.wanted) }
+    ensures fault { IfErr result (λ fault. fault ≡ ReadFault.Fault → Rose (S.faults source.old) (S.faults source.new)) }
+    ensures same { IsTrue S.tells → S.stored source.new ≡ S.stored source.old }
+    ensures later { S.faults source.old ≤ S.faults source.new }
+{
+    key.known();
+    let id = NodeId::of_key(&key.bytes, waypoint.depth);
+    node_at::<H, S>(
+        alloc,
+        source,
+        kind,
+        waypoint.parent.as_ref(),
+        &id,
+        &waypoint.wanted,
+    )
+}
+
+/// The node that the source gives for a place of a map: the one with this hash, below this inner node
+/// (none at the root), if it may stand there.
+pub fn node_at<H: NodeHash, S: NodeSource<H>>(
+    alloc: Global,
+    source: &mut S,
+    kind: Kind,
+    parent: Option<&Inner>,
+    id: &NodeId,
+    wanted: &Hash32,
+) -> Result<Arc<Node>, ReadFault>
+    ensures fits { IfOk result (λ a. Fits H.half kind (hashes_above parent.entry) id.now wanted.now (held a.value)) }
+    ensures held { IfOk result (λ a. IsTrue S.tells → Holds H.half (map.get (S.stored source.old) wanted.now) (held a.value)) }
+    ensures ends { IfErr result (Ends H.half kind S.tells (map.get (S.stored source.old)) (hashes_above parent.entry) id.now wanted.now) }
+    ensures fault { IfErr result (λ fault. fault ≡ ReadFault.Fault → Rose (S.faults source.old) (S.faults source.new)) }
+    ensures same { IsTrue S.tells → S.stored source.new ≡ S.stored source.old }
+    ensures later { S.faults source.old ≤ S.faults source.new }
+{
+    match source.fetch(alloc, wanted) {
+        Ok(Some(node)) => match shape(&node, parent, kind, id) {
+            Ok(()) => Ok(node),
+            Err(rule) => Err(ReadFault::Shape { place: *id, rule }),
+        },
+        Ok(None) => Err(ReadFault::Absent(*wanted)),
+        Err(FetchFault::Foreign) => Err(ReadFault::Shape {
+            place: *id,
+            rule: ShapeFault::Foreign,
+        }),
+        Err(FetchFault::Fault) => Err(ReadFault::Fault),
+        Err(FetchFault::Memory) => Err(ReadFault::Memory),
+    }
+}
