@@ -1,0 +1,4 @@
+pub mod Orders
+pub mod Visiting
+pub mod PageLaws
+pub mod WholePages

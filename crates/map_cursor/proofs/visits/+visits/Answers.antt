@@ -1,0 +1,139 @@
+use Rattle.std.proofs.Common.{◌-◌, ◌∙◌, length, refl, ap, subst, arith, Option, true, false, Some}
+use Rattle.std.specs.FinMap as map
+use Rattle.shamap_node.specs.Nodes.{held, hashes_above}
+use Rattle.shamap_node.specs.declared.parts.Inner.{Inner}
+use Rattle.ledger_spec.specs.Pages.{page_from}
+use Rattle.path_proof.specs.Paths.{hashes_kept}
+use Rattle.map_cursor.specs.Shown.{shown, Takes}
+use Rattle.map_cursor.specs.Visits.{branch_reading}
+use Rattle.map_cursor.proofs.Visiting.{skip_is, skip_visited, place_refused, memory_refused, handed_on, no_fault, leaf_visited}
+use Rattle.map_cursor.proofs.Visiting.{inner_visited, inner_refused, nothing_done, branch_visited, branch_refused, reading_is, level_of}
+use Rattle.map_cursor.proofs.visits.+visits.Goals as goal
+
+pub visit-returns-then-skips-clause-visited : goal.visit-returns-then-skips-clause-visited
+visit-returns-then-skips-clause-visited g t c =
+    skip_visited g.H.NodeHash.half c.args.query.now.kind g.S.NodeSource.tells (map.get (g.S.NodeSource.stored c.args.source.now))
+    c.args.query.now.after (64 - length c.args.id.now) (hashes_above c.args.parent) c.args.id.now c.args.wanted.now c.args.query.now.most
+    (shown c.args.page.now)
+    (skip_is true c.skips.result c.args.query.now.after c.args.id.now c.args.wanted.now c.args.query.now.most c.len.result
+    c.args.page.now.leaves.items c.if-skips.true c.skips.ensures (c.len.ensures ∙ c.args.page.now.leaves.ok.0))
+
+pub visit-returns-in_err-node-clause-visited : goal.visit-returns-in_err-node-clause-visited
+visit-returns-in_err-node-clause-visited g t c =
+    handed_on g.H.NodeHash.half c.args.query.now.kind g.S.NodeSource.tells (map.get (g.S.NodeSource.stored c.args.source.now))
+    (page_from g.H.NodeHash.half c.args.query.now.kind c.args.query.now.after (64 - length c.args.id.now) (hashes_above c.args.parent)
+    c.args.id.now c.args.wanted.now) c.args.query.now.most (shown c.args.page.now) _ _ c.in_err-node.field-0.0 c.from_residual.ensures
+    (place_refused g.H.NodeHash.half c.args.query.now.kind g.S.NodeSource.tells (map.get (g.S.NodeSource.stored c.args.source.now))
+    c.args.query.now.after (64 - length c.args.id.now) (hashes_above c.args.parent) c.args.id.now c.args.wanted.now
+    c.args.query.now.most (shown c.args.page.now) c.in_err-node.field-0.0
+    (skip_is false c.skips.result c.args.query.now.after c.args.id.now c.args.wanted.now c.args.query.now.most c.len.result
+    c.args.page.now.leaves.items c.if-skips.false c.skips.ensures (c.len.ensures ∙ c.args.page.now.leaves.ok.0))
+    c.in_err-node.ensures.ends)
+
+pub visit-returns-in_err-take-clause-visited : goal.visit-returns-in_err-take-clause-visited
+visit-returns-in_err-take-clause-visited g t c =
+    handed_on g.H.NodeHash.half c.args.query.now.kind g.S.NodeSource.tells (map.get (g.S.NodeSource.stored c.args.source.now))
+    (page_from g.H.NodeHash.half c.args.query.now.kind c.args.query.now.after (64 - length c.args.id.now) (hashes_above c.args.parent)
+    c.args.id.now c.args.wanted.now) c.args.query.now.most (shown c.args.page.now) _ _ c.in_err-take.field-0.0
+    c.from_residual-in_err-take.ensures
+    (memory_refused g.H.NodeHash.half c.args.query.now.kind g.S.NodeSource.tells (map.get (g.S.NodeSource.stored c.args.source.now))
+    c.args.query.now.after (64 - length c.args.id.now) (hashes_above c.args.parent) c.args.id.now c.args.wanted.now
+    c.args.query.now.most (shown c.args.page.now) c.in_err-take.field-0.0
+    (skip_is false c.skips.result c.args.query.now.after c.args.id.now c.args.wanted.now c.args.query.now.most c.len.result
+    c.args.page.now.leaves.items c.if-skips.false c.skips.ensures (c.len.ensures ∙ c.args.page.now.leaves.ok.0))
+    c.in_err-take.ensures.memory)
+
+pub visit-returns-in_err-take-clause-fault : goal.visit-returns-in_err-take-clause-fault
+visit-returns-in_err-take-clause-fault g t c =
+    no_fault _ c.in_err-take.field-0.0 _ c.from_residual-in_err-take.ensures c.in_err-take.ensures.memory
+
+pub visit-returns-in_err-visit_branches-in-Some-clause-visited : goal.visit-returns-in_err-visit_branches-in-Some-clause-visited
+visit-returns-in_err-visit_branches-in-Some-clause-visited g t c =
+    let takes : Takes c.args.query.now.after (held c.in_ok-node.node.value) (shown c.args.page.now) (shown c.take.new.self)
+    (Some c.in-Some.inner.hashes) =
+    subst (λ (b : Option Inner). Takes c.args.query.now.after (held c.in_ok-node.node.value) (shown c.args.page.now)
+    (shown c.take.new.self) (hashes_kept b)) c.in-Some.is c.in_ok-take.ensures.taken in
+    handed_on g.H.NodeHash.half c.args.query.now.kind g.S.NodeSource.tells (map.get (g.S.NodeSource.stored c.args.source.now))
+    (page_from g.H.NodeHash.half c.args.query.now.kind c.args.query.now.after (64 - length c.args.id.now) (hashes_above c.args.parent)
+    c.args.id.now c.args.wanted.now) c.args.query.now.most (shown c.args.page.now) _ _ c.in_err-visit_branches-in-Some.field-0.0
+    c.from_residual-in_err-visit_branches-in-Some.ensures
+    (inner_refused g.H.NodeHash.half c.args.query.now.kind g.S.NodeSource.tells (map.get (g.S.NodeSource.stored c.args.source.now))
+    (map.get (g.S.NodeSource.stored c.node_at.new.source)) (λ told. ap map.get (c.in_ok-node.ensures.same told))
+    c.args.query.now.after (64 - length c.args.id.now) (63 - length c.args.id.now) (hashes_above c.args.parent) c.args.id.now
+    c.args.wanted.now c.args.query.now.most (shown c.args.page.now) (shown c.take.new.self) (held c.in_ok-node.node.value)
+    c.in-Some.inner.hashes
+    (level_of g.H.NodeHash.half c.args.query.now.kind (hashes_above c.args.parent) c.args.id.now c.args.wanted.now
+    (held c.in_ok-node.node.value) c.in-Some.inner.hashes c.known.ensures.short c.in_ok-node.ensures.fits takes.below_is)
+    (skip_is false c.skips.result c.args.query.now.after c.args.id.now c.args.wanted.now c.args.query.now.most c.len.result
+    c.args.page.now.leaves.items c.if-skips.false c.skips.ensures (c.len.ensures ∙ c.args.page.now.leaves.ok.0))
+    c.in_ok-node.ensures.fits c.in_ok-node.ensures.held takes c.in_err-visit_branches-in-Some.field-0.0
+    c.in_err-visit_branches-in-Some.ensures.visited)
+
+pub visit-returns-in-None-clause-visited : goal.visit-returns-in-None-clause-visited
+visit-returns-in-None-clause-visited g t c =
+    leaf_visited g.H.NodeHash.half c.args.query.now.kind g.S.NodeSource.tells (map.get (g.S.NodeSource.stored c.args.source.now))
+    c.args.query.now.after (64 - length c.args.id.now) (hashes_above c.args.parent) c.args.id.now c.args.wanted.now
+    c.args.query.now.most (shown c.args.page.now) (held c.in_ok-node.node.value) (shown c.take.new.self)
+    (skip_is false c.skips.result c.args.query.now.after c.args.id.now c.args.wanted.now c.args.query.now.most c.len.result
+    c.args.page.now.leaves.items c.if-skips.false c.skips.ensures (c.len.ensures ∙ c.args.page.now.leaves.ok.0))
+    c.in_ok-node.ensures.fits c.in_ok-node.ensures.held
+    (subst (λ (b : Option Inner). Takes c.args.query.now.after (held c.in_ok-node.node.value) (shown c.args.page.now)
+    (shown c.take.new.self) (hashes_kept b)) c.in-None.is c.in_ok-take.ensures.taken)
+
+pub visit-returns-in_ok-visit_branches-in-Some-clause-visited : goal.visit-returns-in_ok-visit_branches-in-Some-clause-visited
+visit-returns-in_ok-visit_branches-in-Some-clause-visited g t c =
+    let takes : Takes c.args.query.now.after (held c.in_ok-node.node.value) (shown c.args.page.now) (shown c.take.new.self)
+    (Some c.in-Some.inner.hashes) =
+    subst (λ (b : Option Inner). Takes c.args.query.now.after (held c.in_ok-node.node.value) (shown c.args.page.now)
+    (shown c.take.new.self) (hashes_kept b)) c.in-Some.is c.in_ok-take.ensures.taken in
+    inner_visited g.H.NodeHash.half c.args.query.now.kind g.S.NodeSource.tells (map.get (g.S.NodeSource.stored c.args.source.now))
+    (map.get (g.S.NodeSource.stored c.node_at.new.source)) (λ told. ap map.get (c.in_ok-node.ensures.same told))
+    c.args.query.now.after (64 - length c.args.id.now) (63 - length c.args.id.now) (hashes_above c.args.parent) c.args.id.now
+    c.args.wanted.now c.args.query.now.most (shown c.args.page.now) (shown c.take.new.self) (held c.in_ok-node.node.value)
+    c.in-Some.inner.hashes
+    (level_of g.H.NodeHash.half c.args.query.now.kind (hashes_above c.args.parent) c.args.id.now c.args.wanted.now
+    (held c.in_ok-node.node.value) c.in-Some.inner.hashes c.known.ensures.short c.in_ok-node.ensures.fits takes.below_is)
+    (skip_is false c.skips.result c.args.query.now.after c.args.id.now c.args.wanted.now c.args.query.now.most c.len.result
+    c.args.page.now.leaves.items c.if-skips.false c.skips.ensures (c.len.ensures ∙ c.args.page.now.leaves.ok.0))
+    c.in_ok-node.ensures.fits c.in_ok-node.ensures.held takes _
+    c.in_ok-visit_branches-in-Some.ensures.visited
+
+pub visit_branches-loop-b-init : goal.visit_branches-loop-b-init
+visit_branches-loop-b-init g t c =
+    record {
+      visited = nothing_done _ c.args.query.now.kind _ _ _ _ _ (λ rest. refl);
+      further = λ all. all;
+      same = λ told. refl;
+      later =
+          omega arith;
+    }
+
+pub visit_branches-returns-in_err-visit-clause-visited : goal.visit_branches-returns-in_err-visit-clause-visited
+visit_branches-returns-in_err-visit-clause-visited g t c =
+    handed_on g.H.NodeHash.half c.args.query.now.kind g.S.NodeSource.tells (map.get (g.S.NodeSource.stored c.args.source.now)) _
+    c.args.query.now.most (shown c.args.page.now) _ _ c.in_err-visit.field-0.0 c.from_residual.ensures
+    (branch_refused g.H.NodeHash.half c.args.query.now.kind g.S.NodeSource.tells (map.get (g.S.NodeSource.stored c.args.source.now))
+    (map.get (g.S.NodeSource.stored c.loop-b.source)) (λ told. ap map.get (c.loop-b.invariant.same told))
+    (branch_reading g.H.NodeHash.half c.args.query.now.kind c.args.query.now.after (63 - length c.args.id.now) c.args.inner.now.hashes
+    c.args.id.now) c.args.query.now.most c.loop-b.b (shown c.args.page.now)
+    (shown c.loop-b.page) c.loop-b.invariant.visited _
+    (reading_is g.H.NodeHash.half c.args.query.now.kind c.args.query.now.after c.args.inner.now.hashes c.args.id.now c.in-Some.below
+    c.loop-b.b c.branch-inner.result c.requires c.in-Some.ensures.below c.branch-inner.ensures) c.loop-b-test.true
+    c.in_err-visit.field-0.0
+    c.in_err-visit.ensures.visited)
+
+pub visit_branches-loop-b-preserved : goal.visit_branches-loop-b-preserved
+visit_branches-loop-b-preserved g t c = record {
+  visited =
+      branch_visited g.H.NodeHash.half c.args.query.now.kind g.S.NodeSource.tells (map.get (g.S.NodeSource.stored c.args.source.now))
+      (map.get (g.S.NodeSource.stored c.loop-b.source)) (λ told. ap map.get (c.loop-b.invariant.same told))
+      (branch_reading g.H.NodeHash.half c.args.query.now.kind c.args.query.now.after (63 - length c.args.id.now)
+      c.args.inner.now.hashes c.args.id.now) c.args.query.now.most c.loop-b.b (shown c.args.page.now)
+      (shown c.loop-b.page) c.loop-b.invariant.visited _
+      (reading_is g.H.NodeHash.half c.args.query.now.kind c.args.query.now.after c.args.inner.now.hashes c.args.id.now c.in-Some.below
+      c.loop-b.b c.branch-inner.result c.requires c.in-Some.ensures.below c.branch-inner.ensures) _
+      c.in_ok-visit.ensures.visited;
+  further = λ all. c.in_ok-visit.ensures.further (c.loop-b.invariant.further all);
+  same = λ told. c.in_ok-visit.ensures.same told ∙ c.loop-b.invariant.same told;
+  later = omega arith;
+}

@@ -1,0 +1,11 @@
+use Rattle.std.proofs.Common.{ap, ◌∙◌, List, ℕ, length, take, is_lt}
+use Rattle.nib_path.specs.Paths.{nibbles}
+use Rattle.map_cursor.proofs.Orders.{passed_is}
+use Rattle.map_cursor.proofs.visits.is_before.Goals as goal
+
+pub returns : goal.returns
+returns c =
+    c.is_lt.ensures ∙ ap is_lt c.cmp.ensures
+    ∙ passed_is c.args.id.now c.of_key-reached.result c.args.after.now c.id.result c.id-2.result c.known.ensures c.known_key.ensures
+    (c.of_key-reached.ensures ∙ ap (λ n. take n (nibbles c.after.inside.bytes)) c.depth.ensures
+    ∙ ap (λ (k : List ℕ). take (length c.args.id.now) (nibbles k)) c.after.view_is) c.id.ensures c.id-2.ensures

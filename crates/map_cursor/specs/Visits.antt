@@ -1,0 +1,41 @@
+-- What a visit of places adds to a page, and why one ends.
+use Rattle.std.specs.Prelude.{◌≡◌, ◌-◌, ◌++◌, ℕ, Bool, List, [], ◌∷◌, length, Option, Some, Result, Ok, Err}
+use Rattle.std.specs.List.{slice_index_or}
+use Rattle.ledger_spec.specs.declared.Kind.{Kind}
+use Rattle.ledger_spec.specs.Bytes.{Hash, Half, Lookup, Items, zero_hash}
+use Rattle.ledger_spec.specs.Forms.{Held}
+use Rattle.ledger_spec.specs.Pages.{page_from, said, wants, Reading}
+use Rattle.path_proof.specs.declared.reading.ReadFault.{ReadFault}
+use Rattle.path_proof.specs.Sources.{AreHeld}
+use Rattle.path_proof.specs.Ways.{Ends}
+use Rattle.map_cursor.specs.Shown.{Shown}
+
+-- a page of at most so many items has more: what a reading says of the nodes that were read
+pub record Visited (half : Half) (tells : Bool) (nodes : Lookup) (reading : Reading) (most : ℕ) (s t : Shown) : Type 0 where
+  pub items : Items
+  pub more : List Held
+  pub items_are : t.items ≡ s.items ++ items
+  pub used_are : t.used ≡ s.used ++ more
+  pub heard : (rest : List Held) → reading (most - length s.items) (more ++ rest) ≡ said items rest
+  pub stored : AreHeld half tells nodes more
+
+-- a reading of the nodes that were read wants one more for a place, where this ends the visit
+pub record Refused (half : Half) (kind : Kind) (tells : Bool) (nodes : Lookup) (reading : Reading) (n : ℕ) (fault : ReadFault) : Type 0
+  where
+    pub more : List Held
+    pub above : Option (List Hash)
+    pub path : List ℕ
+    pub hash : Hash
+    pub heard : reading n more ≡ wants above path hash
+    pub stored : AreHeld half tells nodes more
+    pub ends : Ends half kind tells nodes above path hash fault
+
+-- the outcome of a visit
+abbrev pub Visits : {X : Type 0} → Half → Kind → Bool → Lookup → Reading → ℕ → Shown → Shown → Result X ReadFault → Type 0
+Visits half kind tells nodes reading most s t (Ok x) = Visited half tells nodes reading most s t
+Visits half kind tells nodes reading most s t (Err fault) = Refused half kind tells nodes reading (most - length s.items) fault
+
+-- the reading of a branch below an inner node
+abbrev pub branch_reading : Half → Kind → Hash → ℕ → List Hash → List ℕ → ℕ → Reading
+branch_reading half kind after left hashes path b =
+    page_from half kind after left (Some hashes) (path ++ b ∷ []) (slice_index_or hashes b zero_hash)

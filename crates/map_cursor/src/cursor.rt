@@ -1,0 +1,91 @@
+//! The next items of a map.
+ghost use Rattle.std.specs.Prelude.{◌≡◌, ◌≢◌, ◌≤◌, IfErr, IfOk, IsTrue};
+ghost use Rattle.std.specs.FinMap as map;
+ghost use Rattle.run_io.specs.Bytes.{Rose};
+ghost use Rattle.ledger_spec.specs.Findings.{items_of};
+ghost use Rattle.ledger_spec.specs.Pages.{IsPageOf, IsPageOrShows, after_key, heard_from};
+ghost use Rattle.path_proof.specs.Paths.{held_nodes};
+ghost use Rattle.path_proof.specs.Sources.{AreHeld};
+ghost use Rattle.map_cursor.specs.Shown.{items_in, HasFurther};
+ghost use Rattle.map_cursor.specs.Visits.{Refused};
+
+use crate::Page;
+use crate::visits::{Query, visit};
+use half_hash::{Hash32, NodeHash, known_half};
+use nib_path::NodeId;
+use path_proof::{NodeSource, ReadFault, known_key};
+use shamap_node::Kind;
+use std::alloc::Global;
+
+/// The first `n` items with keys greater than `after` of the map below the root, all of them where there
+/// are fewer, with each node that was read. The first place that is wanted and can't be passed is the
+/// answer else: nothing is held for it, or what is held breaks a rule there.
+pub fn page<H: NodeHash, S: NodeSource<H>>(
+    alloc: Global,
+    source: &mut S,
+    root: &Hash32,
+    kind: Kind,
+    after: &Hash32,
+    n: usize,
+) -> Result<Page, ReadFault>
+    ensures page { IfOk result (λ p. IsPageOf H.half kind root.now after.now n (held_nodes p.used.items) (items_in p.leaves.items)) }
+
+    // the leaves are those of the nodes that are leaves behind the key
+    ensures leaves { IfOk result (HasFurther after.now) }
+
+    // what is used is held, where the source tells what it holds
+    ensures held { IfOk result (λ p. AreHeld H.half S.tells (map.get (S.stored source.old)) (held_nodes p.used.items)) }
+
+    // the items are then those of the source's own map
+    ensures own { IfOk result (λ p. IsTrue S.tells →
+        items_in p.leaves.items ≡ after_key after.now n (items_of H.half (map.get (S.stored source.old)) kind root.now)) }
+
+    // they are those of each map of states or transactions with this root, or the nodes show two with one hash
+    ensures law { IfOk result (λ p. kind ≢ Kind.Set →
+        IsPageOrShows H.half kind root.now after.now n (held_nodes p.used.items) (items_in p.leaves.items)) }
+    ensures cause { IfErr result
+        (Refused H.half kind S.tells (map.get (S.stored source.old)) (heard_from H.half kind root.now after.now) n) }
+    ensures fault { IfErr result (λ fault. fault ≡ ReadFault.Fault → Rose (S.faults source.old) (S.faults source.new)) }
+    ensures same { IsTrue S.tells → S.stored source.new ≡ S.stored source.old }
+    ensures later { S.faults source.old ≤ S.faults source.new }
+{
+    known_key(after);
+    known_half::<H>();
+    read_page::<H, S>(alloc, source, root, kind, after, n)
+}
+
+// The same as `page`.
+fn read_page<H: NodeHash, S: NodeSource<H>>(
+    alloc: Global,
+    source: &mut S,
+    root: &Hash32,
+    kind: Kind,
+    after: &Hash32,
+    n: usize,
+) -> Result<Page, ReadFault>
+    ensures page { IfOk result (λ p. IsPageOf H.half kind root.now after.now n (held_nodes p.used.items) (items_in p.leaves.items)) }
+    ensures leaves { IfOk result (HasFurther after.now) }
+    ensures held { IfOk result (λ p. AreHeld H.half S.tells (map.get (S.stored source.old)) (held_nodes p.used.items)) }
+    ensures cause { IfErr result
+        (Refused H.half kind S.tells (map.get (S.stored source.old)) (heard_from H.half kind root.now after.now) n) }
+    ensures fault { IfErr result (λ fault. fault ≡ ReadFault.Fault → Rose (S.faults source.old) (S.faults source.new)) }
+    ensures same { IsTrue S.tells → S.stored source.new ≡ S.stored source.old }
+    ensures later { S.faults source.old ≤ S.faults source.new }
+{
+    let mut page = Page::new(alloc);
+    let query = Query {
+        kind,
+        after: *after,
+        most: n,
+    };
+    visit::<H, S>(
+        alloc,
+        source,
+        &query,
+        None,
+        &NodeId::root(),
+        root,
+        &mut page,
+    )?;
+    Ok(page)
+}

@@ -1,0 +1,74 @@
+//! A page and what it holds.
+ghost use Rattle.std.specs.Prelude.{◌≡◌, [], IfErr, IfOk, OnOk};
+ghost use Rattle.ledger_spec.specs.Pages.{is_behind};
+ghost use Rattle.shamap_node.specs.Nodes.{held, held_leaf};
+ghost use Rattle.path_proof.specs.Paths.{hashes_kept};
+ghost use Rattle.map_cursor.specs.Shown.{shown, entry_of, HasFurther, Takes};
+
+use half_hash::Hash32;
+use path_proof::ReadFault;
+use shamap_node::{Inner, Leaf, Node};
+use std::alloc::Global;
+use std::sync::Arc;
+
+/// Items of a map in the order of their keys, with the nodes that say so, each before those below it.
+#[derive(Drop)]
+pub struct Page {
+    pub leaves: Vec<Arc<Node>>,
+    pub used: Vec<Arc<Node>>,
+}
+
+impl Page {
+    // Nothing yet.
+    pub(crate) fn new(alloc: Global) -> Page
+        ensures leaves { result.leaves.items ≡ [] }
+        ensures used { result.used.items ≡ [] }
+    {
+        Page {
+            leaves: Vec::new(alloc),
+            used: Vec::new(alloc),
+        }
+    }
+
+    // Adds a node, which is a further leaf of the page where its key is behind this one. The inner node
+    // is handed back, if it is one.
+    pub(crate) fn take(
+        &mut self,
+        node: Arc<Node>,
+        after: &Hash32,
+    ) -> Result<Option<Inner>, ReadFault>
+        ensures taken { IfOk result (λ below. Takes after.now (held node.value) (shown self.old) (shown self.new) (hashes_kept below)) }
+        ensures further { OnOk result (HasFurther after.now self.old → HasFurther after.now self.new) }
+        ensures memory { IfErr result (λ fault. fault ≡ ReadFault.Memory) }
+    {
+        let below = match &*node {
+            Node::Inner(inner) => Some(*inner),
+            Node::Leaf(leaf) => {
+                if comes_behind(leaf, after) {
+                    self.leaves.push(another(&node)?)?;
+                }
+                None
+            }
+        };
+        self.used.push(node)?;
+        Ok(below)
+    }
+}
+
+// Whether the leaf's key is greater.
+fn comes_behind(leaf: &Leaf, after: &Hash32) -> bool
+    ensures { result ≡ is_behind after.now (entry_of (held_leaf leaf.now)) }
+{
+    leaf.item.key().cmp(after).is_gt()
+}
+
+// Another owner of the node.
+fn another(node: &Arc<Node>) -> Result<Arc<Node>, ReadFault>
+    ensures same { IfOk result (λ a. a.value ≡ node.now.value) }
+    ensures memory { IfErr result (λ fault. fault ≡ ReadFault.Memory) }
+{
+    match Arc::try_clone(node) {
+        Ok(node) => Ok(node),
+        Err(_) => Err(ReadFault::Memory),
+    }
+}

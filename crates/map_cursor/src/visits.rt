@@ -1,0 +1,115 @@
+//! The visit of the places below a root, branches rising.
+ghost use Rattle.std.specs.Prelude.{◌≡◌, ◌≤◌, ◌<◌, ◌-◌, ◌==◌, ◌||◌, ◌++◌, ◌∷◌, [], length, IfErr, IsTrue, OnOk};
+ghost use Rattle.std.specs.FinMap as map;
+ghost use Rattle.std.specs.List.{range_with_len, slice_index_or};
+ghost use Rattle.half_hash.specs.Zero.{zero_hash, is_zero as all_zero};
+ghost use Rattle.run_io.specs.Bytes.{Rose};
+ghost use Rattle.ledger_spec.specs.Pages.{page_from, in_turn, is_passed, is_skipped};
+ghost use Rattle.shamap_node.specs.Nodes.{hashes_above};
+ghost use Rattle.map_cursor.specs.Shown.{shown, HasFurther};
+ghost use Rattle.map_cursor.specs.Visits.{Visits, branch_reading};
+
+use crate::Page;
+use half_hash::{Hash32, NodeHash};
+use nib_path::NodeId;
+use path_proof::{NodeSource, ReadFault, known_key, node_at};
+use shamap_node::{Inner, Kind};
+use std::alloc::Global;
+
+/// What is asked: at most so many items of a map of this kind, behind this key.
+#[derive(Clone, Copy)]
+pub(crate) struct Query {
+    pub kind: Kind,
+    pub after: Hash32,
+    pub most: usize,
+}
+
+impl Query {
+    // Whether nothing is wanted from a place with this hash, after so many items.
+    fn skips(&self, id: &NodeId, wanted: &Hash32, found: usize) -> bool
+        ensures { result ≡ is_skipped self.now.after id.now wanted.now (self.now.most - found) }
+    {
+        found >= self.most || wanted.is_zero() || is_before(id, &self.after)
+    }
+}
+
+// Whether each key that lies under the place is less than this one.
+fn is_before(id: &NodeId, after: &Hash32) -> bool
+    ensures { result ≡ is_passed after.now id.now }
+{
+    id.known();
+    known_key(after);
+    let reached = NodeId::of_key(&after.bytes, id.depth());
+    let own = Hash32 { bytes: id.id() };
+    own.cmp(&Hash32 {
+        bytes: reached.id(),
+    })
+    .is_lt()
+}
+
+/// Adds to the page what is found at a place and below it: the place with this hash, below this inner
+/// node (none at the root).
+#[cycle(visits)]
+pub(crate) fn visit<H: NodeHash, S: NodeSource<H>>(
+    alloc: Global,
+    source: &mut S,
+    query: &Query,
+    parent: Option<&Inner>,
+    id: &NodeId,
+    wanted: &Hash32,
+    page: &mut Page,
+) -> Result<(), ReadFault>
+    ensures visited { Visits H.half query.now.kind S.tells (map.get (S.stored source.old))
+        (page_from H.half query.now.kind query.now.after (64 - length id.now) (hashes_above parent.entry) id.now wanted.now)
+        query.now.most (shown page.old) (shown page.new) result }
+    ensures further { OnOk result (HasFurther query.now.after page.old → HasFurther query.now.after page.new) }
+    ensures fault { IfErr result (λ fault. fault ≡ ReadFault.Fault → Rose (S.faults source.old) (S.faults source.new)) }
+    ensures same { IsTrue S.tells → S.stored source.new ≡ S.stored source.old }
+    ensures later { S.faults source.old ≤ S.faults source.new }
+{
+    if query.skips(id, wanted, page.leaves.len()) {
+        return Ok(());
+    }
+    id.known();
+    let node = node_at::<H, S>(alloc, source, query.kind, parent, id, wanted)?;
+    match page.take(node, &query.after)? {
+        None => Ok(()),
+        Some(inner) => Ok(visit_branches::<H, S>(alloc, source, query, &inner, id, page)?),
+    }
+}
+
+// Adds what is found below an inner node.
+#[cycle(visits)]
+fn visit_branches<H: NodeHash, S: NodeSource<H>>(
+    alloc: Global,
+    source: &mut S,
+    query: &Query,
+    inner: &Inner,
+    id: &NodeId,
+    page: &mut Page,
+) -> Result<(), ReadFault>
+    requires { length id.now < 64 }
+    ensures visited { Visits H.half query.now.kind S.tells (map.get (S.stored source.old))
+        (in_turn (branch_reading H.half query.now.kind query.now.after (63 - length id.now) inner.now.hashes id.now) (range_with_len 0 16))
+        query.now.most (shown page.old) (shown page.new) result }
+    ensures further { OnOk result (HasFurther query.now.after page.old → HasFurther query.now.after page.new) }
+    ensures fault { IfErr result (λ fault. fault ≡ ReadFault.Fault → Rose (S.faults source.old) (S.faults source.new)) }
+    ensures same { IsTrue S.tells → S.stored source.new ≡ S.stored source.old }
+    ensures later { S.faults source.old ≤ S.faults source.new }
+{
+    for b in 0..16u8 {
+        let Some(below) = id.child(b) else {
+            unreachable!();
+        };
+        visit::<H, S>(
+            alloc,
+            source,
+            query,
+            Some(inner),
+            &below,
+            &inner.branch(b),
+            page,
+        )?;
+    }
+    Ok(())
+}
