@@ -1,0 +1,5 @@
+pub mod Counts
+pub mod Numbers
+pub mod Doubts
+pub mod Calls
+pub mod Shelves

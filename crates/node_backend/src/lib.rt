@@ -1,0 +1,59 @@
+//! Backends, which hold forms under their hashes and may fail, and shelves, which make them.
+#![tactic(auto)]
+
+mod back;
+mod memory;
+mod shelf;
+
+pub use back::{BackFault, Backend, Shelf};
+pub use memory::MemBackend;
+pub use shelf::MemShelf;
+
+#[cfg(test)]
+mod tests {
+    use super::*;
+    use half_hash::Hash32;
+    use std::test::Fail;
+
+    /// A hash with this first byte, and zeros.
+    fn hash(first: u8) -> Hash32 {
+        let mut bytes = [0; 32];
+        bytes[0] = first;
+        Hash32 { bytes }
+    }
+
+    #[test]
+    fn a_backend_answers_what_was_put(rt: HostRuntime) -> Result<(), Fail> {
+        let alloc = rt.alloc();
+        let mut backend = MemBackend::new(alloc, Vec::new(alloc));
+        let key = hash(0xFA);
+        backend.put(alloc, &key, b"form")?;
+        let held = backend.get(alloc, &key)?;
+        assert!(rt; held.is_some());
+        if let Some(form) = held {
+            assert_eq!(rt; form.bytes(), b"form".as_slice());
+        }
+        assert_eq!(rt; backend.next(alloc, None)?, Some(key));
+        assert_eq!(rt; backend.next(alloc, Some(&key))?, None);
+        assert_eq!(rt; backend.gets(), 1);
+        assert_eq!(rt; backend.faults(), 0);
+        Ok(())
+    }
+
+    #[test]
+    fn a_shelf_numbers_its_backends_and_fails_by_plan(rt: HostRuntime) -> Result<(), Fail> {
+        let alloc = rt.alloc();
+        let mut plans = Vec::new(alloc);
+        plans.push(Vec::from_slice(alloc, &[1])?)?;
+        let mut shelf = MemShelf::new(alloc, plans, Vec::from_slice(alloc, &[2])?);
+        let mut first = shelf.fresh(alloc)?;
+        assert_eq!(rt; first.next(alloc, None), Err(BackFault::Fault));
+        assert_eq!(rt; first.faults(), 1);
+        assert_eq!(rt; shelf.discard(first), Err(BackFault::Fault));
+        let mut second = shelf.fresh(alloc)?;
+        assert_eq!(rt; second.next(alloc, None)?, None);
+        assert_eq!(rt; shelf.discard(second), Ok(()));
+        assert_eq!(rt; shelf.faults(), 1);
+        Ok(())
+    }
+}

@@ -1,0 +1,142 @@
+//! A backend in memory, which fails at stated calls.
+ghost use Rattle.std.specs.Prelude.{◌≡◌, ◌≢◌, ◌≤◌, ◌⊎◌, ℕ, Bool, IsTrue, true, None, IfOk, OnOk, OnErr, MatchBool, if◌then◌else◌};
+ghost use Rattle.std.specs.FinMap as map;
+ghost use Rattle.std.specs.Option.{option_copied};
+ghost use Rattle.node_table.specs.Order.{IsNext};
+ghost use Rattle.run_io.specs.Bytes.{Rose};
+ghost use Rattle.node_backend.specs.Counts.{held_sum};
+ghost use Rattle.node_backend.specs.Calls.{fails_next, faults_after};
+
+use crate::{BackFault, Backend};
+use half_hash::{Blob, Hash32};
+use node_table::NodeTable;
+use std::alloc::Global;
+
+/// A backend in memory. It fails exactly in the calls with the numbers that it is given, from 1.
+#[derive(Drop)]
+pub struct MemBackend {
+    pub(crate) number: u64,
+    pub(crate) map: NodeTable,
+    pub(crate) calls: u64,
+    pub(crate) gets: u64,
+    pub(crate) failing: Vec<u64>,
+    pub(crate) faults: u64,
+}
+
+impl MemBackend {
+    /// An empty backend that fails in these calls.
+    pub fn new(alloc: Global, failing: Vec<u64>) -> MemBackend
+        ensures map { result.map ≡ map.empty }
+        ensures counts { (result.calls ≡ 0) × (result.gets ≡ 0) × (result.faults ≡ 0) }
+        ensures failing { result.failing ≡ failing }
+        ensures number { result.number ≡ 0 }
+    {
+        MemBackend {
+            number: 0,
+            map: NodeTable::new(alloc),
+            calls: 0,
+            gets: 0,
+            failing,
+            faults: 0,
+        }
+    }
+}
+
+/// One more call, and whether it fails.
+pub(crate) fn call_fails(calls: &mut u64, faults: &mut u64, failing: &[u64]) -> bool
+    ensures called { calls.new ≡ held_sum calls.old 1 }
+    ensures fails { result ≡ fails_next calls.old failing.now }
+    ensures failed { faults.new ≡ faults_after result faults.old }
+    ensures rose { IsTrue result → Rose faults.old faults.new }
+    ensures later { faults.old ≤ faults.new }
+{
+    *calls = calls.saturating_add(1);
+    let fails = failing.contains(calls);
+    if fails {
+        *faults = faults.saturating_add(1);
+    }
+    fails
+}
+
+impl Backend for MemBackend {
+    ghost tells = { true };
+
+    ghost held = { λ b. b.map };
+
+    ghost faults = { λ b. b.faults };
+
+    ghost gets = { λ b. b.gets };
+
+    ghost number = { λ b. b.number };
+
+    ghost doubt = { λ _. None };
+
+    fn get(&mut self, alloc: Global, h: &Hash32) -> Result<Option<Blob>, BackFault>
+        ensures same { self.new.map ≡ self.old.map }
+        ensures found { IfOk result (λ b. b ≡ map.get self.old.map h.now) }
+        ensures later { self.old.faults ≤ self.new.faults }
+        ensures counted { self.new.gets ≡ held_sum self.old.gets 1 }
+        ensures risen { self.old.gets ≤ self.new.gets }
+        ensures numbered { self.new.number ≡ self.old.number }
+        ensures cause { result ≡ Err BackFault.Fault → Rose self.old.faults self.new.faults }
+        ensures exact { MatchBool (fails_next self.old.calls self.old.failing.items)
+            (result ≡ Err BackFault.Fault) (result ≢ Err BackFault.Fault) }
+        ensures failed { self.new.faults ≡ faults_after (fails_next self.old.calls self.old.failing.items) self.old.faults }
+        ensures called { (self.new.calls ≡ held_sum self.old.calls 1) × (self.new.failing ≡ self.old.failing) }
+    {
+        self.gets = self.gets.saturating_add(1);
+        if call_fails(&mut self.calls, &mut self.faults, &self.failing) {
+            return Err(BackFault::Fault);
+        }
+        match self.map.get(h) {
+            None => Ok(None),
+            Some(form) => Ok(Some(Blob::from_slice(alloc, form.bytes())?)),
+        }
+    }
+
+    fn put(&mut self, alloc: Global, h: &Hash32, form: &[u8]) -> Result<(), BackFault>
+        ensures set { OnOk result (self.new.map ≡ map.insert self.old.map h.now form.now) }
+        ensures unset { OnErr result (self.new.map ≡ self.old.map) }
+        ensures later { self.old.faults ≤ self.new.faults }
+        ensures uncounted { self.new.gets ≡ self.old.gets }
+        ensures numbered { self.new.number ≡ self.old.number }
+        ensures cause { result ≡ Err BackFault.Fault → Rose self.old.faults self.new.faults }
+        ensures exact { MatchBool (fails_next self.old.calls self.old.failing.items)
+            (result ≡ Err BackFault.Fault) (result ≢ Err BackFault.Fault) }
+        ensures failed { self.new.faults ≡ faults_after (fails_next self.old.calls self.old.failing.items) self.old.faults }
+        ensures called { (self.new.calls ≡ held_sum self.old.calls 1) × (self.new.failing ≡ self.old.failing) }
+    {
+        if call_fails(&mut self.calls, &mut self.faults, &self.failing) {
+            return Err(BackFault::Fault);
+        }
+        let form = Blob::from_slice(alloc, form)?;
+        self.map.insert(*h, form)?;
+        Ok(())
+    }
+
+    fn next(&mut self, _: Global, after: Option<&Hash32>) -> Result<Option<Hash32>, BackFault>
+        ensures same { self.new.map ≡ self.old.map }
+        ensures next { IfOk result (IsNext self.old.map (option_copied after.entry)) }
+        ensures later { self.old.faults ≤ self.new.faults }
+        ensures uncounted { self.new.gets ≡ self.old.gets }
+        ensures numbered { self.new.number ≡ self.old.number }
+        ensures cause { result ≡ Err BackFault.Fault → Rose self.old.faults self.new.faults }
+        ensures exact { MatchBool (fails_next self.old.calls self.old.failing.items)
+            (result ≡ Err BackFault.Fault) (result ≢ Err BackFault.Fault) }
+        ensures failed { self.new.faults ≡ faults_after (fails_next self.old.calls self.old.failing.items) self.old.faults }
+        ensures called { (self.new.calls ≡ held_sum self.old.calls 1) × (self.new.failing ≡ self.old.failing) }
+    {
+        if call_fails(&mut self.calls, &mut self.faults, &self.failing) {
+            return Err(BackFault::Fault);
+        }
+        Ok(self.map.next(after))
+    }
+
+    fn faults(&self) -> u64 {
+        self.faults
+    }
+
+    fn gets(&self) -> u64 {
+        self.gets
+    }
+}
