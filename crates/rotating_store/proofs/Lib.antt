@@ -1,0 +1,3 @@
+pub mod Merging
+pub mod Keeping
+pub mod Nexts

@@ -1,0 +1,30 @@
+use Rattle.std.proofs.Common.{refl}
+use Rattle.node_backend.specs.declared.back.BackFault.{BackFault}
+use Rattle.rotating_store.proofs.Keeping.{numbered_as, keeps_as, keeps_copy, moved_keeps, moved_there}
+use Rattle.rotating_store.proofs.store.RotStore.forward.Goals as goal
+
+pub invariant_of-self : goal.invariant_of-self
+invariant_of-self g c = (
+  numbered_as _ _ _ _ _ _ _ c.self.invariant.0 c.copy_over.ensures.numbers.1 c.copy_over.ensures.numbers.0,
+  λ tells. keeps_as _ _ _ _ _ _ _ _ _ _ (keeps_copy _ _ _ _ _ _ _ _ c.args.h.now (c.self.invariant.1 tells)
+      (c.copy_over.ensures.writes tells)) refl (c.copy_over.ensures.second tells) refl c.copy_over.ensures.doubt,
+)
+
+pub returns-in_err-moved-clause-nodes : goal.returns-in_err-moved-clause-nodes
+returns-in_err-moved-clause-nodes g c tells = rw (← c.self.view_is)
+    (moved_keeps _ _ _ _ c.args.h.now c.copy_over.result (c.copy_over.ensures.moves tells) (c.copy_over.ensures.second tells))
+
+pub invariant_of-self-2 : goal.invariant_of-self-2
+invariant_of-self-2 g c = (
+  numbered_as _ _ _ _ _ _ _ c.self.invariant.0 c.copy_over.ensures.numbers.1 c.copy_over.ensures.numbers.0,
+  λ tells. keeps_as _ _ _ _ _ _ _ _ _ _ (keeps_copy _ _ _ _ _ _ _ _ c.args.h.now (c.self.invariant.1 tells)
+      (c.copy_over.ensures.writes tells)) refl (c.copy_over.ensures.second tells) refl c.copy_over.ensures.doubt,
+)
+
+pub returns-clause-nodes : goal.returns-clause-nodes
+returns-clause-nodes g c tells = rw (← c.self.view_is) (moved_keeps _ _ _ _ c.args.h.now c.copy_over.result
+    (c.copy_over.ensures.moves tells) (c.copy_over.ensures.second tells))
+
+pub returns-clause-there : goal.returns-clause-there
+returns-clause-there g c tells = rw (← c.self.view_is) (moved_there BackFault _ _ _ c.args.h.now c.in_ok-moved.moved
+    (c.in_ok-moved.ensures.moves tells))

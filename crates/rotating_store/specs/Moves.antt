@@ -1,0 +1,22 @@
+-- What a copy forward answers.
+use Rattle.std.specs.Prelude.{◌≡◌, ◌⊎◌, Option, None, Some, Result, Ok, Err, IsSome}
+use Rattle.std.specs.FinMap as finite
+use Rattle.ledger_spec.specs.Bytes.{Bytes, Hash, Nodes}
+use Rattle.node_backend.specs.Doubts.{Pair, FailedPut}
+use Rattle.rotating_store.specs.declared.store.Moved.{Moved}
+use Rattle.rotating_store.specs.declared.store.Moved.TheVariants as moved
+
+-- the archive alone has the form
+abbrev pub IsOld : Nodes → Nodes → Hash → Bytes → Type 0
+IsOld writable archive h form = (finite.get writable h ≡ None) × (finite.get archive h ≡ Some form)
+
+-- copied is what the archive alone has
+abbrev pub Moves : {E : Type 0} → Nodes → Nodes → Hash → Result Moved E → Nodes → Type 0
+Moves w a h (Ok moved.Copied) w' = (form : Bytes) × IsOld w a h form × (w' ≡ finite.insert w h form)
+Moves w a h (Ok moved.There) w' = IsSome (finite.get w h) × (w' ≡ w)
+Moves w a h (Ok moved.Nowhere) w' = (finite.get w h ≡ None) × (finite.get a h ≡ None) × (w' ≡ w)
+Moves w a h (Err e) w' = (w' ≡ w) ⊎ ((form : Bytes) × IsOld w a h form × (w' ≡ finite.insert w h form))
+
+-- the backend that is written, and its pair in doubt, are as before, or after a put of what the archive alone has
+abbrev pub Writes : Nodes → Nodes → Option Pair → Hash → Nodes → Option Pair → Type 0
+Writes w a doubt h w' doubt' = ((w' ≡ w) × (doubt' ≡ doubt)) ⊎ ((form : Bytes) × IsOld w a h form × FailedPut w doubt (h, form) w' doubt')

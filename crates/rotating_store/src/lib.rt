@@ -1,0 +1,11 @@
+//! A store over two backends, the writable one and the archive. Callers see one map. A swap drops the
+//! archive: what was copied forward, or written since the last swap, stays, and nothing else.
+#![tactic(auto)]
+
+mod pair;
+mod store;
+
+pub use store::{Moved, Parts, Put, RotStore, StoreFault, Unopened};
+
+#[cfg(test)]
+mod tests;

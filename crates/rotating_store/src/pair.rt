@@ -1,0 +1,104 @@
+//! Two backends as one: what the first lacks is looked for in the second.
+ghost use Rattle.std.specs.Prelude.{◌≡◌, ◌≤◌, ◌⊎◌, IsTrue, IfOk, OnOk, OnErr};
+ghost use Rattle.std.specs.FinMap as map;
+ghost use Rattle.std.specs.Option.{option_copied};
+ghost use Rattle.node_table.specs.Order.{IsNext};
+ghost use Rattle.run_io.specs.Bytes.{Rose};
+ghost use Rattle.node_backend.specs.Counts.{held_sum};
+ghost use Rattle.rotating_store.specs.Stores.{merged, lesser_of};
+ghost use Rattle.rotating_store.specs.Moves.{Moves, Writes};
+
+use crate::store::Moved;
+use half_hash::{Blob, Hash32};
+use node_backend::{BackFault, Backend};
+use std::alloc::Global;
+
+/// The form of a hash.
+pub(crate) fn get_either<B: Backend>(
+    first: &mut B,
+    second: &mut B,
+    alloc: Global,
+    h: &Hash32,
+) -> Result<Option<Blob>, BackFault>
+    ensures first { IsTrue B.tells → B.held first.new ≡ B.held first.old }
+    ensures second { IsTrue B.tells → B.held second.new ≡ B.held second.old }
+    ensures found { IsTrue B.tells → IfOk result (λ b. b ≡ map.get (merged (B.held first.old) (B.held second.old)) h.now) }
+    ensures numbers { (B.number first.new ≡ B.number first.old) × (B.number second.new ≡ B.number second.old) }
+    ensures doubts { (B.doubt first.new ≡ B.doubt first.old) × (B.doubt second.new ≡ B.doubt second.old) }
+    ensures later_first { B.faults first.old ≤ B.faults first.new }
+    ensures later_second { B.faults second.old ≤ B.faults second.new }
+    ensures asked_first { B.gets first.new ≡ held_sum (B.gets first.old) 1 }
+    ensures asked_second { (B.gets second.new ≡ B.gets second.old) ⊎ (B.gets second.new ≡ held_sum (B.gets second.old) 1) }
+    ensures cause { result ≡ Err BackFault.Fault
+        → Rose (B.faults first.old) (B.faults first.new) ⊎ Rose (B.faults second.old) (B.faults second.new) }
+{
+    if let Some(form) = first.get(alloc, h)? {
+        return Ok(Some(form));
+    }
+    let form = second.get(alloc, h)?;
+    Ok(form)
+}
+
+/// The lesser of two hashes, or the one that there is.
+fn lesser(a: Option<Hash32>, b: Option<Hash32>) -> Option<Hash32>
+    ensures { result ≡ lesser_of a b }
+{
+    match (a, b) {
+        (None, b) => b,
+        (a, None) => a,
+        (Some(a), Some(b)) => { if a.cmp(&b).is_gt() { Some(b) } else { Some(a) } }
+    }
+}
+
+/// The least hash that comes after another one.
+pub(crate) fn next_of_either<B: Backend>(
+    first: &mut B,
+    second: &mut B,
+    alloc: Global,
+    after: Option<&Hash32>,
+) -> Result<Option<Hash32>, BackFault>
+    ensures first { IsTrue B.tells → B.held first.new ≡ B.held first.old }
+    ensures second { IsTrue B.tells → B.held second.new ≡ B.held second.old }
+    ensures next { IsTrue B.tells → IfOk result (IsNext (merged (B.held first.old) (B.held second.old)) (option_copied after.entry)) }
+    ensures numbers { (B.number first.new ≡ B.number first.old) × (B.number second.new ≡ B.number second.old) }
+    ensures doubts { (B.doubt first.new ≡ B.doubt first.old) × (B.doubt second.new ≡ B.doubt second.old) }
+    ensures later_first { B.faults first.old ≤ B.faults first.new }
+    ensures later_second { B.faults second.old ≤ B.faults second.new }
+    ensures uncounted { (B.gets first.new ≡ B.gets first.old) × (B.gets second.new ≡ B.gets second.old) }
+    ensures cause { result ≡ Err BackFault.Fault
+        → Rose (B.faults first.old) (B.faults first.new) ⊎ Rose (B.faults second.old) (B.faults second.new) }
+{
+    let a = first.next(alloc, after)?;
+    let b = second.next(alloc, after)?;
+    Ok(lesser(a, b))
+}
+
+/// Copies a form from the second to the first, where that lacks it.
+pub(crate) fn copy_over<B: Backend>(
+    first: &mut B,
+    second: &mut B,
+    alloc: Global,
+    h: &Hash32,
+) -> Result<Moved, BackFault>
+    ensures moves { IsTrue B.tells → Moves (B.held first.old) (B.held second.old) h.now result (B.held first.new) }
+    ensures writes { IsTrue B.tells
+        → Writes (B.held first.old) (B.held second.old) (B.doubt first.old) h.now (B.held first.new) (B.doubt first.new) }
+    ensures second { IsTrue B.tells → B.held second.new ≡ B.held second.old }
+    ensures numbers { (B.number first.new ≡ B.number first.old) × (B.number second.new ≡ B.number second.old) }
+    ensures doubt { B.doubt second.new ≡ B.doubt second.old }
+    ensures later_first { B.faults first.old ≤ B.faults first.new }
+    ensures later_second { B.faults second.old ≤ B.faults second.new }
+    ensures gets_first { B.gets first.old ≤ B.gets first.new }
+    ensures gets_second { B.gets second.old ≤ B.gets second.new }
+    ensures cause { result ≡ Err BackFault.Fault
+        → Rose (B.faults first.old) (B.faults first.new) ⊎ Rose (B.faults second.old) (B.faults second.new) }
+{
+    if first.get(alloc, h)?.is_some() {
+        return Ok(Moved::There);
+    }
+    let Some(form) = second.get(alloc, h)? else {
+        return Ok(Moved::Nowhere);
+    };
+    first.put(alloc, h, form.bytes())?;
+    Ok(Moved::Copied)
+}
