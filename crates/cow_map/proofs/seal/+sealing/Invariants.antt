@@ -1,0 +1,24 @@
+use Rattle.std.proofs.Common.{ℕ, ◌+◌, ◌*◌, List}
+use Rattle.ledger_spec.specs.Bytes.{Lookup}
+use Rattle.ledger_spec.specs.Tree.{Entry}
+use Rattle.cow_map.specs.declared.link.Link.{Link}
+use Rattle.cow_map.specs.declared.link.Link.TheVariants.{Empty, Unloaded, Own}
+use Rattle.cow_map.specs.Sealing.{Stand, SealsFront}
+use Rattle.cow_map.proofs.seal.+sealing.Given as goal
+
+abbrev pub place : Link → ℕ
+place Empty = 0
+place (Unloaded h) = 0
+place (Own i) = 2 * i + 2
+
+abbrev pub decreases-seal_link : goal.decreases-seal_link
+decreases-seal_link g l = place l.link.now
+
+abbrev pub decreases-inner_form : goal.decreases-inner_form
+decreases-inner_form g l = 2 * l.at + 1
+
+abbrev pub invariant-inner_form-loop-b : goal.invariant-inner_form-loop-b
+invariant-inner_form-loop-b g l =
+    (stored : Lookup) (left : ℕ) (path : List ℕ) (kids : ℕ → List Entry)
+    → Stand g.H.NodeHash.half stored l.kind l.arena left path l.links kids
+    → SealsFront g.H.NodeHash.half l.kind l.arena l.links l.initial.forms.items l.forms.items l.bytes.items l.b stored left

@@ -1,0 +1,11 @@
+pub mod Bodies
+pub mod Trees
+pub mod Ways
+pub mod Shown
+pub mod Looks
+pub mod Edits
+pub mod Seals
+pub mod Laws
+pub mod Sealing
+pub mod Unloaded
+pub mod Gathered

@@ -1,0 +1,68 @@
+//! Reading the data of a key.
+ghost use Rattle.std.specs.Prelude.{◌≡◌, ◌≤◌, ◌-◌, ◌∷◌, [], List, length, IsTrue, IfErr, IfOk};
+ghost use Rattle.std.specs.FinMap as map;
+ghost use Rattle.nib_path.specs.Paths.{lies_under};
+ghost use Rattle.run_io.specs.Bytes.{Rose};
+ghost use Rattle.ledger_spec.specs.Maps.{hash_cmp, get_in};
+ghost use Rattle.cow_map.specs.declared.fault.MapFault.TheVariants as causes;
+ghost use Rattle.cow_map.specs.Bodies.{IsBelow};
+ghost use Rattle.cow_map.specs.Ways.{stop_at, Goes, NamesNoForm};
+ghost use Rattle.cow_map.specs.Edits.{Gets};
+
+use crate::arena::Arena;
+use crate::look::{Seen, look};
+use crate::step::{below, toward};
+use crate::{Link, MapFault};
+use half_hash::{Blob, Hash32, NodeHash};
+use ledger_spec::Kind;
+use nib_path::NodeId;
+use path_proof::NodeSource;
+use std::alloc::Global;
+
+/// The data of a key in what a link stands for, at a place on the way to the key.
+pub(crate) fn get_at<H: NodeHash, S: NodeSource<H>>(
+    alloc: Global,
+    arena: &Arena,
+    source: &mut S,
+    kind: Kind,
+    lone: bool,
+    id: &NodeId,
+    link: &Link,
+    key: &Hash32,
+) -> Result<Option<Blob>, MapFault>
+    requires below { IsBelow (length arena.now) link.now }
+    requires under { IsTrue (lies_under id.now key.now) }
+    ensures gets { IsTrue S.tells → IfOk result
+        (Gets H.half (map.get (S.stored source.old)) kind arena.now (64 - length id.now) id.now link.now key.now) }
+    ensures way { IsTrue S.tells →
+        Goes (stop_at H.half (map.get (S.stored source.old)) kind arena.now (64 - length id.now) lone id.now link.now key.now) result }
+    ensures same { IsTrue S.tells → S.stored source.new ≡ S.stored source.old }
+    ensures later { S.faults source.old ≤ S.faults source.new }
+    ensures cause { IfErr result (λ e. e ≡ causes.Fault → Rose (S.faults source.old) (S.faults source.new)) }
+    ensures formless { IfErr result NamesNoForm }
+{
+    match look::<H, S>(alloc, arena, source, kind, lone, id, link)? {
+        Seen::Nothing => Ok(None),
+        Seen::Leaf(own, data) => Ok(if_same(own, data, key)),
+        Seen::Inner(links) => {
+            let b = toward(id, key);
+            Ok(get_at::<H, S>(
+                alloc,
+                arena,
+                source,
+                kind,
+                links.is_only(),
+                &below(id, b),
+                &links.get(b),
+                key,
+            )?)
+        }
+    }
+}
+
+// A leaf's data, if this is its key.
+fn if_same(own: Hash32, bytes: Blob, key: &Hash32) -> Option<Blob>
+    ensures { result ≡ get_in hash_cmp ((own, bytes) ∷ []) key.now }
+{
+    if own.equals(key) { Some(bytes) } else { None }
+}

@@ -1,0 +1,28 @@
+//! Finite maps of items that are edited by copying: a change appends the new nodes of its path, and
+//! nodes are shared between a map and its snapshots.
+#![tactic(auto)]
+
+mod arena;
+mod fault;
+mod get;
+mod laws;
+mod link;
+mod look;
+mod map;
+mod node;
+mod put;
+mod remove;
+mod seal;
+mod step;
+#[cfg(test)]
+mod tests;
+
+pub use fault::MapFault;
+pub use laws::{
+    a_map_stands_for_items, a_map_stays_over_what_it_reaches, nothing_is_in_the_way,
+    the_top_is_the_root,
+};
+pub use link::{Link, Links};
+pub use map::CowMap;
+pub use node::Cow;
+pub use seal::{FormOf, Sealed};

@@ -1,0 +1,10 @@
+//! The nodes that a map makes.
+use crate::Links;
+use shamap_node::Item;
+
+/// A node that a map has made: a leaf with its item, or an inner node with its links.
+#[derive(Drop)]
+pub enum Cow {
+    Leaf(Item),
+    Inner(Links),
+}

@@ -1,0 +1,195 @@
+//! Setting an item.
+ghost use Rattle.std.specs.Prelude.{◌≡◌, ◌≢◌, ◌≤◌, ◌<◌, ◌-◌, ◌∷◌, ◌++◌, [], List, length, IsTrue, IfErr, IfOk};
+ghost use Rattle.std.specs.FinMap as map;
+ghost use Rattle.nib_path.specs.Paths.{lies_under};
+ghost use Rattle.run_io.specs.Bytes.{Rose};
+ghost use Rattle.ledger_spec.specs.declared.Kind.{Kind as KindOf};
+ghost use Rattle.ledger_spec.specs.Bytes.{Bytes, Hash, Half, Lookup};
+ghost use Rattle.ledger_spec.specs.Maps.{hash_cmp, insert_in};
+ghost use Rattle.ledger_spec.specs.Tree.{Entry};
+ghost use Rattle.cow_map.specs.declared.fault.MapFault.TheVariants as causes;
+ghost use Rattle.cow_map.specs.Bodies.{IsBelow};
+ghost use Rattle.cow_map.specs.Trees.{fewest, StandsAt};
+ghost use Rattle.cow_map.specs.Ways.{stop_at, Goes, NamesNoForm};
+ghost use Rattle.cow_map.specs.Edits.{GrowsBy, Sets, LeadsTo};
+
+use crate::arena::Arena;
+use crate::look::{Seen, look};
+use crate::step::{below, known_inner, toward};
+use crate::{Link, Links, MapFault};
+use half_hash::{Hash32, Memory, NodeHash};
+use ledger_spec::Kind;
+use nib_path::NodeId;
+use path_proof::NodeSource;
+use shamap_node::Item;
+use std::alloc::Global;
+
+/// Sets an item in what a link stands for, at a place on the way to its key: the nodes on its way are
+/// made anew, and the answer is the link to the first of them.
+pub(crate) fn put_at<H: NodeHash, S: NodeSource<H>>(
+    alloc: Global,
+    arena: &mut Arena,
+    source: &mut S,
+    kind: Kind,
+    lone: bool,
+    id: &NodeId,
+    link: &Link,
+    item: Item,
+) -> Result<Link, MapFault>
+    requires below { IsBelow (length arena.old) link.now }
+    requires under { IsTrue (lies_under id.now item.key) }
+    ensures grows { GrowsBy (65 - length id.now) arena.old arena.new }
+    ensures below { IfOk result (IsBelow (length arena.new)) }
+    ensures sets { IsTrue S.tells → IfOk result (λ next.
+        let left = 64 - length id.now in
+        Sets H.half (map.get (S.stored source.old)) kind arena.old arena.new left id.now link.now next item.key item.value) }
+    ensures way { IsTrue S.tells →
+        Goes (stop_at H.half (map.get (S.stored source.old)) kind arena.old (64 - length id.now) lone id.now link.now item.key) result }
+    ensures same { IsTrue S.tells → S.stored source.new ≡ S.stored source.old }
+    ensures later { S.faults source.old ≤ S.faults source.new }
+    ensures cause { IfErr result (λ e. e ≡ causes.Fault → Rose (S.faults source.old) (S.faults source.new)) }
+    ensures formless { IfErr result NamesNoForm }
+{
+    id.known();
+    arena.known();
+    match look::<H, S>(alloc, arena, source, kind, lone, id, link)? {
+        Seen::Nothing => Ok(plant(alloc, arena, id, item)?),
+        Seen::Leaf(key, _) => Ok(beside(alloc, arena, id, link, &key, item)?),
+        Seen::Inner(links) => {
+            let b = toward(id, item.key());
+            let next = put_at::<H, S>(
+                alloc,
+                arena,
+                source,
+                kind,
+                links.is_only(),
+                &below(id, b),
+                &links.get(b),
+                item,
+            )?;
+            arena.known();
+            Ok(arena.push_inner(alloc, links.with(b, next))?)
+        }
+    }
+}
+
+// A leaf of the item, at a place where nothing stands; the root is an inner node above it.
+fn plant(alloc: Global, arena: &mut Arena, id: &NodeId, item: Item) -> Result<Link, Memory>
+    requires { IsTrue (lies_under id.now item.key) }
+    ensures grows { GrowsBy (65 - length id.now) arena.old arena.new }
+    ensures below { IfOk result (IsBelow (length arena.new)) }
+    ensures stands { IfOk result (λ next. (half : Half) (stored : Lookup) (kind : KindOf) →
+        StandsAt half stored kind arena.new (64 - length id.now) id.now next ((item.key, item.value) ∷ [])) }
+{
+    id.known();
+    if id.depth() > 0 {
+        return arena.push_leaf(alloc, item);
+    }
+    let b = toward(id, item.key());
+    let leaf = arena.push_leaf(alloc, item)?;
+    above(alloc, arena, id, b, &leaf)
+}
+
+// The item in the place of a leaf with its key, or beside one of another key.
+fn beside(
+    alloc: Global,
+    arena: &mut Arena,
+    id: &NodeId,
+    old: &Link,
+    old_key: &Hash32,
+    item: Item,
+) -> Result<Link, Memory>
+    requires below { IsBelow (length arena.old) old.now }
+    requires old_under { IsTrue (lies_under id.now old_key.now) }
+    requires under { IsTrue (lies_under id.now item.key) }
+    requires placed { 0 < length id.now }
+    ensures grows { GrowsBy (65 - length id.now) arena.old arena.new }
+    ensures below { IfOk result (IsBelow (length arena.new)) }
+    ensures stands { IfOk result (λ next. (half : Half) (stored : Lookup) (kind : KindOf) (bytes : Bytes) →
+        LeadsTo half stored kind arena.old old.now old_key.now bytes →
+        let items = insert_in hash_cmp ((old_key.now, bytes) ∷ []) item.key item.value in
+        StandsAt half stored kind arena.new (64 - length id.now) id.now next items) }
+{
+    id.known();
+    if old_key.equals(item.key()) {
+        return arena.push_leaf(alloc, item);
+    }
+    split(alloc, arena, id, old, old_key, item)
+}
+
+// The inner nodes down to the first nibble in which the two keys differ, with the old leaf and one of
+// the item below the last.
+fn split(
+    alloc: Global,
+    arena: &mut Arena,
+    id: &NodeId,
+    old: &Link,
+    old_key: &Hash32,
+    item: Item,
+) -> Result<Link, Memory>
+    requires below { IsBelow (length arena.old) old.now }
+    requires old_under { IsTrue (lies_under id.now old_key.now) }
+    requires under { IsTrue (lies_under id.now item.key) }
+    requires differ { old_key.now ≢ item.key }
+    ensures grows { GrowsBy (65 - length id.now) arena.old arena.new }
+    ensures below { IfOk result (IsBelow (length arena.new)) }
+    ensures stands { IfOk result (λ next. (half : Half) (stored : Lookup) (kind : KindOf) (bytes : Bytes) →
+        LeadsTo half stored kind arena.old old.now old_key.now bytes →
+        let items = insert_in hash_cmp ((old_key.now, bytes) ∷ []) item.key item.value in
+        StandsAt half stored kind arena.new (64 - length id.now) id.now next items) }
+{
+    known_inner(id, old_key, item.key());
+    let a = toward(id, old_key);
+    let b = toward(id, item.key());
+    if a != b {
+        return fork(alloc, arena, id, old, a, b, item);
+    }
+    let next = split(alloc, arena, &below(id, b), old, old_key, item)?;
+    above(alloc, arena, id, b, &next)
+}
+
+// An inner node with one branch.
+fn above(alloc: Global, arena: &mut Arena, id: &NodeId, b: u8, next: &Link) -> Result<Link, Memory>
+    requires below { IsBelow (length arena.old) next.now }
+    requires inner { length id.now < 64 }
+    requires branch { b < 16 }
+    ensures grows { GrowsBy 1 arena.old arena.new }
+    ensures below { IfOk result (IsBelow (length arena.new)) }
+    ensures stands { IfOk result (λ link. (half : Half) (stored : Lookup) (kind : KindOf) (items : List Entry) →
+        fewest id.now ≤ length items →
+        StandsAt half stored kind arena.old (64 - length (id.now ++ b ∷ [])) (id.now ++ b ∷ []) next.now items →
+        StandsAt half stored kind arena.new (64 - length id.now) id.now link items) }
+{
+    arena.known();
+    let links = Links::none(alloc)?.with(b, *next);
+    arena.push_inner(alloc, links)
+}
+
+// An inner node over the old leaf and one of the item, at two branches.
+fn fork(
+    alloc: Global,
+    arena: &mut Arena,
+    id: &NodeId,
+    old: &Link,
+    a: u8,
+    b: u8,
+    item: Item,
+) -> Result<Link, Memory>
+    requires below { IsBelow (length arena.old) old.now }
+    requires inner { length id.now < 64 }
+    requires old_branch { a < 16 }
+    requires branch { b < 16 }
+    requires differ { a ≢ b }
+    requires under { IsTrue (lies_under (id.now ++ b ∷ []) item.key) }
+    ensures grows { GrowsBy 2 arena.old arena.new }
+    ensures below { IfOk result (IsBelow (length arena.new)) }
+    ensures stands { IfOk result (λ next. (half : Half) (stored : Lookup) (kind : KindOf) (key : Hash) (bytes : Bytes) →
+        item.key ≢ key → IsTrue (lies_under (id.now ++ a ∷ []) key) → LeadsTo half stored kind arena.old old.now key bytes →
+        let items = insert_in hash_cmp ((key, bytes) ∷ []) item.key item.value in
+        StandsAt half stored kind arena.new (64 - length id.now) id.now next items) }
+{
+    arena.known();
+    let leaf = arena.push_leaf(alloc, item)?;
+    let links = Links::none(alloc)?.with(a, *old).with(b, leaf);
+    arena.push_inner(alloc, links)
+}

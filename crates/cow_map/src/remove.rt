@@ -1,0 +1,192 @@
+//! Removing a key.
+ghost use Rattle.std.specs.Prelude.{◌≡◌, ◌≢◌, ◌<◌, ◌≤◌, ◌-◌, ℕ, length, IsTrue, IfErr, IfOk, None, Some, MatchOption};
+ghost use Rattle.std.specs.List.{slice_index_or};
+ghost use Rattle.std.specs.FinMap as map;
+ghost use Rattle.nib_path.specs.Paths.{lies_under};
+ghost use Rattle.run_io.specs.Bytes.{Rose};
+ghost use Rattle.cow_map.specs.declared.fault.MapFault.TheVariants as causes;
+ghost use Rattle.cow_map.specs.declared.link.Link.TheVariants.{Empty as empty_link};
+ghost use Rattle.cow_map.specs.Bodies.{IsBelow};
+ghost use Rattle.cow_map.specs.Edits.{Counts, GrowsBy, Removes, Leaves, Settles, IsBelowIf, IsLeaf};
+ghost use Rattle.cow_map.specs.declared.link.Only.TheVariants as only;
+ghost use Rattle.cow_map.specs.Trees.{found_at};
+ghost use Rattle.cow_map.specs.Ways.{removal_stop_at, stop_here, stop_left, Goes, NamesNoForm};
+
+use crate::arena::Arena;
+use crate::link::Only;
+use crate::look::{Seen, look};
+use crate::step::{below, toward};
+use crate::{Link, Links, MapFault};
+use half_hash::{Hash32, NodeHash};
+use ledger_spec::Kind;
+use nib_path::NodeId;
+use path_proof::NodeSource;
+use std::alloc::Global;
+
+/// Removes a key from what a link stands for, at a place on the way to the key: the nodes on its way are
+/// made anew, and the answer is the link to the first of them, or none where the key isn't there.
+pub(crate) fn remove_at<H: NodeHash, S: NodeSource<H>>(
+    alloc: Global,
+    arena: &mut Arena,
+    source: &mut S,
+    kind: Kind,
+    lone: bool,
+    id: &NodeId,
+    link: &Link,
+    key: &Hash32,
+) -> Result<Option<Link>, MapFault>
+    requires below { IsBelow (length arena.old) link.now }
+    requires under { IsTrue (lies_under id.now key.now) }
+    ensures grows { GrowsBy (64 - length id.now) arena.old arena.new }
+    ensures below { IfOk result (IsBelowIf (length arena.new)) }
+    ensures removes { IsTrue S.tells → IfOk result
+        (Removes H.half (map.get (S.stored source.old)) kind arena.old arena.new (64 - length id.now) id.now link.now key.now) }
+    ensures way { IsTrue S.tells →
+        let left = 64 - length id.now in
+        Goes (removal_stop_at H.half (map.get (S.stored source.old)) kind arena.old left lone id.now link.now key.now) result }
+    ensures leaves { IsTrue S.tells → IfOk result
+        (let there = found_at H.half (map.get (S.stored source.old)) kind in
+        Leaves (there arena.new id.now) lone id.now key.now (there arena.old id.now link.now)) }
+    ensures same { IsTrue S.tells → S.stored source.new ≡ S.stored source.old }
+    ensures later { S.faults source.old ≤ S.faults source.new }
+    ensures cause { IfErr result (λ e. e ≡ causes.Fault → Rose (S.faults source.old) (S.faults source.new)) }
+    ensures formless { IfErr result NamesNoForm }
+{
+    id.known();
+    arena.known();
+    match look::<H, S>(alloc, arena, source, kind, lone, id, link)? {
+        Seen::Nothing => Ok(None),
+        Seen::Leaf(own, _) => Ok(if_same(&own, key)),
+        Seen::Inner(links) => {
+            let b = toward(id, key);
+            let place = below(id, b);
+            let next = remove_at::<H, S>(
+                alloc,
+                arena,
+                source,
+                kind,
+                links.is_only(),
+                &place,
+                &links.get(b),
+                key,
+            )?;
+            match next {
+                None => Ok(None),
+                Some(next) => {
+                    let links = links.with(b, next);
+                    let left = settle::<H, S>(alloc, arena, source, kind, id, links)?;
+                    Ok(Some(left))
+                }
+            }
+        }
+    }
+}
+
+// Nothing in the place of a leaf, if this is its key.
+fn if_same(own: &Hash32, key: &Hash32) -> Option<Link>
+    ensures { MatchOption result (own.now ≢ key.now) (λ link. (link ≡ empty_link) × (own.now ≡ key.now)) }
+{
+    if own.equals(key) {
+        Some(Link::Empty)
+    } else {
+        None
+    }
+}
+
+/// What stands in the place of an inner node with these links: nothing where none leads anywhere; below the
+/// root the leaf where just one leads anywhere, and to a leaf; else an inner node.
+pub(crate) fn settle<H: NodeHash, S: NodeSource<H>>(
+    alloc: Global,
+    arena: &mut Arena,
+    source: &mut S,
+    kind: Kind,
+    id: &NodeId,
+    links: Links,
+) -> Result<Link, MapFault>
+    requires inner { length id.now < 64 }
+    requires below { (b : ℕ) → IsBelow (length arena.old) (slice_index_or links b empty_link) }
+    ensures grows { GrowsBy 1 arena.old arena.new }
+    ensures below { IfOk result (IsBelow (length arena.new)) }
+    ensures stands { IsTrue S.tells → IfOk result
+        (Settles H.half (map.get (S.stored source.old)) kind arena.old arena.new (63 - length id.now) id.now links) }
+    ensures way { IsTrue S.tells → Goes (stop_left (found_at H.half (map.get (S.stored source.old)) kind arena.old) id.now links) result }
+    ensures sound { IsTrue S.tells → IfOk result (λ link.
+        stop_here id.now (found_at H.half (map.get (S.stored source.old)) kind arena.new id.now link) ≡ None) }
+    ensures some { IfOk result (λ link. link ≡ empty_link → (c : ℕ) → slice_index_or links c empty_link ≡ empty_link) }
+    ensures same { IsTrue S.tells → S.stored source.new ≡ S.stored source.old }
+    ensures later { S.faults source.old ≤ S.faults source.new }
+    ensures cause { IfErr result (λ e. e ≡ causes.Fault → Rose (S.faults source.old) (S.faults source.new)) }
+    ensures formless { IfErr result NamesNoForm }
+{
+    arena.known();
+    links.known();
+    match links.only() {
+        Only::Nowhere => Ok(Link::Empty),
+        Only::One(b) => Ok(one_left::<H, S>(alloc, arena, source, kind, id, links, b)?),
+        Only::Many => Ok(arena.push_inner(alloc, links)?),
+    }
+}
+
+// The same where the link of this branch alone leads anywhere.
+fn one_left<H: NodeHash, S: NodeSource<H>>(
+    alloc: Global,
+    arena: &mut Arena,
+    source: &mut S,
+    kind: Kind,
+    id: &NodeId,
+    links: Links,
+    b: u8,
+) -> Result<Link, MapFault>
+    requires inner { length id.now < 64 }
+    requires below { (b : ℕ) → IsBelow (length arena.old) (slice_index_or links b empty_link) }
+    requires only { Counts links (only.One b) }
+    ensures grows { GrowsBy 1 arena.old arena.new }
+    ensures below { IfOk result (IsBelow (length arena.new)) }
+    ensures stands { IsTrue S.tells → IfOk result
+        (Settles H.half (map.get (S.stored source.old)) kind arena.old arena.new (63 - length id.now) id.now links) }
+    ensures way { IsTrue S.tells → Goes (stop_left (found_at H.half (map.get (S.stored source.old)) kind arena.old) id.now links) result }
+    ensures sound { IsTrue S.tells → IfOk result (λ link.
+        stop_here id.now (found_at H.half (map.get (S.stored source.old)) kind arena.new id.now link) ≡ None) }
+    ensures some { IfOk result (λ link. link ≡ empty_link → (c : ℕ) → slice_index_or links c empty_link ≡ empty_link) }
+    ensures same { IsTrue S.tells → S.stored source.new ≡ S.stored source.old }
+    ensures later { S.faults source.old ≤ S.faults source.new }
+    ensures cause { IfErr result (λ e. e ≡ causes.Fault → Rose (S.faults source.old) (S.faults source.new)) }
+    ensures formless { IfErr result NamesNoForm }
+{
+    arena.known();
+    links.known();
+    let link = links.get(b);
+    if id.depth() == 0 {
+        return Ok(arena.push_inner(alloc, links)?);
+    }
+    if is_leaf::<H, S>(alloc, arena, source, kind, &below(id, b), &link)? {
+        return Ok(link);
+    }
+    Ok(arena.push_inner(alloc, links)?)
+}
+
+// Whether a link leads to a leaf at its place.
+fn is_leaf<H: NodeHash, S: NodeSource<H>>(
+    alloc: Global,
+    arena: &Arena,
+    source: &mut S,
+    kind: Kind,
+    id: &NodeId,
+    link: &Link,
+) -> Result<bool, MapFault>
+    requires { IsBelow (length arena.now) link.now }
+    ensures leaf { IsTrue S.tells → IfOk result
+        (IsLeaf id.now (found_at H.half (map.get (S.stored source.old)) kind arena.now id.now link.now)) }
+    ensures way { IsTrue S.tells →
+        Goes (stop_here id.now (found_at H.half (map.get (S.stored source.old)) kind arena.now id.now link.now)) result }
+    ensures same { IsTrue S.tells → S.stored source.new ≡ S.stored source.old }
+    ensures later { S.faults source.old ≤ S.faults source.new }
+    ensures cause { IfErr result (λ e. e ≡ causes.Fault → Rose (S.faults source.old) (S.faults source.new)) }
+    ensures formless { IfErr result NamesNoForm }
+{
+    match look::<H, S>(alloc, arena, source, kind, false, id, link)? {
+        Seen::Nothing => Ok(false),
+        Seen::Leaf(..) => Ok(true),
+        Seen::Inner(_) => Ok(false),
+    }
+}
