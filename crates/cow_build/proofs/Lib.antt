@@ -1,0 +1,4 @@
+pub mod Joined
+pub mod Repeats
+pub mod Rising
+pub mod Cuts

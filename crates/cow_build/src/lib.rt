@@ -1,0 +1,13 @@
+//! Maps of items that are built by fork and join over the sixteen first nibbles.
+#![tactic(auto)]
+
+mod cut;
+mod items;
+mod order;
+mod repeated;
+#[cfg(test)]
+mod tests;
+mod threads;
+
+pub use items::build;
+pub use order::BuildFault;
