@@ -1,0 +1,14 @@
+use Rattle.std.proofs.Common.{◌≡◌, ◌+◌, ◌++◌, ◌∷◌, [], sym, ◌∙◌, arith}
+use Rattle.std.specs.Prelude.{if◌then◌else◌}
+use Rattle.std.proofs.lemmas.List.FromFn.{filter_of_map_range_with_len_more}
+use Rattle.ledger_spec.specs.Bytes.{is_nonzero}
+use Rattle.swarm_gen.specs.Ledgers.{key}
+use Rattle.swarm_gen.proofs.make.read_keys.Goals as goal
+
+pub loop-i-preserved : goal.loop-i-preserved
+loop-i-preserved g c =
+    let half = g.H.NodeHash.half in
+    let i = c.loop-i.i in
+    let n : 1 + i ≡ i + 1 = omega arith in
+    c.in_ok-push_nonzero.ensures ∙ (λ j. c.loop-i.invariant j ++ (if is_nonzero (c.key.ensures j) then c.key.ensures j ∷ [] else []))
+    ∙ sym (filter_of_map_range_with_len_more is_nonzero (key half c.args.plan.now) 1 i (i + 1) n)

@@ -1,0 +1,14 @@
+use Rattle.std.proofs.Common.{◌≡◌, ◌++◌, ◌-◌, length, map}
+use Rattle.std.specs.List.{flat_map, range_with_len}
+use Rattle.swarm_gen.specs.Given.{given}
+use Rattle.swarm_gen.specs.Walks.{shared_nodes}
+use Rattle.swarm_gen.proofs.Walking.{branch_changes}
+use Rattle.swarm_gen.proofs.walk.+walk.Given as goal
+
+abbrev pub decreases-walk : goal.decreases-walk
+decreases-walk g l = 65 - length l.place
+
+abbrev pub invariant-loop-b : goal.invariant-loop-b
+invariant-loop-b g l = l.out.items ≡ l.initial.out.items
+    ++ map (given g.H.NodeHash.half) (flat_map (branch_changes (g.T.Shared.kid l.tree)
+    (shared_nodes (g.T.Shared.held l.tree) (g.T.Shared.kid l.tree)) l.place l.node l.old) (range_with_len 0 l.b))

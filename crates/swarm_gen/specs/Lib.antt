@@ -1,0 +1,11 @@
+pub mod Plans
+pub mod Placed
+pub mod Ledgers
+pub mod Script
+pub mod Adding
+pub mod Swarm
+pub mod Given
+pub mod Standing
+pub mod Walks
+pub mod Trees
+pub mod Listed

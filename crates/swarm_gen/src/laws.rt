@@ -1,0 +1,25 @@
+//! Laws of the definitions, each the contract of an empty function.
+ghost use Rattle.std.specs.Prelude.{◌≡◌, ℕ, List, [], map, Option};
+ghost use Rattle.ledger_spec.specs.declared.Kind.{Kind};
+ghost use Rattle.ledger_spec.specs.Bytes.{Items};
+ghost use Rattle.ledger_spec.specs.Forms.{Held, form_of};
+ghost use Rattle.ledger_spec.specs.Tree.{part, forms_of};
+ghost use Rattle.swarm_gen.specs.Placed.{nodes_of};
+ghost use Rattle.swarm_gen.specs.Listed.{HaveSameForms};
+ghost use Rattle.swarm_gen.specs.Trees.{StandsFor};
+ghost use Rattle.swarm_gen.specs.Walks.{shared_nodes};
+
+/// The nodes of a map in pre-order, as a swarm sends them, have the forms of the map's tree, each as often
+/// as it stands there.
+pub fn a_maps_nodes_have_its_forms()
+    ensures { (half : List ℕ → List ℕ) (kind : Kind) (items : Items)
+        → HaveSameForms (map (λ p. form_of p.node) (nodes_of half kind items)) (forms_of half kind items) }
+{}
+
+/// Where shared nodes stand for a map of items, those that a walk goes through are the map's nodes.
+pub fn shared_nodes_are_the_maps()
+    ensures { (half : List ℕ → List ℕ) (kind : Kind) (items : Items)
+        (held : ℕ → Held) (kid : ℕ → ℕ → Option ℕ) (link : Option ℕ)
+        → StandsFor half kind items held kid 64 [] link (part items [])
+        → shared_nodes held kid link [] ≡ nodes_of half kind items }
+{}
