@@ -58,7 +58,8 @@ adjacent_step : (items : List Item) (i : ℕ) (d : Item) (o : Ordering) → i + 
     → hash_cmp (get_or items i d).key (get_or items (i + 1) d).key ≡ Less
 adjacent_step items i d Less lt once at no_less = absurd cc
 adjacent_step items i d Equal lt once at no_less =
-    let same : (get_or items (i + 1) d).key ≡ (get_or items i d).key = exact_bytes (get_or items (i + 1) d).key (get_or items i d).key at in
+    let same : (get_or items (i + 1) d).key ≡ (get_or items i d).key =
+    exact_bytes (get_or items (i + 1) d).key (get_or items i d).key at in
     absurd (omega (arith, neighbours items i d lt (sym same), once (get_or items i d).key))
 adjacent_step items i d Greater lt once at no_less = nat_list_cmp_total.antisymm (get_or items i d).key (get_or items (i + 1) d).key
     ∙ ap ordering_reverse at

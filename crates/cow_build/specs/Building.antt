@@ -33,7 +33,8 @@ EachStands (m ∷ maps) [] = ⊥
 pub record IsCut (items : List Item) (parts : List (Vec Item Global)) : Type 0 where
   pub whole : flat_map (λ part. part.items) parts ≡ items
   pub rising : AllByRecursion (λ part. IsMap hash_cmp (entries_of part.items)) parts
-  pub first : (b : ℕ) (part : Vec Item Global) → slice_get parts b ≡ Some part → AllByRecursion (λ item. nibble_of item.key 0 ≡ b) part.items
+  pub first : (b : ℕ) (part : Vec Item Global) → slice_get parts b ≡ Some part
+      → AllByRecursion (λ item. nibble_of item.key 0 ≡ b) part.items
 
 -- the map stands for the items, and leaves nothing to a source
 pub record IsMapOf (items : List Item) (m : CowTree) : Type 0 where

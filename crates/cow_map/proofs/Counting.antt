@@ -74,7 +74,8 @@ one_counted : (ls : List Link) (c : ℕ) → slice_index_or ls c Empty ≢ Empty
 unfolding links_in
 one_counted [] c some others = absurd (some refl)
 one_counted (Empty ∷ ls) zero some others = absurd (some refl)
-one_counted (Unloaded h ∷ ls) zero some others = let rest = none_counted ls (λ d. others (suc d) (λ e. absurd (omega arith))) in omega arith
+one_counted (Unloaded h ∷ ls) zero some others = let rest = none_counted ls (λ d. others (suc d) (λ e. absurd (omega arith))) in
+    omega arith
 one_counted (Own i ∷ ls) zero some others = let rest = none_counted ls (λ d. others (suc d) (λ e. absurd (omega arith))) in omega arith
 one_counted (Empty ∷ ls) (suc c) some others = one_counted ls c some (λ d apart. others (suc d) (λ e. apart (less_one d c e)))
 one_counted (Unloaded h ∷ ls) (suc c) some others = let wrong : Unloaded h ≡ Empty = others 0 (λ e. absurd (omega arith)) in cc

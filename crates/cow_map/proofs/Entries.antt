@@ -34,7 +34,8 @@ module _ (key : Hash) (value : Bytes) where
   insert_before [] back h = insert_first back h
   insert_before (e ∷ front) back h = by (hash_cmp key e.0) refl (insert_before front back h)
     where
-      by : (o : Ordering) → hash_cmp key e.0 ≡ o → insert_in hash_cmp (front ++ back) key value ≡ insert_in hash_cmp front key value ++ back
+      by : (o : Ordering) → hash_cmp key e.0 ≡ o
+          → insert_in hash_cmp (front ++ back) key value ≡ insert_in hash_cmp front key value ++ back
           → insert_in hash_cmp (e ∷ front ++ back) key value ≡ insert_in hash_cmp (e ∷ front) key value ++ back
       by Less is rest = insert_step Less e (front ++ back) is ∙ sym (ap (λ es. es ++ back) (insert_step Less e front is))
       by Equal is rest = insert_step Equal e (front ++ back) is ∙ sym (ap (λ es. es ++ back) (insert_step Equal e front is))
@@ -73,7 +74,8 @@ module _ (key : Hash) where
   get_none o [] other h = refl
   get_none o (e ∷ es) other h = lookup_step e es (apart o e h.0 other) ∙ get_none o es other h.1
 
-  pub get_behind : (front back : List Entry) → AllCompare Greater key front → get_in hash_cmp (front ++ back) key ≡ get_in hash_cmp back key
+  pub get_behind : (front back : List Entry) → AllCompare Greater key front
+      → get_in hash_cmp (front ++ back) key ≡ get_in hash_cmp back key
   get_behind [] back h = refl
   get_behind (e ∷ front) back h = lookup_step e (front ++ back) (apart Greater e h.0 refl) ∙ get_behind front back h.1
 

@@ -69,7 +69,8 @@ first_less e es h = less es h.0
 
 -- one item more, before those that are in the map
 pub one_before : (half : Half) (stored : Lookup) (all rest before tail : List Item) (item : Item) (old new : CowTree)
-    → IsMap hash_cmp (entries_of all) → all ≡ before ++ tail → before ≡ rest ++ item ∷ [] → SetsItem half stored old new item.key item.value
+    → IsMap hash_cmp (entries_of all) → all ≡ before ++ tail → before ≡ rest ++ item ∷ []
+    → SetsItem half stored old new item.key item.value
     → StandsFor half nothing_held old (entries_of tail) → (all ≡ rest ++ item ∷ tail)
     × StandsFor half nothing_held new (entries_of (item ∷ tail))
 one_before half stored all rest before tail item old new sorted whole popped sets stands =

@@ -134,7 +134,8 @@ module _ (half : Half) (stored other : Lookup) (kind : Kind) (nodes : List Body)
   seen_stored path h None is no_lack = absurd (no_lack (ap (λ o. found_seen h (sight_of half (λ n. fault_of n None kind path) o)) is))
   seen_stored path h (Some form) is no_lack = (form, is)
 
-  pub link_stored : (left : ℕ) (path : List ℕ) (h : Hash) (items : List Entry) → StandsAt half stored kind nodes left path (Unloaded h) items
+  pub link_stored : (left : ℕ) (path : List ℕ) (h : Hash) (items : List Entry)
+      → StandsAt half stored kind nodes left path (Unloaded h) items
       → Stored stored h
   link_stored left path h items stands =
       seen_stored path h (stored h) refl

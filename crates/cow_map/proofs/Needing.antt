@@ -1,5 +1,6 @@
 -- What a change leaves to the source was left to it, or is reached from what was.
-use Rattle.std.proofs.Common.{◌≡◌, inl, inr, ℕ, zero, suc, ◌+◌, ◌-◌, ◌<◌, ◌≤◌, ◌==◌, ◌||◌, Bool, true, false, if◌then◌else◌, List, [], ◌∷◌, ◌++◌}
+use Rattle.std.proofs.Common.{◌≡◌, inl, inr, ℕ, zero, suc, ◌+◌, ◌-◌, ◌<◌, ◌≤◌, ◌==◌, ◌||◌, Bool, true, false, if◌then◌else◌, List, []}
+use Rattle.std.proofs.Common.{◌∷◌, ◌++◌}
 use Rattle.std.proofs.Common.{length, Option, None, Some, refl, sym, ap, ◌∙◌, subst, arith, slice_index_or, Contains}
 use Rattle.std.specs.List.{slice_get, flat_map, list_any, range_with_len}
 use Rattle.std.proofs.lemmas.List.Elements.{Contains-append_left, Contains-append_right, Contains-append_cases}
@@ -122,7 +123,8 @@ module _ (half : Half) (stored : Lookup) (kind : Kind) (nodes : List Body) where
   needs_below left path link links found b low h c =
       Contains-append_right (hash_in link) (below_found (Next left path) (found_at half stored kind nodes path link)) h
       (subst (λ f. Contains (below_found (Next left path) f) h) (sym found)
-      (in_range (λ d. needed half stored kind nodes left (path ++ d ∷ []) (slice_index_or links d Empty)) 16 0 b h (omega arith) (omega arith) c))
+      (in_range (λ d. needed half stored kind nodes left (path ++ d ∷ []) (slice_index_or links d Empty)) 16 0 b h (omega arith)
+      (omega arith) c))
 
   -- over a source that keeps what is needed
   module _ (hashes : List Hash) where
@@ -134,7 +136,8 @@ module _ (half : Half) (stored : Lookup) (kind : Kind) (nodes : List Body) where
     found_kept left path Empty covers = refl
     found_kept left path (Own i) covers = refl
     found_kept left path (Unloaded g) covers =
-        ap (λ o. found_seen g (sight_of half (λ n. fault_of n None kind path) o)) (kept_same hashes stored g (covers g (needs_here left path g)))
+        ap (λ o. found_seen g (sight_of half (λ n. fault_of n None kind path) o))
+        (kept_same hashes stored g (covers g (needs_here left path g)))
 
     stands_kept : (left : ℕ) (path : List ℕ) (link : Link) (items : List Entry) → Covers left path link
         → StandsAt half stored kind nodes left path link items → StandsAt half (kept_under hashes stored) kind nodes left path link items
@@ -163,7 +166,8 @@ module _ (half : Half) (stored : Lookup) (kind : Kind) (nodes : List Body) where
     here_reached left path Empty items reached stands h c = absurd (not_in_none h c)
     here_reached left path (Own i) items reached stands h c = absurd (not_in_none h c)
     here_reached left path (Unloaded g) items reached stands h c =
-        subst (Reach stored roots) (in_one g h c) (link_reached half stored stored kind nodes roots (λ x r. refl) left path g items reached stands)
+        subst (Reach stored roots) (in_one g h c)
+        (link_reached half stored stored kind nodes roots (λ x r. refl) left path g items reached stands)
 
     abbrev IsNeeded : ℕ → Type 0
     IsNeeded left =
@@ -171,7 +175,8 @@ module _ (half : Half) (stored : Lookup) (kind : Kind) (nodes : List Body) where
         → (h : Hash) → Contains (needed half stored kind nodes left path link) h → Reach stored roots h
 
     below_reached : (left : ℕ) → IsNeeded left → (path : List ℕ) (link : Link) (items : List Entry) → IsReached (suc left) link
-        → StandsAt half stored kind nodes (suc left) path link items → (h : Hash) (f : Found) → found_at half stored kind nodes path link ≡ f
+        → StandsAt half stored kind nodes (suc left) path link items → (h : Hash) (f : Found)
+        → found_at half stored kind nodes path link ≡ f
         → Contains (below_found (Next left path) f) h → Reach stored roots h
     below_reached left law path link items reached stands h none is c = absurd (not_in_none h c)
     below_reached left law path link items reached stands h (one key bytes) is c = absurd (not_in_none h c)
@@ -191,7 +196,8 @@ module _ (half : Half) (stored : Lookup) (kind : Kind) (nodes : List Body) where
     needed_reached (suc left) path link items reached stands h c =
         elim (Contains-append_cases (hash_in link) (below_found (Next left path) (found_at half stored kind nodes path link)) h c) [
           | inl here ↦ here_reached (suc left) path link items reached stands h here
-          | inr below ↦ below_reached left (needed_reached left) path link items reached stands h (found_at half stored kind nodes path link) refl below
+          | inr below ↦ below_reached left (needed_reached left) path link items reached stands h
+              (found_at half stored kind nodes path link) refl below
         ]
 
   -- what a link that stands for something leaves to the source is held there
@@ -240,7 +246,8 @@ change_keeps : (half : Half) (stored : Lookup) (old new : CowTree) (items : Item
 change_keeps half stored old new items stands change h c =
     let hashes = needed half stored old.kind old.nodes 64 [] old.top in
     let small = kept_under hashes stored in
-    let old_small = stands_kept half stored old.kind old.nodes hashes 64 [] old.top items (λ g in_needed. has_in hashes g in_needed) stands in
+    let old_small = stands_kept half stored old.kind old.nodes hashes 64 [] old.top items (λ g in_needed. has_in hashes g in_needed)
+    stands in
     let next = change small (kept_sub hashes stored) old_small in
     let held = left_held half small new.kind new.nodes 64 [] new.top next.0 next.1 h c in
     let in_needed = Contains-from_any (λ x y. (bytes_eq-Decides x y).0) h hashes (kept_in hashes stored h held) in
@@ -250,7 +257,8 @@ change_keeps half stored old new items stands change h c =
 pub same_keeps : (half : Half) (stored : Lookup) (m : CowTree) → KeepsReach half stored m m
 same_keeps half stored m items stands h c = root c (left_held half stored m.kind m.nodes 64 [] m.top items stands h c)
 
-module _ (half : Half) (stored : Lookup) (kind : Kind) (nodes after : List Body) (top next : Link) (path key : List ℕ) (root_is : path ≡ []) where
+module _ (half : Half) (stored : Lookup) (kind : Kind) (nodes after : List Body) (top next : Link) (path key : List ℕ)
+    (root_is : path ≡ []) where
   abbrev Before : CowTree
   Before = record { kind = kind; nodes = nodes; top = top }
 
@@ -258,13 +266,17 @@ module _ (half : Half) (stored : Lookup) (kind : Kind) (nodes after : List Body)
   After = record { kind = kind; nodes = after; top = next }
 
   -- an item was set
-  pub set_keeps : (value : Bytes) → Sets half stored kind nodes after (64 - length path) path top next key value → KeepsReach half stored Before After
+  pub set_keeps : (value : Bytes) → Sets half stored kind nodes after (64 - length path) path top next key value
+      → KeepsReach half stored Before After
   set_keeps value sets items stands h c =
       let at_root = subst (λ p. Sets half stored kind nodes after (64 - length p) p top next key value) root_is sets in
-      change_keeps half stored Before After items stands (λ small sub old. (insert_in hash_cmp items key value, at_root small sub items old)) h c
+      change_keeps half stored Before After items stands
+      (λ small sub old. (insert_in hash_cmp items key value, at_root small sub items old)) h c
 
   -- a key was removed
-  pub removed_keeps : Removes half stored kind nodes after (64 - length path) path top key (Some next) → KeepsReach half stored Before After
+  pub removed_keeps : Removes half stored kind nodes after (64 - length path) path top key (Some next)
+      → KeepsReach half stored Before After
   removed_keeps removes items stands h c =
       let at_root = subst (λ p. Removes half stored kind nodes after (64 - length p) p top key (Some next)) root_is removes in
-      change_keeps half stored Before After items stands (λ small sub old. (remove_in hash_cmp items key, (at_root small sub items old).1)) h c
+      change_keeps half stored Before After items stands
+      (λ small sub old. (remove_in hash_cmp items key, (at_root small sub items old).1)) h c

@@ -152,7 +152,8 @@ module _ (half : Half) (size : (x : Bytes) → length (half x) ≡ 32) (stored :
       ∙ form_is in
       let nothing : flat_map (made_at half kind nodes left) links ≡ [] = ap (flat_map (made_at half kind nodes left)) seen.2
       ∙ none_made half kind nodes left seen.0 in
-      picks_append half stored forms (tree_form half kind all left path ∷ []) [] [] (subst (λ ms. Picks half stored ms forms) nothing below)
+      picks_append half stored forms (tree_form half kind all left path ∷ []) [] []
+      (subst (λ ms. Picks half stored ms forms) nothing below)
       (picks_stored half stored (tree_form half kind all left path) (held_form h is.0 (tree_form half kind all left path) is.1 same))
 
   -- what the law says a level lower
@@ -166,7 +167,8 @@ module _ (half : Half) (size : (x : Bytes) → length (half x) ≡ 32) (stored :
       → Picks half stored (made_at half kind nodes (suc left) link) (forms_of_part half kind all (suc left) path items)
   fork_picks left law path link items links found forks whole =
       let kids_under : (c : ℕ) → c < 16 → AllUnder (path ++ c ∷ []) (forks.kids c) =
-      λ c low. stands_under half stored kind nodes left (path ++ c ∷ []) (slice_index_or links c Empty) (forks.kids c) (forks.each c low) in
+      λ c low. stands_under half stored kind nodes left (path ++ c ∷ []) (slice_index_or links c Empty) (forks.kids c)
+      (forks.each c low) in
       let kid_is : (b : ℕ) → b < 16 → part all (path ++ b ∷ []) ≡ forks.kids b =
       λ b low. part_kid all path forks.kids b low (whole ∙ forks.joined) kids_under in
       let kid_hash : (b : ℕ) → b < 16

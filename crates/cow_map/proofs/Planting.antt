@@ -200,7 +200,8 @@ module _ (half : Half) (stored : Lookup) (kind : Kind) where
       under apart leads item links links_are)))
 
   pub leaf_done : (nodes after : List Body) (left : ℕ) (path : List ℕ) (link : Link) (key : Hash) (value : Bytes)
-      → link ≡ Own (length nodes) → after ≡ nodes ++ leaf key value ∷ [] → IsItem key value → 0 < length path → IsTrue (lies_under path key)
+      → link ≡ Own (length nodes) → after ≡ nodes ++ leaf key value ∷ [] → IsItem key value → 0 < length path
+      → IsTrue (lies_under path key)
       → StandsAt half stored kind after left path link ((key, value) ∷ [])
   leaf_done nodes after left path link key value at grown item long under =
       subst (λ l. StandsAt half stored kind after left path l ((key, value) ∷ [])) (sym at)

@@ -64,7 +64,8 @@ module _ (half : Half) (stored : Lookup) (kind : Kind) where
       branches =
       ap (λ (es : List Entry). insert_in hash_cmp es key value) forks.joined
       ∙ insert_kids path key b forks.kids in_16 under kids_under value in
-      let enough : fewest path ≤ length (insert_in hash_cmp items key value) = omega (arith, forks.enough, insert_longer key value items) in
+      let enough : fewest path ≤ length (insert_in hash_cmp items key value) =
+      omega (arith, forks.enough, insert_longer key value items) in
       subst (λ n. StandsAt half small kind after n path (Own (length mid)) (insert_in hash_cmp items key value)) (sym levels)
       (inner_stands half small kind after (suc lower) (length mid) path (slice_set links b next) (insert_in hash_cmp items key value)
       (get_last mid (inner (slice_set links b next))) low
@@ -102,7 +103,8 @@ module _ (half : Half) (stored : Lookup) (kind : Kind) where
       let nothing : items ≡ [] =
       stands_into half small kind before left path link items none
       (found_small half small stored kind before left path link items sub stands ∙ found) stands in
-      subst (λ (es : List Entry). StandsAt half small kind after left path next (insert_in hash_cmp es key value)) (sym nothing) (new small)
+      subst (λ (es : List Entry). StandsAt half small kind after left path next (insert_in hash_cmp es key value)) (sym nothing)
+      (new small)
 
   -- where a leaf stood
   pub leaf_sets : (before after : List Body) (left : ℕ) (path : List ℕ) (link next : Link) (own : Hash) (bytes : Bytes) (key : Hash)

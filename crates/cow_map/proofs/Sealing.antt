@@ -323,7 +323,8 @@ module _ (half : Half) (size : (x : Bytes) → length (half x) ≡ 32) (stored :
       → hash_at half kind nodes (suc left) link ≡ Sub all (suc left) path items
   fork_law all left law path link items links found forks whole =
       let kids_under : (c : ℕ) → c < 16 → AllUnder (path ++ c ∷ []) (forks.kids c) =
-      λ c low. stands_under half stored kind nodes left (path ++ c ∷ []) (slice_index_or links c Empty) (forks.kids c) (forks.each c low) in
+      λ c low. stands_under half stored kind nodes left (path ++ c ∷ []) (slice_index_or links c Empty) (forks.kids c)
+      (forks.each c low) in
       let kid_is : (b : ℕ) → b < 16 → part all (path ++ b ∷ []) ≡ forks.kids b =
       λ b low. part_kid all path forks.kids b low (whole ∙ forks.joined) kids_under in
       let each : (b : ℕ) → b < 16

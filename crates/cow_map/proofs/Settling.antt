@@ -158,7 +158,8 @@ module _ (half : Half) (stored : Lookup) (kind : Kind) (before : List Body) (low
       let found = found_small half stored big kind before lower (path ++ c ∷ []) (slice_index_or links c Empty) (kids c) sub
       (h.1 c counts.0) ∙ found_big in
       let forks : Forks (Below half stored kind before lower (path ++ c ∷ [])) (path ++ c ∷ []) ls (kids c) =
-      stands_into half stored kind before lower (path ++ c ∷ []) (slice_index_or links c Empty) (kids c) (fork ls) found (h.1 c counts.0) in
+      stands_into half stored kind before lower (path ++ c ∷ []) (slice_index_or links c Empty) (kids c) (fork ls) found
+      (h.1 c counts.0) in
       let two : 2 ≤ length (kids c) = fewest_below path c (length (kids c)) forks.enough in
       fewest_most path (length items) (omega (arith, two, kid_length kids c counts.0, ap length h.0))
 

@@ -325,7 +325,8 @@ module _ (half : Half) (size : (x : Bytes) → length (half x) ≡ 32) (stored :
       enough_at (alone c low first count) width some kids stand_at clean_at size_is (x ∷ p) same =
           let c_16 : c < 16 = omega arith in
           let long : 0 < length path = subst (λ q. 0 < length q) same (omega arith) in
-          let two_c = kid_two left path hashes c (sym (counts_by hashes) ∙ count) long first (clean_at c c_16) (kids c) (stand_at c c_16) in
+          let two_c = kid_two left path hashes c (sym (counts_by hashes) ∙ count) long first (clean_at c c_16) (kids c)
+          (stand_at c c_16) in
           omega (arith, two_c, kid_length kids c c_16, size_is)
 
   held_law : (left : ℕ) (law : (n : ℕ) → left ≡ suc n → Stand n) (parent : Option (List Hash)) (path : List ℕ) (h : Hash)

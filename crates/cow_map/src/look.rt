@@ -159,7 +159,8 @@ fn load<H: NodeHash, S: NodeSource<H>>(
         sight_of H.half (λ n. fault_of n None kind id.now) (map.get (S.stored source.old) hash.now) ≡ sound (held node.value)) }
     ensures fits { IfOk result (λ node. fault_of (held node.value) None kind id.now ≡ None) }
     ensures stops { IsTrue S.tells → IfErr result
-        (Stops id.now (found_seen hash.now (sight_of H.half (λ n. fault_of n None kind id.now) (map.get (S.stored source.old) hash.now)))) }
+        (let sight = sight_of H.half (λ n. fault_of n None kind id.now) (map.get (S.stored source.old) hash.now) in
+        Stops id.now (found_seen hash.now sight)) }
     ensures same { IsTrue S.tells → S.stored source.new ≡ S.stored source.old }
     ensures later { S.faults source.old ≤ S.faults source.new }
     ensures cause { IfErr result (λ e. e ≡ causes.Fault → Rose (S.faults source.old) (S.faults source.new)) }

@@ -38,6 +38,16 @@ use std::marker::Model;
 
 /// A finite map from keys to data, together with what a source holds. Contracts see its kind, its nodes
 /// and the link to the top one; `StandsFor` says which map that is.
+///
+/// After the keys 10.. and 11.. were put into the empty map, its list of nodes is
+///
+///     0  leaf 10..
+///     1  inner, branch 1 to 0                  the top after the first
+///     2  leaf 11..
+///     3  inner, branch 0 to 0, branch 1 to 2
+///     4  inner, branch 1 to 3                  the top after the second
+///
+/// A snapshot between the two has the nodes 0 and 1, and its top is 1.
 #[derive(Drop)]
 pub struct CowMap {
     kind: Kind,

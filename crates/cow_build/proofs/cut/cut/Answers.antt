@@ -7,5 +7,6 @@ loop-b-preserved c =
     let next = rw c.deref.ensures.value at c.front_len-n.ensures.next in
     let small = rw c.deref.ensures.value at c.front_len-n.ensures.small in
     cut_more c.args.items.items c.loop-b.parts.items c.push.new.self.items c.loop-b.rest.items c.in_ok-behind.behind.items c.loop-b.b
-    c.front_len-n.result c.split_off.new.self c.requires c.in_ok-push.ensures.items c.in_ok-behind.ensures.items c.in_ok-behind.ensures.tail
+    c.front_len-n.result c.split_off.new.self c.requires c.in_ok-push.ensures.items c.in_ok-behind.ensures.items
+    c.in_ok-behind.ensures.tail
     front next small c.loop-b.invariant

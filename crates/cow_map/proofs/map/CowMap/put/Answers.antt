@@ -27,7 +27,9 @@ returns-in-Err-clause-free g c tells items stands =
 pub returns-in-Ok-clause-reach : goal.returns-in-Ok-clause-reach
 returns-in-Ok-clause-reach g c tells =
     let N = map.get (g.S.NodeSource.stored c.args.source.now) in
-    subst (λ (m : CowTree). KeepsReach g.H.NodeHash.half N m (record { kind = c.self.inside.kind; nodes = c.put_at.new.arena; top = c.in-Ok.next }))
+    subst (λ (m : CowTree). KeepsReach g.H.NodeHash.half N m
+    (record { kind = c.self.inside.kind; nodes = c.put_at.new.arena; top = c.in-Ok.next }))
     c.self.view_is
-    (set_keeps g.H.NodeHash.half N c.self.inside.kind c.self.inside.nodes c.put_at.new.arena c.self.inside.top c.in-Ok.next c.root-root.result
+    (set_keeps g.H.NodeHash.half N c.self.inside.kind c.self.inside.nodes c.put_at.new.arena c.self.inside.top c.in-Ok.next
+    c.root-root.result
     c.args.item.key c.root-root.ensures c.args.item.value (c.in-Ok.ensures.sets tells))

@@ -55,7 +55,8 @@ pub returns-in-Ok-Some-clause-reach : goal.returns-in-Ok-Some-clause-reach
 returns-in-Ok-Some-clause-reach g c tells =
     let N = map.get (g.S.NodeSource.stored c.args.source.now) in
     let removes = rw c.in-Ok-Some.field-0-is at (c.in-Ok-Some.ensures.removes tells) in
-    subst (λ (m : CowTree). KeepsReach g.H.NodeHash.half N m (record { kind = c.self.inside.kind; nodes = c.remove_at.new.arena; top = c.in-Ok-Some.next }))
+    subst (λ (m : CowTree). KeepsReach g.H.NodeHash.half N m
+    (record { kind = c.self.inside.kind; nodes = c.remove_at.new.arena; top = c.in-Ok-Some.next }))
     c.self.view_is
     (removed_keeps g.H.NodeHash.half N c.self.inside.kind c.self.inside.nodes c.remove_at.new.arena c.self.inside.top c.in-Ok-Some.next
     c.root-root.result c.args.key.now c.root-root.ensures removes)
@@ -63,9 +64,11 @@ returns-in-Ok-Some-clause-reach g c tells =
 pub returns-in-Ok-None-clause-reach : goal.returns-in-Ok-None-clause-reach
 returns-in-Ok-None-clause-reach g c tells =
     let N = map.get (g.S.NodeSource.stored c.args.source.now) in
-    let cut = cut_back c.self.inside.nodes c.remove_at.ensures.grows.0 _ _ _ c.len-start.ensures c.remove_at.ensures.grows.1 c.truncate.ensures in
+    let cut = cut_back c.self.inside.nodes c.remove_at.ensures.grows.0 _ _ _ c.len-start.ensures c.remove_at.ensures.grows.1
+    c.truncate.ensures in
     let old : CowTree = record { kind = c.self.inside.kind; nodes = c.self.inside.nodes; top = c.self.inside.top } in
-    subst (λ (m : CowTree). KeepsReach g.H.NodeHash.half N m (record { kind = c.self.inside.kind; nodes = c.truncate.new.self; top = c.self.inside.top }))
+    subst (λ (m : CowTree). KeepsReach g.H.NodeHash.half N m
+    (record { kind = c.self.inside.kind; nodes = c.truncate.new.self; top = c.self.inside.top }))
     c.self.view_is
     (subst (λ ns. KeepsReach g.H.NodeHash.half N old (record { kind = c.self.inside.kind; nodes = ns; top = c.self.inside.top })) (sym cut)
     (same_keeps g.H.NodeHash.half N old))
