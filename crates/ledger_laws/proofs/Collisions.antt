@@ -15,7 +15,7 @@ use Rattle.ledger_spec.specs.Bytes.{Bytes, Hash, Half, Lookup, Nodes, same_bytes
 use Rattle.ledger_spec.specs.Forms.{Held, form_of, hash_of, header_prefix}
 use Rattle.ledger_spec.specs.Rules.{fault_of}
 use Rattle.ledger_spec.specs.Spots.{Spot, no_base, no_parent, empty_branch, under_leaf, wanted, spot_of}
-use Rattle.ledger_spec.specs.Wire.{read_offered}
+use Rattle.ledger_spec.specs.Wire.{read_wire}
 use Rattle.ledger_machine.specs.declared.commands.Command.{Command}
 use Rattle.ledger_machine.specs.declared.commands.Command.TheVariants as command
 use Rattle.ledger_machine.specs.declared.commands.Line.{Line}
@@ -26,6 +26,9 @@ use Rattle.ledger_spec.specs.declared.outcomes.HeadOffered.{HeadOffered}
 use Rattle.ledger_spec.specs.declared.outcomes.HeadOffered.TheVariants as head
 use Rattle.ledger_machine.specs.declared.replies.WantReply.{WantReply}
 use Rattle.ledger_machine.specs.declared.replies.WantReply.TheVariants as want
+use Rattle.ledger_machine.specs.declared.replies.TickReply.{TickReply}
+use Rattle.ledger_machine.specs.declared.replies.TickReply.TheVariants as tick
+use Rattle.ledger_machine.specs.Ticks.{tick_reply, after_tick}
 use Rattle.ledger_machine.specs.declared.replies.PeerReply.{PeerReply}
 use Rattle.ledger_machine.specs.declared.replies.PeerReply.TheVariants as peer
 use Rattle.ledger_machine.specs.declared.replies.CheckReply.{CheckReply}
@@ -96,6 +99,11 @@ peer_nodes : (s : State) (p : ℕ) (t : Hash) (r : PeerReply) → (after_peer s 
 peer_nodes s p t peer.Added = wanted_nodes s t (with_peer p)
 peer_nodes s p t _ = refl
 
+tick_nodes : (s : State) (t : Hash) (r : TickReply) → (after_tick s t r).nodes ≡ s.nodes
+tick_nodes s t (tick.Timeout n) = wanted_nodes s t (λ a. record a { ticks = n; asked = [] })
+tick_nodes s t (tick.GaveUp n) = refl
+tick_nodes s t tick.NotOpen = refl
+
 check_nodes : (s : State) (t : Hash) (seq : ℕ) (r : CheckReply) → (after_check s t seq r).nodes ≡ s.nodes
 check_nodes s t seq check.Complete = refl
 check_nodes s t seq (check.Need peer places) = wanted_nodes s t (after_ask (check.Need peer places))
@@ -140,7 +148,7 @@ head_read half nodes t bytes form c =
 -- what a part stores was read of it
 part_read : (half : Half) (s : State) (t : Hash) (kind : Kind) (blob : Option Bytes) (form : Bytes) → Contains (node_forms half s t kind [] blob) form → Contains (part_form half blob) form
 part_read half s t kind None form c = c
-part_read half s t kind (Some blob) form c = stored_read (read_offered half blob) (node_outcome half (form_in s) t kind [] blob) form c
+part_read half s t kind (Some blob) form c = stored_read (read_wire half blob) (node_outcome half (form_in s) t kind [] blob) form c
 
 -- the parts of a base reply, among its forms
 module _ (half : Half) (bytes : Bytes) (state tx : Option Bytes) (form : Bytes) where
@@ -163,11 +171,12 @@ own_offered half s a (command.Base p t bytes state tx) form acquiring c =
     (λ third. of_tx half bytes state tx form (part_read half s2 t kinds.Tx tx form third)) more)
     (parts_cases half s t bytes state tx form (present_form p (get_in hash_cmp s.wanted t) (parts_forms half s t bytes state tx) form c))
 own_offered half s a (command.Node p t kind path blob) form acquiring c =
-    stored_read (read_offered half blob) (node_outcome half (form_in s) t kind path blob) form
+    stored_read (read_wire half blob) (node_outcome half (form_in s) t kind path blob) form
     (present_form p (get_in hash_cmp s.wanted t) (node_forms half s t kind path (Some blob)) form c)
 own_offered half s a (command.Want t seq) form acquiring c = absurd (in_nothing c)
 own_offered half s a (command.Peer p t) form acquiring c = absurd (in_nothing c)
 own_offered half s a (command.Check t) form acquiring c = absurd (in_nothing c)
+own_offered half s a (command.Tick t) form acquiring c = absurd (in_nothing c)
 own_offered half s a _ form acquiring c = absurd acquiring
 
 -- what isn't a duplicate differs
@@ -189,8 +198,8 @@ module _ (half : Half) (forms : List Bytes) where
   node_from : (s : State) (t : Hash) (kind : Kind) (path : List ℕ) (blob : Bytes) → ((form : Bytes) → Contains (part_form half (Some blob)) form → Contains forms form)
       → IsFrom half forms s → IsFrom half forms (after_node half s t kind path blob)
   node_from s t kind path blob each from =
-      with_forms_from half forms s (stored_by (read_offered half blob) (node_outcome half (form_in s) t kind path blob))
-      (λ form c. each form (stored_read (read_offered half blob) (node_outcome half (form_in s) t kind path blob) form c)) from
+      with_forms_from half forms s (stored_by (read_wire half blob) (node_outcome half (form_in s) t kind path blob))
+      (λ form c. each form (stored_read (read_wire half blob) (node_outcome half (form_in s) t kind path blob) form c)) from
 
   part_from : (s : State) (t : Hash) (kind : Kind) (blob : Option Bytes) → ((form : Bytes) → Contains (part_form half blob) form → Contains forms form)
       → IsFrom half forms s → IsFrom half forms (after_part half s t kind blob)
@@ -227,6 +236,9 @@ module _ (half : Half) (forms : List Bytes) where
   row_from s a (command.Check t) reply used s' acquiring each from g =
       after_from half forms (after_check s t (stored_seq s t) (check_reply half s t)) s' g.after
       (same_from half forms s (after_check s t (stored_seq s t) (check_reply half s t)) (check_nodes s t (stored_seq s t) (check_reply half s t)) from)
+  row_from s a (command.Tick t) reply used s' acquiring each from g =
+      after_from half forms (after_tick s t (tick_reply s t)) s' g.after
+      (same_from half forms s (after_tick s t (tick_reply s t)) (tick_nodes s t (tick_reply s t)) from)
   row_from s a _ reply used s' acquiring each from g = absurd acquiring
 
   -- after each step all that is stored is offered
@@ -305,7 +317,7 @@ module _ (half : Half) (forms : List Bytes) where
   part_clash : (s : State) (t : Hash) (kind : Kind) (blob : Option Bytes) (c : Clash) → IsFrom half forms s → ((form : Bytes) → Contains (part_form half blob) form → Contains forms form)
       → part_outcome half (form_in s) t kind blob ≡ Err c → Collides half forms
   part_clash s t kind None c from each e = cc
-  part_clash s t kind (Some blob) c from each e = read_clash s t kind [] (read_offered half blob) c from each (at (node_outcome half (form_in s) t kind [] blob) e)
+  part_clash s t kind (Some blob) c from each e = read_clash s t kind [] (read_wire half blob) c from each (at (node_outcome half (form_in s) t kind [] blob) e)
     where
       at : (r : Result Offered Clash) → given_part r ≡ Err c → r ≡ Err c
       at (Ok o) e = cc
@@ -385,10 +397,11 @@ module _ (half : Half) (forms : List Bytes) where
       (base_present half s p t bytes state tx (get_in hash_cmp s.wanted t) h old new (sym e)))
   row_clash s a (command.Node p t kind path blob) h old new acquiring each from e =
       let r : (c : Clash) × (node_outcome half (form_in s) t kind path blob ≡ Err c) = node_present half s p t kind path blob (get_in hash_cmp s.wanted t) h old new (sym e) in
-      read_clash half forms s t kind path (read_offered half blob) r.0 from each r.1
+      read_clash half forms s t kind path (read_wire half blob) r.0 from each r.1
   row_clash s a (command.Want t seq) h old new acquiring each from e = absurd e
   row_clash s a (command.Peer p t) h old new acquiring each from e = absurd e
   row_clash s a (command.Check t) h old new acquiring each from e = absurd e
+  row_clash s a (command.Tick t) h old new acquiring each from e = absurd e
   row_clash s a _ h old new acquiring each from e = absurd acquiring
 
   -- no such row has a zero hash
@@ -398,6 +411,7 @@ module _ (half : Half) (forms : List Bytes) where
   row_zero s a (command.Want t seq) form acquiring e = e
   row_zero s a (command.Peer p t) form acquiring e = e
   row_zero s a (command.Check t) form acquiring e = e
+  row_zero s a (command.Tick t) form acquiring e = e
   row_zero s a _ form acquiring e = absurd acquiring
 
   -- a step that answers a clash shows two forms

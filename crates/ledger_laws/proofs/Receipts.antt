@@ -15,7 +15,7 @@ use Rattle.ledger_spec.specs.Forms.{Held, header, form_of, hash_of, header_prefi
 use Rattle.ledger_spec.specs.Reach.{root}
 use Rattle.ledger_spec.specs.Rules.{fault_of}
 use Rattle.ledger_spec.specs.Spots.{Spot, no_base, no_parent, empty_branch, under_leaf, wanted, spot_of}
-use Rattle.ledger_spec.specs.Wire.{read_offered}
+use Rattle.ledger_spec.specs.Wire.{read_wire}
 use Rattle.ledger_spec.proofs.OfferLaws.{err_ok, ok_same}
 use Rattle.ledger_spec.proofs.ReachLaws.{Grows, reach_grows, reach_joins}
 use Rattle.ledger_machine.specs.declared.commands.Command.{Command}
@@ -34,6 +34,9 @@ use Rattle.ledger_machine.specs.declared.replies.CheckReply.{CheckReply}
 use Rattle.ledger_machine.specs.declared.replies.CheckReply.TheVariants as check
 use Rattle.ledger_machine.specs.declared.replies.BaseReply.TheVariants as base
 use Rattle.ledger_machine.specs.declared.replies.NodeReply.TheVariants as node
+use Rattle.ledger_machine.specs.declared.replies.TickReply.{TickReply}
+use Rattle.ledger_machine.specs.declared.replies.TickReply.TheVariants as tick
+use Rattle.ledger_machine.specs.Ticks.{tick_reply, after_tick}
 use Rattle.ledger_machine.specs.declared.replies.Reply.{Reply}
 use Rattle.ledger_machine.specs.declared.replies.Reply.TheVariants as says
 use Rattle.ledger_machine.specs.State.{State, Acquisition, form_in, roots, with_form, with_forms, stored_seq}
@@ -85,7 +88,7 @@ head_grows half s bytes (Err c) = λ h was x. x
 
 part_grows : (half : Half) (s : State) (t : Hash) (kind : Kind) (blob : Option Bytes) → Grows (form_in s) (form_in (after_part half s t kind blob))
 part_grows half s t kind None = λ h was x. x
-part_grows half s t kind (Some blob) = with_forms_grow half s (stored_by (read_offered half blob) (node_outcome half (form_in s) t kind [] blob))
+part_grows half s t kind (Some blob) = with_forms_grow half s (stored_by (read_wire half blob) (node_outcome half (form_in s) t kind [] blob))
 
 -- no answer to a command that acquires a ledger takes a form away
 want_grows : (s : State) (t : Hash) (seq : ℕ) (r : WantReply) → Grows (form_in s) (form_in (after_want s t seq r))
@@ -114,8 +117,13 @@ base_grows half s p t bytes state tx (says.Base (base.Parts h a b)) =
 base_grows half s p t bytes state tx _ = λ h was x. x
 
 node_grows : (half : Half) (s : State) (p : ℕ) (t : Hash) (kind : Kind) (path : List ℕ) (blob : Bytes) (reply : Reply) → Grows (form_in s) (form_in (after_offer half s p t kind path blob reply))
-node_grows half s p t kind path blob (says.Node (node.One o)) = with_forms_grow half s (stored_by (read_offered half blob) (node_outcome half (form_in s) t kind path blob))
+node_grows half s p t kind path blob (says.Node (node.One o)) = with_forms_grow half s (stored_by (read_wire half blob) (node_outcome half (form_in s) t kind path blob))
 node_grows half s p t kind path blob _ = λ h was x. x
+
+tick_grows : (s : State) (t : Hash) (r : TickReply) → Grows (form_in s) (form_in (after_tick s t r))
+tick_grows s t (tick.Timeout n) = with_wanted_grow s t (λ a. record a { ticks = n; asked = [] })
+tick_grows s t (tick.GaveUp n) = λ h was x. x
+tick_grows s t tick.NotOpen = λ h was x. x
 
 -- the answer of a row
 answer_grows : (half : Half) (s : State) (a : ℕ) (c : Command) (reply : Reply) (used : List Held) (s' : State) → IsAcquiring c → Answered half s a c reply used s' → Grows (form_in s) (form_in s')
@@ -124,6 +132,8 @@ answer_grows half s a (command.Peer p t) reply used s' acquiring g = grows_on (p
 answer_grows half s a (command.Base p t bytes state tx) reply used s' acquiring g = grows_on (base_grows half s p t bytes state tx reply) (after_grows (after_base half s p t bytes state tx reply) s' g.after)
 answer_grows half s a (command.Node p t kind path blob) reply used s' acquiring g = grows_on (node_grows half s p t kind path blob reply) (after_grows (after_offer half s p t kind path blob reply) s' g.after)
 answer_grows half s a (command.Check t) reply used s' acquiring g = grows_on (check_grows half s t (stored_seq s t) (check_reply half s t)) (after_grows (after_check s t (stored_seq s t) (check_reply half s t)) s' g.after)
+answer_grows half s a (command.Tick t) reply used s' acquiring g =
+    grows_on (tick_grows s t (tick_reply s t)) (after_grows (after_tick s t (tick_reply s t)) s' g.after)
 answer_grows half s a _ reply used s' acquiring g = absurd acquiring
 
 -- what is stored stays at each step of a command that acquires a ledger
@@ -218,7 +228,7 @@ read_kept half s t kind path (Ok m) n o is e received =
 
 node_kept : (half : Half) (s : State) (t : Hash) (kind : Kind) (path : List ℕ) (blob : Bytes) (n : Held) (o : Offered) → node_outcome half (form_in s) t kind path blob ≡ Ok o
     → IsReceivedPart half (Some blob) (Some o) n → IsKept half (after_node half s t kind path blob) (t ∷ []) n
-node_kept half s t kind path blob n o e received = read_kept half s t kind path (read_offered half blob) n o received.1 e received.0
+node_kept half s t kind path blob n o e received = read_kept half s t kind path (read_wire half blob) n o received.1 e received.0
 
 -- a part that is given, and answered so
 part_given : (r : Result Offered Clash) (o : Offered) → given_part r ≡ Ok (Some o) → r ≡ Ok o

@@ -7,13 +7,13 @@ use Rattle.std.specs.Cmp.Lexicographic.{same_text}
 use Rattle.ledger_spec.specs.declared.Kind.{Kind}
 use Rattle.ledger_spec.specs.declared.Kind.TheVariants as kinds
 use Rattle.ledger_spec.specs.declared.ShapeFault.{ShapeFault}
-use Rattle.ledger_spec.specs.Bytes.{Bytes, Hash, Half, Lookup, is_nonzero, are_bytes, same_bytes}
+use Rattle.ledger_spec.specs.Bytes.{Bytes, Hash, Half, IsHalf, Lookup, is_nonzero, are_bytes, same_bytes}
 use Rattle.ledger_spec.specs.Forms.{Held, header, Form, IsHeld, form_of, hash_of, header_prefix}
-use Rattle.ledger_spec.specs.Wire.{read_offered}
+use Rattle.ledger_spec.specs.Wire.{read_wire}
 use Rattle.ledger_spec.specs.Rules.{fault_of}
 use Rattle.ledger_spec.specs.Spots.{Spot, no_base, no_parent, empty_branch, under_leaf, wanted, spot_of}
-use Rattle.ledger_spec.proofs.OfferLaws.{read_offered_held, wanted_nonzero}
-use Rattle.ledger_spec.proofs.ByteForms.{read_offered_bytes}
+use Rattle.ledger_spec.proofs.OfferLaws.{read_wire_held, wanted_nonzero}
+use Rattle.ledger_spec.proofs.ByteForms.{read_wire_bytes}
 use Rattle.ledger_spec.specs.declared.outcomes.Offered.{Offered}
 use Rattle.ledger_spec.specs.declared.outcomes.Offered.TheVariants as offered
 use Rattle.ledger_spec.specs.declared.outcomes.HeadOffered.{HeadOffered}
@@ -84,9 +84,9 @@ read_stored half nodes t kind path (Err cause) form held i = absurd (in_nothing 
 read_stored half nodes t kind path (Ok n) form held i = spot_stored half nodes kind path n (spot_of nodes t kind path) form (held n refl) (λ h parent e. wanted_nonzero nodes t kind path h parent e) i
 
 -- each form that a node's bytes store
-pub node_stored : (half : Half) (nodes : Lookup) (t : Hash) (kind : Kind) (path : List ℕ) (blob form : Bytes)
-    → Contains (stored_by (read_offered half blob) (node_outcome half nodes t kind path blob)) form → IsOwnForm half form
-node_stored half nodes t kind path blob form i = read_stored half nodes t kind path (read_offered half blob) form (λ n e. read_offered_held half blob n e) i
+pub node_stored : (half : Half) (sized : IsHalf half) (nodes : Lookup) (t : Hash) (kind : Kind) (path : List ℕ) (blob form : Bytes)
+    → Contains (stored_by (read_wire half blob) (node_outcome half nodes t kind path blob)) form → IsOwnForm half form
+node_stored half sized nodes t kind path blob form i = read_stored half nodes t kind path (read_wire half blob) form (λ n e. read_wire_held half blob n sized e) i
 
 -- an answer that is good passed both tests before it
 head_tests : (a b : Bool) (x y r : Result HeadOffered Clash) → (x ≡ Ok head.Good → ⊥) → (y ≡ Ok head.Good → ⊥) → (if not a then x else if not b then y else r) ≡ Ok head.Good → (a ≡ true) × (b ≡ true)
@@ -129,15 +129,15 @@ head_bytes : (bytes : Bytes) → IsTrue (are_bytes bytes) → IsTrue (are_bytes 
 head_bytes bytes all = all
 
 -- a node's bytes store what may be stored
-node_fits : (half : Half) (nodes : Lookup) (t : Hash) (kind : Kind) (path : List ℕ) (blob form : Bytes) → IsTrue (are_bytes blob)
-    → Contains (stored_by (read_offered half blob) (node_outcome half nodes t kind path blob)) form → IsStoredAt half (half form) form
-node_fits half nodes t kind path blob form all i =
-    let own : IsOwnForm half form = node_stored half nodes t kind path blob form i in
+node_fits : (half : Half) (sized : IsHalf half) (nodes : Lookup) (t : Hash) (kind : Kind) (path : List ℕ) (blob form : Bytes) → IsTrue (are_bytes blob)
+    → Contains (stored_by (read_wire half blob) (node_outcome half nodes t kind path blob)) form → IsStoredAt half (half form) form
+node_fits half sized nodes t kind path blob form all i =
+    let own : IsOwnForm half form = node_stored half sized nodes t kind path blob form i in
     record {
       own = refl;
       nonzero = own.nonzero;
       held = own.held;
-      bytes = read_bytes (read_offered half blob) (node_outcome half nodes t kind path blob) form (λ n e. read_offered_bytes half blob n all e) i;
+      bytes = read_bytes (read_wire half blob) (node_outcome half nodes t kind path blob) form (λ n e. read_wire_bytes half blob n all e) i;
     }
 
 -- and a header's
@@ -158,36 +158,36 @@ after_head_keeps half s bytes (Ok (head.BadHash h)) fit = keeps_self half s
 after_head_keeps half s bytes (Err c) fit = keeps_self half s
 
 -- a node that is offered keeps a state sound
-pub after_node_keeps : (half : Half) (s : State) (t : Hash) (kind : Kind) (path : List ℕ) (blob : Bytes) → AreBytes blob → Keeps half s (after_node half s t kind path blob)
-after_node_keeps half s t kind path blob all = with_forms_keeps half s _ (λ form i. node_fits half (form_in s) t kind path blob form all i)
+pub after_node_keeps : (half : Half) (sized : IsHalf half) (s : State) (t : Hash) (kind : Kind) (path : List ℕ) (blob : Bytes) → AreBytes blob → Keeps half s (after_node half s t kind path blob)
+after_node_keeps half sized s t kind path blob all = with_forms_keeps half s _ (λ form i. node_fits half sized (form_in s) t kind path blob form all i)
 
 -- and so does a part of a base reply
-pub after_part_keeps : (half : Half) (s : State) (t : Hash) (kind : Kind) (blob : Option Bytes) → IfBytes blob → Keeps half s (after_part half s t kind blob)
-after_part_keeps half s t kind None all = keeps_self half s
-after_part_keeps half s t kind (Some blob) all = after_node_keeps half s t kind [] blob all
+pub after_part_keeps : (half : Half) (sized : IsHalf half) (s : State) (t : Hash) (kind : Kind) (blob : Option Bytes) → IfBytes blob → Keeps half s (after_part half s t kind blob)
+after_part_keeps half sized s t kind None all = keeps_self half s
+after_part_keeps half sized s t kind (Some blob) all = after_node_keeps half sized s t kind [] blob all
 
 -- a target that isn't zero, and parts of bytes
 abbrev pub AreOffered : Hash → Bytes → Option Bytes → Option Bytes → Type 0
 AreOffered t bytes state tx = IsTrue (is_nonzero t) × AreBytes bytes × IfBytes state × IfBytes tx
 
 -- the parts of a base reply, one after another, keep a state sound
-pub after_parts_keeps : (half : Half) (s : State) (t : Hash) (bytes : Bytes) (state tx : Option Bytes) → AreOffered t bytes state tx → Keeps half s (after_parts half s t bytes state tx)
-after_parts_keeps half s t bytes state tx is =
+pub after_parts_keeps : (half : Half) (sized : IsHalf half) (s : State) (t : Hash) (bytes : Bytes) (state tx : Option Bytes) → AreOffered t bytes state tx → Keeps half s (after_parts half s t bytes state tx)
+after_parts_keeps half sized s t bytes state tx is =
     let r : Result HeadOffered Clash = head_outcome half (form_in s) t bytes in
     let s1 : State = after_head half s bytes r in
     let s2 : State = after_part half s1 t kinds.State state in
     keeps_on half s s1 (after_part half s2 t kinds.Tx tx) (after_head_keeps half s bytes r (λ e. head_fits half (form_in s) t bytes is.0 is.1 e))
-    (keeps_on half s1 s2 (after_part half s2 t kinds.Tx tx) (after_part_keeps half s1 t kinds.State state is.2) (after_part_keeps half s2 t kinds.Tx tx is.3))
+    (keeps_on half s1 s2 (after_part half s2 t kinds.Tx tx) (after_part_keeps half sized s1 t kinds.State state is.2) (after_part_keeps half sized s2 t kinds.Tx tx is.3))
 
 -- each answer to `base` keeps a state sound
-pub after_base_keeps : (half : Half) (s : State) (p : ℕ) (t : Hash) (bytes : Bytes) (state tx : Option Bytes) (reply : Reply) → AreOffered t bytes state tx → Keeps half s (after_base half s p t bytes state tx reply)
-after_base_keeps half s p t bytes state tx (says.Base (base.Parts h a b)) is = after_parts_keeps half s t bytes state tx is
-after_base_keeps half s p t bytes state tx _ is = keeps_self half s
+pub after_base_keeps : (half : Half) (sized : IsHalf half) (s : State) (p : ℕ) (t : Hash) (bytes : Bytes) (state tx : Option Bytes) (reply : Reply) → AreOffered t bytes state tx → Keeps half s (after_base half s p t bytes state tx reply)
+after_base_keeps half sized s p t bytes state tx (says.Base (base.Parts h a b)) is = after_parts_keeps half sized s t bytes state tx is
+after_base_keeps half sized s p t bytes state tx _ is = keeps_self half s
 
 -- and each answer to `node`
-pub after_offer_keeps : (half : Half) (s : State) (p : ℕ) (t : Hash) (kind : Kind) (path : List ℕ) (blob : Bytes) (reply : Reply) → AreBytes blob → Keeps half s (after_offer half s p t kind path blob reply)
-after_offer_keeps half s p t kind path blob (says.Node (node.One o)) all = after_node_keeps half s t kind path blob all
-after_offer_keeps half s p t kind path blob _ all = keeps_self half s
+pub after_offer_keeps : (half : Half) (sized : IsHalf half) (s : State) (p : ℕ) (t : Hash) (kind : Kind) (path : List ℕ) (blob : Bytes) (reply : Reply) → AreBytes blob → Keeps half s (after_offer half s p t kind path blob reply)
+after_offer_keeps half sized s p t kind path blob (says.Node (node.One o)) all = after_node_keeps half sized s t kind path blob all
+after_offer_keeps half sized s p t kind path blob _ all = keeps_self half s
 
 -- the own form of a header is the form of one
 head_own : (half : Half) (bytes : Bytes) (r : Result HeadOffered Clash) (form : Bytes) → (r ≡ Ok head.Good → IsStoredAt half (half (header_prefix ++ bytes)) (header_prefix ++ bytes))
@@ -199,11 +199,11 @@ head_own half bytes (Ok (head.BadHash h)) form fit i = absurd (in_nothing i)
 head_own half bytes (Err c) form fit i = absurd (in_nothing i)
 
 -- the own form of a node is the form of one
-pub node_own : (half : Half) (s : State) (t : Hash) (kind : Kind) (path : List ℕ) (blob : Option Bytes) (form : Bytes) → IfBytes blob
+pub node_own : (half : Half) (sized : IsHalf half) (s : State) (t : Hash) (kind : Kind) (path : List ℕ) (blob : Option Bytes) (form : Bytes) → IfBytes blob
     → Contains (node_forms half s t kind path blob) form → IsByteForm half form
-node_own half s t kind path None form all i = absurd (in_nothing i)
-node_own half s t kind path (Some blob) form all i =
-    let fits : IsStoredAt half (half form) form = node_fits half (form_in s) t kind path blob form all i in
+node_own half sized s t kind path None form all i = absurd (in_nothing i)
+node_own half sized s t kind path (Some blob) form all i =
+    let fits : IsStoredAt half (half form) form = node_fits half sized (form_in s) t kind path blob form all i in
     (fits.held, fits.bytes)
 
 -- what is judged of a peer is judged where it is present
@@ -237,17 +237,17 @@ parts_cases half s t bytes state tx form i =
     (Contains-append_cases (head_forms r bytes) (unless_clash r (first ++ second)) form i)
 
 -- the own form of an offered node is the form of one
-pub offer_own : (half : Half) (s : State) (p : ℕ) (t : Hash) (kind : Kind) (path : List ℕ) (blob form : Bytes) → AreBytes blob → Contains (offer_forms half s p t kind path blob) form → IsByteForm half form
-offer_own half s p t kind path blob form all i =
-    node_own half s t kind path (Some blob) form all (present_form p (get_in hash_cmp s.wanted t) (node_forms half s t kind path (Some blob)) form i)
+pub offer_own : (half : Half) (sized : IsHalf half) (s : State) (p : ℕ) (t : Hash) (kind : Kind) (path : List ℕ) (blob form : Bytes) → AreBytes blob → Contains (offer_forms half s p t kind path blob) form → IsByteForm half form
+offer_own half sized s p t kind path blob form all i =
+    node_own half sized s t kind path (Some blob) form all (present_form p (get_in hash_cmp s.wanted t) (node_forms half s t kind path (Some blob)) form i)
 
 -- the own forms of a base reply are forms of a header and of nodes
-pub base_own : (half : Half) (s : State) (p : ℕ) (t : Hash) (bytes : Bytes) (state tx : Option Bytes) (form : Bytes) → AreOffered t bytes state tx
+pub base_own : (half : Half) (sized : IsHalf half) (s : State) (p : ℕ) (t : Hash) (bytes : Bytes) (state tx : Option Bytes) (form : Bytes) → AreOffered t bytes state tx
     → Contains (base_forms half s p t bytes state tx) form → IsByteForm half form
-base_own half s p t bytes state tx form is i =
+base_own half sized s p t bytes state tx form is i =
     let r : Result HeadOffered Clash = head_outcome half (form_in s) t bytes in
     let s1 : State = after_head half s bytes r in
     let s2 : State = after_part half s1 t kinds.State state in
     ⊎_elim (λ first. head_own half bytes r form (λ e. head_fits half (form_in s) t bytes is.0 is.1 e) first)
-    (λ more. ⊎_elim (λ second. node_own half s1 t kinds.State [] state form is.2 second) (λ third. node_own half s2 t kinds.Tx [] tx form is.3 third) more)
+    (λ more. ⊎_elim (λ second. node_own half sized s1 t kinds.State [] state form is.2 second) (λ third. node_own half sized s2 t kinds.Tx [] tx form is.3 third) more)
     (parts_cases half s t bytes state tx form (present_form p (get_in hash_cmp s.wanted t) (parts_forms half s t bytes state tx) form i))

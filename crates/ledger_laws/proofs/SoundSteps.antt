@@ -4,7 +4,7 @@ use Rattle.std.proofs.Common.{subst}
 use Rattle.std.proofs.lemmas.Option.{slice_get_within, get_or_from_slice_get}
 use Rattle.std.proofs.lemmas.List.Elements.{All-contains}
 use Rattle.ledger_spec.specs.declared.Kind.{Kind}
-use Rattle.ledger_spec.specs.Bytes.{Bytes, Hash, Half, is_nonzero}
+use Rattle.ledger_spec.specs.Bytes.{Bytes, Hash, Half, IsHalf, is_nonzero}
 use Rattle.ledger_spec.specs.Forms.{Held}
 use Rattle.ledger_machine.specs.declared.commands.Command.{Command}
 use Rattle.ledger_machine.specs.declared.commands.Command.TheVariants as command
@@ -14,6 +14,8 @@ use Rattle.ledger_machine.specs.declared.replies.WantReply.{WantReply}
 use Rattle.ledger_machine.specs.declared.replies.WantReply.TheVariants as want
 use Rattle.ledger_machine.specs.declared.replies.PeerReply.{PeerReply}
 use Rattle.ledger_machine.specs.declared.replies.PeerReply.TheVariants as peer
+use Rattle.ledger_machine.specs.declared.replies.TickReply.{TickReply}
+use Rattle.ledger_machine.specs.declared.replies.TickReply.TheVariants as tick
 use Rattle.ledger_machine.specs.declared.replies.Reply.{Reply}
 use Rattle.ledger_machine.specs.declared.replies.Reply.TheVariants as says
 use Rattle.std.specs.Cmp.Lexicographic.{nat_list_cmp_total}
@@ -25,10 +27,11 @@ use Rattle.ledger_machine.specs.Scripts.{AreBytes, IsAcquiring, IsInRange}
 use Rattle.ledger_machine.specs.Want.{want_reply, after_want}
 use Rattle.ledger_machine.specs.Peer.{peer_reply, after_peer, with_peer}
 use Rattle.ledger_machine.specs.Check.{check_reply, after_check}
+use Rattle.ledger_machine.specs.Ticks.{tick_reply, after_tick}
 use Rattle.ledger_machine.specs.Sound.{Sound}
 use Rattle.ledger_machine.specs.Steps.{Step, Outcomes, Answered, Refused, Gives}
 use Rattle.ledger_machine.specs.Runs.{Run, used_by}
-use Rattle.ledger_laws.proofs.SoundKeeps.{Keeps, keeps_sound, keeps_self, keeps_after, wanted_keeps, with_wanted_keeps, same_keeps}
+use Rattle.ledger_laws.proofs.SoundKeeps.{Keeps, keeps_sound, keeps_self, keeps_after, wanted_keeps, with_wanted_keeps, ended_keeps, same_keeps}
 use Rattle.std.specs.Ordering.{nat_cmp}
 use Rattle.ledger_laws.proofs.SoundTables.{none_rises, insert_rises}
 use Rattle.ledger_laws.proofs.SoundKeeps.{HasCharges, shaded_same, shaded_tables}
@@ -57,6 +60,12 @@ peer_keeps : (half : Half) (s : State) (p : ℕ) (t : Hash) (r : PeerReply) → 
 peer_keeps half s p t peer.Added = with_wanted_keeps half s t (with_peer p) (λ a rises. insert_rises nat_cmp_total a.charges p 0 rises)
 peer_keeps half s p t _ = keeps_self half s
 
+-- and each answer to `tick`
+pub tick_keeps : (half : Half) (s : State) (t : Hash) (r : TickReply) → Keeps half s (after_tick s t r)
+tick_keeps half s t (tick.Timeout n) = with_wanted_keeps half s t (λ a. record a { ticks = n; asked = [] }) (λ a rises. rises)
+tick_keeps half s t (tick.GaveUp n) = ended_keeps half s t
+tick_keeps half s t tick.NotOpen = keeps_self half s
+
 -- the state after an answer that keeps a state sound
 gives_sound : (half : Half) (s t s' : State) (r reply : Reply) → Sound half s → Keeps half s t → Gives r t reply s' → Sound half s'
 gives_sound half s t s' r reply sound k g = keeps_sound half s s' sound (keeps_after half s t s' k g.after)
@@ -79,6 +88,14 @@ peer_sound half s s' a p t reply used sound step =
     (λ g. gives_sound half s (after_peer s p t (peer_reply s p t)) s' (says.Peer (peer_reply s p t)) reply sound (peer_keeps half s p t (peer_reply s p t)) g)
     (outcome_cases half s a (command.Peer p t) reply used s' step.outcome)
 
+-- a step of `tick`
+pub tick_sound : (half : Half) (s s' : State) (a : ℕ) (t : Hash) (reply : Reply) (used : List Held) → Sound half s
+    → Step half s a (command.Tick t) reply used s' → Sound half s'
+tick_sound half s s' a t reply used sound step =
+    ⊎_elim (λ r. keeps_sound half s s' sound (refused_none half s a (command.Tick t) s' refl r))
+    (λ g. gives_sound half s (after_tick s t (tick_reply s t)) s' (says.Tick (tick_reply s t)) reply sound (tick_keeps half s t (tick_reply s t)) g)
+    (outcome_cases half s a (command.Tick t) reply used s' step.outcome)
+
 -- a step of `check`
 pub check_step_sound : (half : Half) (s s' : State) (a : ℕ) (t : Hash) (reply : Reply) (used : List Held) → Sound half s → Step half s a (command.Check t) reply used s' → Sound half s'
 check_step_sound half s s' a t reply used sound step =
@@ -87,47 +104,48 @@ check_step_sound half s s' a t reply used sound step =
     (outcome_cases half s a (command.Check t) reply used s' step.outcome)
 
 -- a step of `base`
-pub base_sound : (half : Half) (s s' : State) (a p : ℕ) (t : Hash) (bytes : Bytes) (state tx : Option Bytes) (reply : Reply) (used : List Held) → AreOffered t bytes state tx → Sound half s
+pub base_sound : (half : Half) (sized : IsHalf half) (s s' : State) (a p : ℕ) (t : Hash) (bytes : Bytes) (state tx : Option Bytes) (reply : Reply) (used : List Held) → AreOffered t bytes state tx → Sound half s
     → Step half s a (command.Base p t bytes state tx) reply used s' → Sound half s'
-base_sound half s s' a p t bytes state tx reply used is sound step =
-    ⊎_elim (λ r. keeps_sound half s s' sound (refused_keeps half s a (command.Base p t bytes state tx) s' (λ form i. base_own half s p t bytes state tx form is i) r))
-    (λ g. gives_sound half s _ s' _ reply sound (after_base_keeps half s p t bytes state tx reply is) g)
+base_sound half sized s s' a p t bytes state tx reply used is sound step =
+    ⊎_elim (λ r. keeps_sound half s s' sound (refused_keeps half s a (command.Base p t bytes state tx) s' (λ form i. base_own half sized s p t bytes state tx form is i) r))
+    (λ g. gives_sound half s _ s' _ reply sound (after_base_keeps half sized s p t bytes state tx reply is) g)
     (outcome_cases half s a (command.Base p t bytes state tx) reply used s' step.outcome)
 
 -- a step of `node`
-pub node_sound : (half : Half) (s s' : State) (a p : ℕ) (t : Hash) (kind : Kind) (path : List ℕ) (blob : Bytes) (reply : Reply) (used : List Held) → AreBytes blob → Sound half s
+pub node_sound : (half : Half) (sized : IsHalf half) (s s' : State) (a p : ℕ) (t : Hash) (kind : Kind) (path : List ℕ) (blob : Bytes) (reply : Reply) (used : List Held) → AreBytes blob → Sound half s
     → Step half s a (command.Node p t kind path blob) reply used s' → Sound half s'
-node_sound half s s' a p t kind path blob reply used all sound step =
-    ⊎_elim (λ r. keeps_sound half s s' sound (refused_keeps half s a (command.Node p t kind path blob) s' (λ form i. offer_own half s p t kind path blob form all i) r))
-    (λ g. gives_sound half s _ s' _ reply sound (after_offer_keeps half s p t kind path blob reply all) g)
+node_sound half sized s s' a p t kind path blob reply used all sound step =
+    ⊎_elim (λ r. keeps_sound half s s' sound (refused_keeps half s a (command.Node p t kind path blob) s' (λ form i. offer_own half sized s p t kind path blob form all i) r))
+    (λ g. gives_sound half s _ s' _ reply sound (after_offer_keeps half sized s p t kind path blob reply all) g)
     (outcome_cases half s a (command.Node p t kind path blob) reply used s' step.outcome)
 
 -- each step of a command that acquires a ledger leads from a sound state to a sound state
-pub acquiring_step_sound : (half : Half) (s s' : State) (a : ℕ) (c : Command) (reply : Reply) (used : List Held) → IsAcquiring c → IsInRange c → Sound half s → Step half s a c reply used s'
+pub acquiring_step_sound : (half : Half) (sized : IsHalf half) (s s' : State) (a : ℕ) (c : Command) (reply : Reply) (used : List Held) → IsAcquiring c → IsInRange c → Sound half s → Step half s a c reply used s'
     → Sound half s'
-acquiring_step_sound half s s' a (command.Want t seq) reply used acquiring range sound step = want_sound half s s' a t seq reply used sound step
-acquiring_step_sound half s s' a (command.Peer p t) reply used acquiring range sound step = peer_sound half s s' a p t reply used sound step
-acquiring_step_sound half s s' a (command.Base p t bytes state tx) reply used acquiring range sound step = base_sound half s s' a p t bytes state tx reply used range sound step
-acquiring_step_sound half s s' a (command.Node p t kind path blob) reply used acquiring range sound step = node_sound half s s' a p t kind path blob reply used range.2 sound step
-acquiring_step_sound half s s' a (command.Check t) reply used acquiring range sound step = check_step_sound half s s' a t reply used sound step
-acquiring_step_sound half s s' a _ reply used acquiring range sound step = absurd acquiring
+acquiring_step_sound half sized s s' a (command.Want t seq) reply used acquiring range sound step = want_sound half s s' a t seq reply used sound step
+acquiring_step_sound half sized s s' a (command.Peer p t) reply used acquiring range sound step = peer_sound half s s' a p t reply used sound step
+acquiring_step_sound half sized s s' a (command.Base p t bytes state tx) reply used acquiring range sound step = base_sound half sized s s' a p t bytes state tx reply used range sound step
+acquiring_step_sound half sized s s' a (command.Node p t kind path blob) reply used acquiring range sound step = node_sound half sized s s' a p t kind path blob reply used range.2 sound step
+acquiring_step_sound half sized s s' a (command.Check t) reply used acquiring range sound step = check_step_sound half s s' a t reply used sound step
+acquiring_step_sound half sized s s' a (command.Tick t) reply used acquiring range sound step = tick_sound half s s' a t reply used sound step
+acquiring_step_sound half sized s s' a _ reply used acquiring range sound step = absurd acquiring
 
 -- a line at a place is a line of the script
 pub line_at : (lines : List Line) (place : ℕ) (l : Line) → slice_get lines place ≡ Some l → Contains lines l
 line_at lines place l e = (place, slice_get_within lines place l e, get_or_from_slice_get lines place l l e)
 
 -- each run over such commands leads from a sound state to a sound state
-pub acquiring_run_sound : (half : Half) (lines : List Line) (s : State) (entries : List Entry) (s' : State)
+pub acquiring_run_sound : (half : Half) (sized : IsHalf half) (lines : List Line) (s : State) (entries : List Entry) (s' : State)
     → ((l : Line) → Contains lines l → IsAcquiring l.command × IsInRange l.command) → Sound half s → Run half lines s entries s' → Sound half s'
-acquiring_run_sound half lines s [] s' each sound run = subst (λ x. Sound half x) (sym run) sound
-acquiring_run_sound half lines s (e ∷ rest) s' each sound run =
+acquiring_run_sound half sized lines s [] s' each sound run = subst (λ x. Sound half x) (sym run) sound
+acquiring_run_sound half sized lines s (e ∷ rest) s' each sound run =
     let line : Line = run.1.line in
     let fit : IsAcquiring line.command × IsInRange line.command = each line (line_at lines run.1.place line run.1.stands) in
-    acquiring_run_sound half lines run.0 rest s' each
-    (acquiring_step_sound half s run.0 e.actor line.command e.reply (used_by e) fit.0 fit.1 sound run.1.step) run.2
+    acquiring_run_sound half sized lines run.0 rest s' each
+    (acquiring_step_sound half sized s run.0 e.actor line.command e.reply (used_by e) fit.0 fit.1 sound run.1.step) run.2
 
 -- the same, where all lines are such commands
-pub acquiring_lines_sound : (half : Half) (lines : List Line) (s : State) (entries : List Entry) (s' : State)
+pub acquiring_lines_sound : (half : Half) (sized : IsHalf half) (lines : List Line) (s : State) (entries : List Entry) (s' : State)
     → All (λ l. IsAcquiring l.command) lines → All (λ l. IsInRange l.command) lines → Sound half s → Run half lines s entries s' → Sound half s'
-acquiring_lines_sound half lines s entries s' acquiring range sound run =
-    acquiring_run_sound half lines s entries s' (λ l i. (All-contains (λ x. IsAcquiring x.command) lines l acquiring i, All-contains (λ x. IsInRange x.command) lines l range i)) sound run
+acquiring_lines_sound half sized lines s entries s' acquiring range sound run =
+    acquiring_run_sound half sized lines s entries s' (λ l i. (All-contains (λ x. IsAcquiring x.command) lines l acquiring i, All-contains (λ x. IsInRange x.command) lines l range i)) sound run

@@ -6,7 +6,7 @@ use Rattle.ledger_spec.specs.declared.Kind.{Kind}
 use Rattle.ledger_spec.specs.declared.Kind.TheVariants as kinds
 use Rattle.ledger_spec.specs.Bytes.{Bytes, Hash, Half, Lookup}
 use Rattle.ledger_spec.specs.Forms.{header_prefix}
-use Rattle.ledger_spec.specs.Wire.{read_offered}
+use Rattle.ledger_spec.specs.Wire.{read_wire}
 use Rattle.ledger_spec.specs.declared.outcomes.Offered.{Offered}
 use Rattle.ledger_spec.specs.declared.outcomes.HeadOffered.{HeadOffered}
 use Rattle.ledger_spec.specs.declared.outcomes.HeadOffered.TheVariants as head
@@ -91,7 +91,7 @@ after_offer half s p t kind path blob _ = s
 -- the forms that a part stores
 abbrev pub node_forms : Half → State → Hash → Kind → List ℕ → Option Bytes → List Bytes
 node_forms half s t kind path None = []
-node_forms half s t kind path (Some blob) = stored_by (read_offered half blob) (node_outcome half (form_in s) t kind path blob)
+node_forms half s t kind path (Some blob) = stored_by (read_wire half blob) (node_outcome half (form_in s) t kind path blob)
 
 -- nothing is judged behind a clash
 abbrev pub unless_clash : {X : Type 0} → Result X Clash → List Bytes → List Bytes

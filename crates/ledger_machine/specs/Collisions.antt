@@ -4,7 +4,7 @@ use Rattle.std.specs.Prelude.{Some, Result, Ok, Err}
 use Rattle.std.specs.List.{flat_map, Contains}
 use Rattle.ledger_spec.specs.Bytes.{Bytes, Half}
 use Rattle.ledger_spec.specs.Forms.{Held, form_of, header_prefix}
-use Rattle.ledger_spec.specs.Wire.{read_offered}
+use Rattle.ledger_spec.specs.Wire.{read_wire}
 use Rattle.ledger_machine.specs.declared.commands.Command.{Command}
 use Rattle.ledger_machine.specs.declared.commands.Command.TheVariants as command
 use Rattle.ledger_machine.specs.declared.commands.Line.{Line}
@@ -19,7 +19,7 @@ form_read (Err cause) = []
 -- the form of the node that a part is
 abbrev pub part_form : Half → Option Bytes → List Bytes
 part_form half None = []
-part_form half (Some blob) = form_read (read_offered half blob)
+part_form half (Some blob) = form_read (read_wire half blob)
 
 -- the form of a header, where the bytes are as many as one has
 abbrev pub head_form : Bytes → List Bytes

@@ -4,7 +4,7 @@ use Rattle.std.specs.List.{Contains}
 use Rattle.ledger_spec.specs.Bytes.{Bytes, Hash, Half}
 use Rattle.ledger_spec.specs.Forms.{Held, header, form_of, hash_of}
 use Rattle.ledger_spec.specs.Reach.{Reach}
-use Rattle.ledger_spec.specs.Wire.{read_offered}
+use Rattle.ledger_spec.specs.Wire.{read_wire}
 use Rattle.ledger_machine.specs.declared.commands.Command.{Command}
 use Rattle.ledger_machine.specs.declared.commands.Command.TheVariants as command
 use Rattle.ledger_spec.specs.declared.outcomes.Offered.{Offered}
@@ -35,7 +35,7 @@ IsHeadReceived _ = ⊥
 
 -- the bytes of a part are this node, and it is received
 abbrev pub IsReceivedPart : Half → Option Bytes → Option Offered → Held → Type 0
-IsReceivedPart half (Some blob) (Some o) n = IsReceived o × (read_offered half blob ≡ Ok n)
+IsReceivedPart half (Some blob) (Some o) n = IsReceived o × (read_wire half blob ≡ Ok n)
 IsReceivedPart half _ _ n = ⊥
 
 -- the answer to a command says that this node or header is received for the target

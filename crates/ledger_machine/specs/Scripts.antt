@@ -105,4 +105,5 @@ IsAcquiring (command.Peer p t) = Unit {0}
 IsAcquiring (command.Base p t head state tx) = Unit {0}
 IsAcquiring (command.Node p t kind path blob) = Unit {0}
 IsAcquiring (command.Check t) = Unit {0}
+IsAcquiring (command.Tick t) = Unit {0}
 IsAcquiring _ = ⊥

@@ -1,15 +1,19 @@
--- What is read of a peer's bytes has a form, and what is wanted at a place isn't zero.
-use Rattle.std.proofs.Common.{◌≡◌, ⊎_elim, ◌≤◌, ◌-◌, ◌*◌, ℕ, zero, suc, Bool, true, false, not, ◌||◌, if◌then◌else◌, ◌==◌, nat_lt, List}
+-- What is read of a wire form has a prefix form, and what is wanted at a place isn't zero.
+use Rattle.std.proofs.Common.{◌≡◌, ◌⊎◌, inl, inr, ⊎_elim, ◌≤◌, ◌-◌, ◌*◌, ◌/◌, ◌%◌, ℕ, zero, suc, Bool, true, false, not, if◌then◌else◌, ◌==◌}
+use Rattle.std.proofs.Common.{nat_lt, List, map}
 use Rattle.std.proofs.Common.{[], ◌∷◌, ◌++◌, length, take, drop, slice_index, Option, None, Some, Result, Ok, Err, IsTrue, refl, sym, ap}
 use Rattle.std.proofs.Common.{◌∙◌, subst, arith, length-take, length-drop}
 use Rattle.std.specs.Option.{option_map_or}
-use Rattle.std.specs.List.{list_all, list_any, slice_index_or}
-use Rattle.std.proofs.lemmas.Bool.{ltb-false, eqb-true, eq-eqb, and_from, or_cases}
+use Rattle.std.specs.List.{list_all, list_any, find, slice_index_or, AllByRecursion}
+use Rattle.std.proofs.lemmas.Bool.{ltb-false, eqb-true, eq-eqb, and_from}
+use Rattle.std.proofs.lemmas.List.{length-map}
+use Rattle.std.proofs.lemmas.Nat.{div-add-mod'}
 use Rattle.ledger_spec.specs.declared.Kind.{Kind}
-use Rattle.ledger_spec.specs.declared.Kind.TheVariants.{State}
-use Rattle.ledger_spec.specs.Bytes.{Bytes, Hash, Half, Lookup, zero_hash, is_zero, is_nonzero, hashes_of}
-use Rattle.ledger_spec.specs.Forms.{Held, inner, leaf, IsHeld, IsItem, IsInner, data_limit, inner_of}
-use Rattle.ledger_spec.specs.Wire.{checked_leaf, keyed_leaf, checked_inner, full, read_typed, read_wire, is_read, read_offered}
+use Rattle.ledger_spec.specs.declared.Kind.TheVariants.{State, Tx, Set}
+use Rattle.ledger_spec.specs.Bytes.{Bytes, Hash, Half, IsHalf, Lookup, zero_hash, is_zero, is_nonzero, branches, hashes_of}
+use Rattle.ledger_spec.specs.Forms.{Held, inner, leaf, IsHeld, IsItem, IsInner, data_limit, inner_of, leaf_form}
+use Rattle.ledger_spec.specs.Wire.{Chunk, checked_leaf, keyed_leaf, checked_inner, full, compressed, chunks_in, chunk_cause, hash_at}
+use Rattle.ledger_spec.specs.Wire.{read_typed, read_wire}
 use Rattle.ledger_spec.specs.Spots.{Spot, no_base, no_parent, empty_branch, under_leaf, wanted, spot_from, into, spot_below, spot_of}
 use Rattle.ledger_spec.specs.Spots.{header_in, header_root}
 
@@ -31,20 +35,46 @@ pub at_test : {X : Type 0} (b : Bool) (cause : ℕ) (r : Result X ℕ) (x : X) �
 at_test true cause r x e = (refl, e)
 at_test false cause r x e = absurd (err_ok e)
 
--- an account state's leaf that is read has a form
-checked_leaf_held : (half : Half) (key bytes : List ℕ) (n : Held) → length key ≡ 32 → checked_leaf State key bytes ≡ Ok n → IsHeld half n
-checked_leaf_held half key bytes n size e =
+-- one of two results, by a test
+pub either_way : {X : Type 0} (b : Bool) (r s : Result X ℕ) (x : X) → (if b then r else s) ≡ Ok x → (r ≡ Ok x) ⊎ (s ≡ Ok x)
+either_way true r s x e = inl e
+either_way false r s x e = inr e
+
+-- what the tests of a leaf with a key of 32 bytes say
+pub record IsLeafRead (kind : Kind) (key bytes : Bytes) (n : Held) : Type 0 where
+  pub item : IsItem key bytes
+  pub node : leaf kind key bytes ≡ n
+
+leaf_read : (kind : Kind) (key bytes : Bytes) (n : Held) → length key ≡ 32 → checked_leaf kind key bytes ≡ Ok n → IsLeafRead kind key bytes n
+leaf_read kind key bytes n size e =
     let small : (nat_lt data_limit (length bytes) ≡ false) × _ = past_test (nat_lt data_limit (length bytes)) 11 _ n e in
-    let nonzero : (is_zero key ≡ false) × (Ok (leaf State key bytes) ≡ Ok n) = past_test (is_zero key) 10 (Ok (leaf State key bytes)) n small.1 in
-    let is : IsItem key bytes = record { key_size = size; key_nonzero = ap not nonzero.0; data_size = ltb-false data_limit (length bytes) small.0 } in
-    subst (λ x. IsHeld half x) (ok_same nonzero.1) is
+    let nonzero : (is_zero key ≡ false) × (Ok (leaf kind key bytes) ≡ Ok n) = past_test (is_zero key) 10 (Ok (leaf kind key bytes)) n small.1 in
+    record {
+      item = record { key_size = size; key_nonzero = ap not nonzero.0; data_size = ltb-false data_limit (length bytes) small.0 };
+      node = ok_same nonzero.1;
+    }
 
 -- a leaf whose key stands behind its data has a form
-keyed_leaf_held : (half : Half) (front : List ℕ) (n : Held) → keyed_leaf State front ≡ Ok n → IsHeld half n
-keyed_leaf_held half front n e =
+keyed_read : (kind : Kind) (front : Bytes) (n : Held) → keyed_leaf kind front ≡ Ok n
+    → IsLeafRead kind (drop (length front - 32) front) (take (length front - 32) front) n
+keyed_read kind front n e =
     let long : (nat_lt (length front) 32 ≡ false) × _ = past_test (nat_lt (length front) 32) 9 _ n e in
     let enough : 32 ≤ length front = ltb-false (length front) 32 long.0 in
-    checked_leaf_held half (drop (length front - 32) front) (take (length front - 32) front) n (omega (arith, length-drop (length front - 32) front, enough)) long.1
+    leaf_read kind (drop (length front - 32) front) (take (length front - 32) front) n
+    (omega (arith, length-drop (length front - 32) front, enough)) long.1
+
+-- a leaf without a key has one: its hash
+bare_held : (half : Half) (front : Bytes) (n : Held) → length (half (leaf_form Set zero_hash front)) ≡ 32
+    → checked_leaf Set (half (leaf_form Set zero_hash front)) front ≡ Ok n → IsHeld half n
+bare_held half front n size e =
+    let is = leaf_read Set (half (leaf_form Set zero_hash front)) front n size e in
+    subst (λ x. IsHeld half x) is.node (is.item, refl)
+
+state_held : (half : Half) (front : Bytes) (n : Held) → keyed_leaf State front ≡ Ok n → IsHeld half n
+state_held half front n e = let is = keyed_read State front n e in subst (λ x. IsHeld half x) is.node is.item
+
+tx_held : (half : Half) (front : Bytes) (n : Held) → keyed_leaf Tx front ≡ Ok n → IsHeld half n
+tx_held half front n e = let is = keyed_read Tx front n e in subst (λ x. IsHeld half x) is.node is.item
 
 -- as many pieces as are asked for
 pub count_hashes : (n : ℕ) (bytes : List ℕ) → length (hashes_of n bytes) ≡ n
@@ -60,7 +90,8 @@ sizes_of_hashes (suc n) bytes e =
     (sizes_of_hashes n (drop 32 bytes) (omega (arith, length-drop 32 bytes, e)))
 
 -- an inner node of sixteen hashes that is read has a form
-checked_inner_held : (half : Half) (hashes : List Hash) (n : Held) → length hashes ≡ 16 → IsTrue (list_all (λ h. length h == 32) hashes) → checked_inner hashes ≡ Ok n → IsHeld half n
+checked_inner_held : (half : Half) (hashes : List Hash) (n : Held) → length hashes ≡ 16
+    → IsTrue (list_all (λ h. length h == 32) hashes) → checked_inner hashes ≡ Ok n → IsHeld half n
 checked_inner_held half hashes n count sizes e =
     let some : (list_any is_nonzero hashes ≡ true) × (Ok (inner hashes) ≡ Ok n) = at_test (list_any is_nonzero hashes) 8 (Ok (inner hashes)) n e in
     let is : IsInner hashes = record { count = count; sizes = sizes; some = some.0 } in
@@ -69,39 +100,87 @@ checked_inner_held half hashes n count sizes e =
 -- what isn't false is true
 not_false : (b : Bool) → not b ≡ false → b ≡ true
 not_false true e = refl
-not_false false e = absurd (elim_true e)
-  where
-    elim_true : true ≡ false → ⊥
-    elim_true e = cc
+not_false false e = cc
 
 -- a full inner node has a form
 full_held : (half : Half) (front : List ℕ) (n : Held) → full front ≡ Ok n → IsHeld half n
 full_held half front n e =
-    let exact : (not (length front == 512) ≡ false) × (checked_inner (hashes_of 16 front) ≡ Ok n) = past_test (not (length front == 512)) 3 (checked_inner (hashes_of 16 front)) n e in
+    let exact : (not (length front == 512) ≡ false) × (checked_inner (hashes_of 16 front) ≡ Ok n) =
+    past_test (not (length front == 512)) 3 (checked_inner (hashes_of 16 front)) n e
+    in
     let size : length front ≡ 16 * 32 = eqb-true (length front) 512 (not_false (length front == 512) exact.0) in
     checked_inner_held half (hashes_of 16 front) n (count_hashes 16 front) (sizes_of_hashes 16 front size) exact.1
 
--- what is read of the types that peers send has a form
-read_typed_held : (half : Half) (front : List ℕ) (type : ℕ) (n : Held) → is_read type ≡ true → read_typed half front type ≡ Ok n → IsHeld half n
-read_typed_held half front type n read e =
-    ⊎_elim
-    (λ one. keyed_leaf_held half front n (subst (λ x. read_typed half front x ≡ Ok n) (eqb-true type 1 one) e))
-    (λ two. full_held half front n (subst (λ x. read_typed half front x ≡ Ok n) (eqb-true type 2 two) e))
-    (or_cases (type == 1) (type == 2) read)
+-- each chunk of a multiple of 33 bytes has a hash of 32 bytes
+pub chunk_sizes : (n : ℕ) (b : Bytes) → length b ≡ 33 * n → AllByRecursion (λ c. length c.hash ≡ 32) (chunks_in n b)
+chunk_sizes zero b size = tt
+chunk_sizes (suc n) b size =
+    (omega (arith, length-take 32 b, size), chunk_sizes n (drop 33 b) (omega (arith, length-drop 33 b, size)))
 
--- what is read of a text that isn't empty
-read_wire_held : (half : Half) (w : List ℕ) (n : Held) → ((length w == 0) || is_read (slice_index w (length w - 1))) ≡ true → read_wire half w ≡ Ok n → IsHeld half n
+-- what holds of the hash of each chunk, and of the zero hash, holds of the hash at each position
+pub hash_by_chunks : (P : Hash → Type 0) (chunks : List Chunk) → AllByRecursion (λ c. P c.hash) chunks → P zero_hash → (b : ℕ)
+    → P (hash_at chunks b)
+hash_by_chunks P [] all at_zero b = at_zero
+hash_by_chunks P (c ∷ chunks) all at_zero b = by_place (c.position == b) (hash_by_chunks P chunks all.1 at_zero b)
+  where
+    by_place : (t : Bool) → P (hash_at chunks b)
+        → P (option_map_or (λ (d : Chunk). d.hash) (if t then Some c else find (λ d. d.position == b) chunks) zero_hash)
+    by_place true later = all.0
+    by_place false later = later
+
+pub sizes_map : (f : ℕ → Hash) (xs : List ℕ) → ((b : ℕ) → length (f b) ≡ 32) → IsTrue (list_all (λ h. length h == 32) (map f xs))
+sizes_map f [] size = refl
+sizes_map f (x ∷ xs) size =
+    and_from (length (f x) == 32) (list_all (λ h. length h == 32) (map f xs)) (eq-eqb (length (f x)) 32 (size x)) (sizes_map f xs size)
+
+-- a multiple of 33, taken apart
+pub whole_size : (n : ℕ) → n % 33 ≡ 0 → n ≡ 33 * (n / 33)
+whole_size n whole = omega (arith, div-add-mod' n 33, whole)
+
+-- what the tests of a compressed inner node say
+pub record IsCompressedRead (front : Bytes) (n : Held) : Type 0 where
+  pub size : length front ≡ 33 * (length front / 33)
+  pub parts : checked_inner (map (hash_at (chunks_in (length front / 33) front)) branches) ≡ Ok n
+
+pub compressed_read_is : (front : Bytes) (n : Held) → compressed front ≡ Ok n → IsCompressedRead front n
+compressed_read_is front n e =
+    let chunks : List Chunk = chunks_in (length front / 33) front in
+    let whole : (not (length front % 33 == 0) ≡ false) × _ = past_test (not (length front % 33 == 0)) 4 _ n e in
+    let clean : (not (chunk_cause [] chunks == 0) ≡ false) × (checked_inner (map (hash_at chunks) branches) ≡ Ok n) =
+    past_test (not (chunk_cause [] chunks == 0)) (chunk_cause [] chunks) (checked_inner (map (hash_at chunks) branches)) n whole.1
+    in
+    record { size = whole_size (length front) (eqb-true (length front % 33) 0 (not_false (length front % 33 == 0) whole.0)); parts = clean.1 }
+
+-- a compressed inner node has a form
+compressed_held : (half : Half) (front : Bytes) (n : Held) → compressed front ≡ Ok n → IsHeld half n
+compressed_held half front n e =
+    let chunks : List Chunk = chunks_in (length front / 33) front in
+    let is = compressed_read_is front n e in
+    checked_inner_held half (map (hash_at chunks) branches) n (length-map branches (hash_at chunks))
+    (sizes_map (hash_at chunks) branches
+    (hash_by_chunks (λ h. length h ≡ 32) chunks (chunk_sizes (length front / 33) front is.size) refl)) is.parts
+
+-- what is read before a type byte has a form
+read_typed_held : (half : Half) (front : List ℕ) (type : ℕ) (n : Held) → length (half (leaf_form Set zero_hash front)) ≡ 32
+    → read_typed half front type ≡ Ok n → IsHeld half n
+read_typed_held half front type n size e =
+    ⊎_elim (λ bare. bare_held half front n size bare)
+    (λ e1. ⊎_elim (λ state. state_held half front n state)
+    (λ e2. ⊎_elim (λ all. full_held half front n all)
+    (λ e3. ⊎_elim (λ chunks. compressed_held half front n chunks)
+    (λ e4. ⊎_elim (λ tx. tx_held half front n tx) (λ no. absurd (err_ok no)) (either_way (type == 4) _ _ n e4))
+    (either_way (type == 3) _ _ n e3))
+    (either_way (type == 2) _ _ n e2))
+    (either_way (type == 1) _ _ n e1))
+    (either_way (type == 0) _ _ n e)
+
+-- what is read of a wire form has a prefix form
+pub read_wire_held : (half : Half) (w : List ℕ) (n : Held) → IsHalf half → read_wire half w ≡ Ok n → IsHeld half n
 unfolding read_wire
-read_wire_held half w n read e =
+read_wire_held half w n is e =
     let some : (length w == 0 ≡ false) × _ = past_test (length w == 0) 1 _ n e in
-    read_typed_held half (take (length w - 1) w) (slice_index w (length w - 1)) n (subst (λ b. (b || is_read (slice_index w (length w - 1))) ≡ true) some.0 read) some.1
-
--- what is read of a peer's bytes has a form
-pub read_offered_held : (half : Half) (w : List ℕ) (n : Held) → read_offered half w ≡ Ok n → IsHeld half n
-read_offered_held half w n e =
-    let read : (((length w == 0) || is_read (slice_index w (length w - 1))) ≡ true) × (read_wire half w ≡ Ok n) =
-    at_test ((length w == 0) || is_read (slice_index w (length w - 1))) 2 (read_wire half w) n e in
-    read_wire_held half w n read.0 read.1
+    read_typed_held half (take (length w - 1) w) (slice_index w (length w - 1)) n
+    (is.size (leaf_form Set zero_hash (take (length w - 1) w))) some.1
 
 -- what is wanted at one place is one
 pub wanted_same : {h g : Hash} {p q : Option (List Hash)} → wanted h p ≡ wanted g q → h ≡ g

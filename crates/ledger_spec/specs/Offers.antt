@@ -4,7 +4,7 @@ use Rattle.ledger_spec.specs.declared.Kind.{Kind}
 use Rattle.ledger_spec.specs.declared.ShapeFault.{ShapeFault}
 use Rattle.ledger_spec.specs.Bytes.{Bytes, Hash, Half, Lookup, same_bytes}
 use Rattle.ledger_spec.specs.Forms.{Held, form_of, hash_of, header_prefix}
-use Rattle.ledger_spec.specs.Wire.{read_offered}
+use Rattle.ledger_spec.specs.Wire.{read_wire}
 use Rattle.ledger_spec.specs.Rules.{rule_number, fault_of}
 use Rattle.ledger_spec.specs.Spots.{Spot, no_base, no_parent, empty_branch, under_leaf, wanted, spot_of}
 use Rattle.ledger_spec.specs.declared.outcomes.Offered.{Offered}
@@ -53,7 +53,7 @@ wire_outcome half nodes t kind path (Ok n) = spot_outcome half nodes kind path n
 
 -- the first that applies: a bad wire form, the refusals of the place, a bad hash, a clash, a duplicate, a broken rule, good
 abbrev pub node_outcome : Half → Lookup → Hash → Kind → List ℕ → Bytes → Result Offered Clash
-node_outcome half nodes t kind path blob = wire_outcome half nodes t kind path (read_offered half blob)
+node_outcome half nodes t kind path blob = wire_outcome half nodes t kind path (read_wire half blob)
 
 -- what an outcome stores: a node that is good, or that breaks a rule
 abbrev pub stored_by : Result Held ℕ → Result Offered Clash → List Bytes

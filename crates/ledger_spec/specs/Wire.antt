@@ -1,5 +1,5 @@
 -- The bytes in which peers send a node, ended by a type byte.
-use Rattle.std.specs.Prelude.{map, ◌≡◌, ◌≢◌, ◌⊎◌, ℕ, zero, suc, ◌<◌, ◌-◌, ◌/◌, ◌%◌, ◌==◌, ◌||◌, not, Bool, if◌then◌else◌, nat_lt, List}
+use Rattle.std.specs.Prelude.{map, ◌≡◌, ◌≢◌, ◌⊎◌, ℕ, zero, suc, ◌<◌, ◌-◌, ◌/◌, ◌%◌, ◌==◌, not, if◌then◌else◌, nat_lt, List}
 use Rattle.std.specs.Prelude.{[], ◌∷◌, ◌++◌, length, take, drop, slice_index, IsTrue, Result, Ok, Err}
 use Rattle.std.specs.Option.{option_map_or}
 use Rattle.std.specs.List.{concat, flat_map, filter, find, count_by, list_any, slice_index_or, AllPairs, AllByRecursion}
@@ -112,12 +112,3 @@ read_typed half front type =
 -- the node of a wire form, or the number of the first cause that applies
 unfoldable pub read_wire : Half → Bytes → Result Held ℕ
 read_wire half w = if length w == 0 then Err 1 else read_typed half (take (length w - 1) w) (slice_index w (length w - 1))
-
--- the types that peers' nodes are read from at present: account states and full inner nodes
-abbrev pub is_read : ℕ → Bool
-is_read type = (type == 1) || (type == 2)
-
--- reading what a peer sends: an empty text and the types above; any other type is unknown
-abbrev pub read_offered : Half → Bytes → Result Held ℕ
-read_offered half w =
-    if (length w == 0) || is_read (slice_index w (length w - 1)) then read_wire half w else Err 2

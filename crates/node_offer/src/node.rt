@@ -4,7 +4,7 @@ ghost use Rattle.std.specs.FinMap as map;
 ghost use Rattle.std.specs.Option.{option_map};
 ghost use Rattle.ledger_spec.specs.Rules.{fault_of, rule_number};
 ghost use Rattle.ledger_spec.specs.Spots as way;
-ghost use Rattle.ledger_spec.specs.Wire.{read_offered};
+ghost use Rattle.ledger_spec.specs.Wire.{read_wire};
 ghost use Rattle.shamap_node.specs.Nodes.{held};
 ghost use Rattle.ledger_spec.specs.Offers.{node_outcome, spot_outcome, stored_by};
 ghost use Rattle.node_offer.specs.Stored.{HasClash, with_nodes};
@@ -16,7 +16,7 @@ use half_hash::{Hash32, NodeHash};
 use ledger_spec::Offered;
 use nib_path::NodeId;
 use node_table::NodeTable;
-use node_wire::{WireFault, decode_offered, wire_code};
+use node_wire::{WireFault, decode_wire, wire_code};
 use shamap_node::{Inner, Kind, Node, encode_form, hash_of, shape};
 use std::alloc::Global;
 
@@ -35,10 +35,10 @@ pub fn offer<H: NodeHash>(
     ensures clash { IfErr result (HasClash (node_outcome H.half (map.get nodes.old) target.now kind id.now blob.now)) }
 
     // a node that is good, or that breaks a rule, is stored under its hash, and nothing else changes
-    ensures stored { IfOk result (λ o. nodes.new ≡ with_nodes H.half nodes.old (stored_by (read_offered H.half blob.now) (Ok o))) }
+    ensures stored { IfOk result (λ o. nodes.new ≡ with_nodes H.half nodes.old (stored_by (read_wire H.half blob.now) (Ok o))) }
     ensures err { OnErr result (nodes.new ≡ nodes.old) }
 {
-    let node = match decode_offered::<H>(alloc, blob) {
+    let node = match decode_wire::<H>(alloc, blob) {
         Ok(node) => node,
         Err(WireFault::Memory) => return Err(OfferFault::Memory),
         Err(fault) => return Ok(Offered::BadWire(wire_code(&fault))),

@@ -75,11 +75,6 @@ pub length-chunks_in : (n : ℕ) (b : Bytes) → length (chunks_in n b) ≡ n
 length-chunks_in zero b = refl
 length-chunks_in (suc n) b = ap suc (length-chunks_in n (drop 33 b))
 
-pub sizes_in : (n : ℕ) (b : Bytes) → length b ≡ 33 * n → AllByRecursion (λ c. length c.hash ≡ 32) (chunks_in n b)
-sizes_in zero b size = tt
-sizes_in (suc n) b size =
-    (length-take-le 32 b (omega arith), sizes_in n (drop 33 b) (omega (arith, length-drop 33 b)))
-
 -- what the tests of a chunk say where there is no cause
 record IsTaken (before : List ℕ) (c : Chunk) (rest : List Chunk) : Type 0 where
   low : nat_lt c.position 16 ≡ true

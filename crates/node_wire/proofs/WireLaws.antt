@@ -17,6 +17,7 @@ use Rattle.ledger_spec.specs.Forms.{Held, inner, leaf, header, IsHeld, IsInner, 
 use Rattle.ledger_spec.specs.Wire.{Chunk, AreChunksOf, Wire, chunk_bytes, chunk_cause, chunks_in, chunks_of, compressed, checked_inner}
 use Rattle.ledger_spec.specs.Wire.{checked_leaf, full, hash_at, keyed_leaf}
 use Rattle.ledger_spec.specs.Wire.{read_typed, read_wire, wire_of}
+use Rattle.ledger_spec.proofs.OfferLaws.{chunk_sizes, hash_by_chunks, sizes_map, whole_size}
 use Rattle.ledger_spec.proofs.Hashes.{concat-hashes_of, hashes_of-concat, length-concat, length-hashes_of, sizes-hashes_of}
 use Rattle.shamap_node.specs.Laws.{is_node}
 use Rattle.shamap_node.specs.declared.Node.{Node}
@@ -25,29 +26,11 @@ use Rattle.node_wire.specs.Faults.{code}
 use Rattle.node_wire.specs.Laws.{OneNode, ReadByWire, WrittenIsRead}
 use Rattle.node_wire.specs.declared.fault.WireFault.{WireFault}
 use Rattle.node_wire.specs.declared.fault.WireFault.TheVariants as faults
-use Rattle.node_wire.proofs.ChunkLists.{are_chunks, chunks_back, joined_back, length-chunks, no_chunk_cause, positions_differ, sizes_in}
+use Rattle.node_wire.proofs.ChunkLists.{are_chunks, chunks_back, joined_back, length-chunks, no_chunk_cause, positions_differ}
 use Rattle.node_wire.proofs.Wires.{IsFull, IsInnerOf, IsKeyed, ends_in, full_of, inner_by, inner_is, keyed_is, keyed_of}
 use Rattle.node_wire.proofs.Wires.{leaf_is, leaf_of, read_empty, read_front, read_is, refusal}
 use Rattle.node_wire.proofs.Wires.{no_node, refusal}
 use Rattle.node_wire.proofs.Written.{chunks_are}
-
-sizes_map : (f : ℕ → Hash) (xs : List ℕ) → ((b : ℕ) → length (f b) ≡ 32) → IsTrue (list_all (λ h. length h == 32) (map f xs))
-sizes_map f [] size = refl
-sizes_map f (x ∷ xs) size =
-    and_from (length (f x) == 32) (list_all (λ h. length h == 32) (map f xs)) (eq-eqb (length (f x)) 32 (size x)) (sizes_map f xs size)
-
--- a multiple of 33, taken apart
-whole_size : (n : ℕ) → n % 33 ≡ 0 → n ≡ 33 * (n / 33)
-whole_size n whole = omega (arith, div-add-mod' n 33, whole)
-
-hash_size : (chunks : List Chunk) → AllByRecursion (λ c. length c.hash ≡ 32) chunks → (b : ℕ) → length (hash_at chunks b) ≡ 32
-hash_size [] sizes b = refl
-hash_size (c ∷ chunks) sizes b = by_place (c.position == b) (hash_size chunks sizes.1 b)
-  where
-    by_place : (t : Bool) → length (hash_at chunks b) ≡ 32
-        → length (option_map_or (λ (d : Chunk). d.hash) (if t then Some c else find (λ d. d.position == b) chunks) zero_hash) ≡ 32
-    by_place true later = sizes.0
-    by_place false later = later
 
 -- an inner node of chunks: what its tests say
 record IsCompressed (front : Bytes) (n : Held) : Type 0 where
@@ -122,10 +105,11 @@ module _ (half : Half) (sized : (x : Bytes) → length (half x) ≡ 32) (front w
   compressed_wire is e =
       let c : IsCompressed front n = compressed_of front n e in
       let size : length front ≡ 33 * (length front / 33) = whole_size (length front) c.whole in
-      let sizes = sizes_in (length front / 33) front size in
+      let sizes = chunk_sizes (length front / 33) front size in
       let own : IsInner (map (hash_at (chunks_in (length front / 33) front)) branches) = record {
         count = length-map branches (hash_at (chunks_in (length front / 33) front));
-        sizes = sizes_map (hash_at (chunks_in (length front / 33) front)) branches (hash_size (chunks_in (length front / 33) front) sizes);
+        sizes = sizes_map (hash_at (chunks_in (length front / 33) front)) branches
+        (hash_by_chunks (λ h. length h ≡ 32) (chunks_in (length front / 33) front) sizes refl);
         some = c.parts.some;
       } in
       let are : AreChunksOf (map (hash_at (chunks_in (length front / 33) front)) branches) (chunks_in (length front / 33) front) = record {

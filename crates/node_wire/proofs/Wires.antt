@@ -10,7 +10,7 @@ use Rattle.ledger_spec.specs.declared.Kind.{Kind}
 use Rattle.ledger_spec.specs.Bytes.{Bytes, Hash, Half, hashes_of, is_zero, is_nonzero}
 use Rattle.ledger_spec.proofs.Hashes.{none_nonzero}
 use Rattle.ledger_spec.specs.Forms.{Held, inner, leaf, data_limit, inner_prefix, inner_of}
-use Rattle.ledger_spec.specs.Wire.{read_offered, read_wire, read_typed, is_read, checked_inner, checked_leaf, keyed_leaf, full}
+use Rattle.ledger_spec.specs.Wire.{read_wire, read_typed, checked_inner, checked_leaf, keyed_leaf, full}
 
 -- bytes that end in a type byte are read by it
 pub read_is : (half : Half) (w front : Bytes) (t : ℕ) → (length w == 0) ≡ false → front ≡ take (length w - 1) w
@@ -47,22 +47,6 @@ read_front half front w t is =
     sym (ap (λ b. slice_index b (length w - 1)) is ∙ get_or_at front t [] 0 (length w - 1) at)
     in
     read_is half w front t (ne_eqb (length w) 0 some) before last
-
--- the types that are read of a peer
-pub read_some : (half : Half) (w : Bytes) → is_read (slice_index w (length w - 1)) ≡ true → read_offered half w ≡ read_wire half w
-read_some half w is = either (length w == 0) (is_read (slice_index w (length w - 1))) (read_wire half w) is
-  where
-    either : (a b : Bool) (r : Result Held ℕ) → b ≡ true → (if Rattle.std.proofs.Common.◌||◌ a b then r else Err 2) ≡ r
-    either true b r e = refl
-    either false true r e = refl
-    either false false r e = cc
-
-pub read_none : (half : Half) (w : Bytes) → (length w == 0) ≡ true → read_offered half w ≡ read_wire half w
-read_none half w none = rw none refl
-
-pub read_other : (half : Half) (w : Bytes) → (length w == 0) ≡ false → is_read (slice_index w (length w - 1)) ≡ false
-    → read_offered half w ≡ Err 2
-read_other half w long other = rw (long, other) refl
 
 -- a refusal, by its number, is no node
 abbrev pub refusal : ℕ → Result Held ℕ

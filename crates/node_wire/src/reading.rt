@@ -2,7 +2,7 @@
 ghost use Rattle.std.specs.Prelude.{◌≡◌, ◌≢◌, ◌++◌, length, List, ℕ, IfErr, IfOk, MatchResult, Ok, Err};
 ghost use Rattle.ledger_spec.specs.Forms.{Held, inner_prefix, leaf_form};
 ghost use Rattle.ledger_spec.specs.Bytes.{zero_hash};
-ghost use Rattle.ledger_spec.specs.Wire.{Wire, read_wire, read_typed, read_offered, is_read, full};
+ghost use Rattle.ledger_spec.specs.Wire.{Wire, read_wire, read_typed, full};
 ghost use Rattle.ledger_spec.specs.Wire.{checked_leaf, keyed_leaf as keyed_leaf_of};
 ghost use Rattle.shamap_node.specs.Nodes.{held, held_leaf};
 ghost use Rattle.node_wire.specs.Faults.{code, Tells, TellsData, TellsFront, TellsKeyed};
@@ -30,28 +30,6 @@ pub fn decode_wire<H: NodeHash>(alloc: Global, bytes: &[u8]) -> Result<Node, Wir
 {
     known_half::<H>();
     read_bytes::<H>(alloc, bytes)
-}
-
-/// The same of what a peer offers, of which account states and full inner nodes alone are read at present: each other type byte is
-/// refused as an unknown one.
-pub fn decode_offered<H: NodeHash>(alloc: Global, bytes: &[u8]) -> Result<Node, WireFault>
-    ensures node { IfOk result (λ n. read_offered H.half bytes.now ≡ Ok (held n)) }
-    ensures cause { IfErr result (λ f. f ≢ faults.Memory → read_offered H.half bytes.now ≡ Err (code f)) }
-    ensures tells { IfErr result (Tells bytes.now) }
-{
-    if let Some(last) = bytes.last() {
-        if !is_offered(*last) {
-            return Err(WireFault::TypeByte(*last));
-        }
-    }
-    Ok(decode_wire::<H>(alloc, bytes)?)
-}
-
-// Whether offered nodes of this type are read.
-fn is_offered(type_byte: u8) -> bool
-    ensures { result ≡ is_read type_byte }
-{
-    type_byte == 1 || type_byte == 2
 }
 
 // The same as `decode_wire`.

@@ -1,5 +1,5 @@
 //! Wire forms there and back, and each cause by bytes that have it.
-use crate::{WireFault, decode_offered, decode_wire, encode_wire, wire_code};
+use crate::{WireFault, decode_wire, encode_wire, wire_code};
 use half_hash::TinyHash;
 use shamap_node::{Node, hash_of};
 use std::alloc::Global;
@@ -73,18 +73,5 @@ fn causes(rt: HostRuntime) -> Result<(), Fail> {
     }
     let empty = decode_wire::<TinyHash>(alloc, b"").err().ok_or("empty")?;
     assert!(rt; wire_code(&empty) == 1 && wire_code(&WireFault::Memory) == 0);
-    Ok(())
-}
-
-#[test]
-fn offered_nodes(rt: HostRuntime) -> Result<(), Fail> {
-    let alloc = rt.alloc();
-    let leaf = decode_offered::<TinyHash>(alloc, LEAF).ok().ok_or("leaf")?;
-    assert!(rt; matches!(&leaf, Node::Leaf(_)));
-    let chunk = wire(alloc, 33, 5, 3)?;
-    let fault = decode_offered::<TinyHash>(alloc, &chunk)
-        .err()
-        .ok_or("fault")?;
-    assert_eq!(rt; fault, WireFault::TypeByte(3));
     Ok(())
 }

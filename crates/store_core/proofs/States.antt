@@ -4,7 +4,7 @@ use Rattle.std.proofs.Common.{Result, Ok, Err, IsSomeAnd, Bool, true, false, con
 use Rattle.std.specs.Map.{lookup, set_value}
 use Rattle.std.specs.Result.{OnErr, IfOk, IfErr, IsErrAnd}
 use Rattle.std.specs.Option.{option_map_or, unwrap_or}
-use Rattle.ledger_spec.specs.Bytes.{Bytes, Hash, Half, is_nonzero}
+use Rattle.ledger_spec.specs.Bytes.{Bytes, Hash, Half, is_nonzero, IsHalf}
 use Rattle.ledger_spec.specs.Maps.{ForHash, hash_cmp, get_in, set_in}
 use Rattle.ledger_spec.specs.declared.Place.{Place}
 use Rattle.ledger_spec.specs.Findings.{seen}
@@ -231,9 +231,9 @@ head_nonzero half header (Ok (head.BadLength n)) form fit i = absurd (in_nothing
 head_nonzero half header (Ok (head.BadHash h)) form fit i = absurd (in_nothing form i)
 head_nonzero half header (Err c) form fit i = absurd (in_nothing form i)
 
-part_nonzero : (half : Half) (s : State) (t : Hash) (kind : Kind) (blob : Option Bytes) (form : Bytes) → Contains (node_forms half s t kind [] blob) form → IsTrue (is_nonzero (half form))
-part_nonzero half s t kind None form i = absurd (in_nothing form i)
-part_nonzero half s t kind (Some blob) form i = (node_stored half (form_in s) t kind [] blob form i).nonzero
+part_nonzero : (half : Half) (sized : IsHalf half) (s : State) (t : Hash) (kind : Kind) (blob : Option Bytes) (form : Bytes) → Contains (node_forms half s t kind [] blob) form → IsTrue (is_nonzero (half form))
+part_nonzero half sized s t kind None form i = absurd (in_nothing form i)
+part_nonzero half sized s t kind (Some blob) form i = (node_stored half sized (form_in s) t kind [] blob form i).nonzero
 
 -- what is judged of a peer that is present is an own form
 own_form : (s : State) (p : ℕ) (t : Hash) (forms : List Bytes) (form : Bytes) → IsAsked s p t → Contains forms form → Contains (if_present p (get_in hash_cmp s.wanted t) forms) form
@@ -251,10 +251,10 @@ not_clash : (r : BaseReply) (c : Clash) → says.Base r ≡ says.Clash c.hash c.
 not_clash r c e = cc
 
 -- some parts of a base reply were stored
-refused_parts : (half : Half) (s s' : State) (actor p : ℕ) (t : Hash) (header : Bytes) (state tx : Option Bytes) → IsTrue (is_nonzero t) → IsAsked s p t → HasSomeParts half s t header state s'
+refused_parts : (half : Half) (sized : IsHalf half) (s s' : State) (actor p : ℕ) (t : Hash) (header : Bytes) (state tx : Option Bytes) → IsTrue (is_nonzero t) → IsAsked s p t → HasSomeParts half s t header state s'
     → Refused half s actor (command.Base p t header state tx) s'
-refused_parts half s s' actor p t header state tx nonzero asked (inl e) = refused_nothing half s s' actor (command.Base p t header state tx) e
-refused_parts half s s' actor p t header state tx nonzero asked (inr (inl e)) =
+refused_parts half sized s s' actor p t header state tx nonzero asked (inl e) = refused_nothing half s s' actor (command.Base p t header state tx) e
+refused_parts half sized s s' actor p t header state tx nonzero asked (inr (inl e)) =
     let r : Result HeadOffered Clash = head_outcome half (form_in s) t header in
     record {
       forms = head_forms r header;
@@ -264,7 +264,7 @@ refused_parts half s s' actor p t header state tx nonzero asked (inr (inl e)) =
       );
       same = same_shaded s' _ (e ∙ head_forms_are half s header r);
     }
-refused_parts half s s' actor p t header state tx nonzero asked (inr (inr two)) =
+refused_parts half sized s s' actor p t header state tx nonzero asked (inr (inr two)) =
     let r : Result HeadOffered Clash = head_outcome half (form_in s) t header in
     let s1 : State = after_head half s header r in
     let s2 : State = after_part half s1 t kinds.State state in
@@ -279,7 +279,7 @@ refused_parts half s s' actor p t header state tx nonzero asked (inr (inr two)) 
             (λ second. Contains-append_right A (unless_clash r (B ++ C)) form (judged_form r two.head (B ++ C) form two.judged (Contains-append_left B C form second)))
             (Contains-append_cases A B form i)),
         ⊎_elim (λ first. head_nonzero half header r form (λ g. (head_stored half (form_in s) t header nonzero g).nonzero) first)
-            (λ second. part_nonzero half s1 t kinds.State state form second) (Contains-append_cases A B form i),
+            (λ second. part_nonzero half sized s1 t kinds.State state form second) (Contains-append_cases A B form i),
       );
       same = same_shaded s' _ (two.after ∙ part_forms_are half s1 t kinds.State state ∙ ap (λ (x : State). with_forms half x B) (head_forms_are half s header r) ∙ sym (with_forms-append half s A B));
     }
@@ -299,9 +299,9 @@ base_after half s s' p t header state tx (Err e) reply after = tt
 base_after half s s' p t header state tx (Ok x) reply after = after ∙ parts_after half s p t header state tx _ _ _ x reply
 
 -- a base reply that was not judged
-pub step_base_refused : (half : Half) (s s' : State) (actor p : ℕ) (t : Hash) (header : Bytes) (state tx : Option Bytes) (e : OfferFault) → s.turning ≡ None → IsTrue (is_nonzero t)
+pub step_base_refused : (half : Half) (sized : IsHalf half) (s s' : State) (actor p : ℕ) (t : Hash) (header : Bytes) (state tx : Option Bytes) (e : OfferFault) → s.turning ≡ None → IsTrue (is_nonzero t)
     → IsClashReply (base_reply half s p t header state tx) e → IsAsked s p t → HasSomeParts half s t header state s' → Step half s actor (command.Base p t header state tx) (refusal_of e) [] s'
-step_base_refused half s s' actor p t header state tx fault.Memory idle nonzero clash asked parts =
-    record { outcome = (tt, refused_parts half s s' actor p t header state tx nonzero asked parts); uses = refl; carries = idle_carries s s' _ idle }
-step_base_refused half s s' actor p t header state tx (fault.Clash h old new) idle nonzero clash asked parts =
-    record { outcome = (sym clash, refused_parts half s s' actor p t header state tx nonzero asked parts); uses = refl; carries = idle_carries s s' _ idle }
+step_base_refused half sized s s' actor p t header state tx fault.Memory idle nonzero clash asked parts =
+    record { outcome = (tt, refused_parts half sized s s' actor p t header state tx nonzero asked parts); uses = refl; carries = idle_carries s s' _ idle }
+step_base_refused half sized s s' actor p t header state tx (fault.Clash h old new) idle nonzero clash asked parts =
+    record { outcome = (sym clash, refused_parts half sized s s' actor p t header state tx nonzero asked parts); uses = refl; carries = idle_carries s s' _ idle }

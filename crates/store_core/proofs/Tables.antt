@@ -11,7 +11,7 @@ use Rattle.node_table.proofs.Tables.{hashes_antisymmetric}
 use Rattle.ledger_spec.specs.declared.Kind.{Kind}
 use Rattle.ledger_spec.specs.Bytes.{Bytes, Hash, Half, Nodes}
 use Rattle.ledger_spec.specs.Maps.{SetOf, MapOf, hashes_in}
-use Rattle.ledger_spec.specs.Wire.{read_offered}
+use Rattle.ledger_spec.specs.Wire.{read_wire}
 use Rattle.ledger_spec.specs.declared.outcomes.Offered.{Offered}
 use Rattle.ledger_spec.specs.declared.outcomes.HeadOffered.{HeadOffered}
 use Rattle.ledger_spec.specs.declared.outcomes.HeadOffered.TheVariants as head
@@ -76,13 +76,13 @@ after_head_is half s old new t bytes (Ok o) same born outcome stored =
     ∙ ap (with_table s) (sym stored))
 
 pub after_node_is : (half : Half) (s : State) (old new : Nodes) (t : Hash) (kind : Kind) (path : List ℕ) (blob : Bytes) (r : Result Offered OfferFault) → s.nodes ≡ old → s.born ≡ hashes_in s.nodes
-    → IfOk r (λ o. node_outcome half (map.get old) t kind path blob ≡ Ok o) → IfOk r (λ o. new ≡ with_nodes half old (stored_by (read_offered half blob) (Ok o)))
+    → IfOk r (λ o. node_outcome half (map.get old) t kind path blob ≡ Ok o) → IfOk r (λ o. new ≡ with_nodes half old (stored_by (read_wire half blob) (Ok o)))
     → OnOk r (record s { nodes = new; born = hashes_in new } ≡ after_node half s t kind path blob)
 after_node_is half s old new t kind path blob (Err f) same born outcome stored = tt
 after_node_is half s old new t kind path blob (Ok o) same born outcome stored =
-    let forms : List Bytes = stored_by (read_offered half blob) (Ok o) in
-    sym (ap (λ (n : Nodes). with_forms half s (stored_by (read_offered half blob) (node_outcome half (map.get n) t kind path blob))) same
-    ∙ ap (λ r. with_forms half s (stored_by (read_offered half blob) r)) outcome
+    let forms : List Bytes = stored_by (read_wire half blob) (Ok o) in
+    sym (ap (λ (n : Nodes). with_forms half s (stored_by (read_wire half blob) (node_outcome half (map.get n) t kind path blob))) same
+    ∙ ap (λ r. with_forms half s (stored_by (read_wire half blob) r)) outcome
     ∙ with_forms_is half s forms born
     ∙ ap (λ (n : Nodes). with_table s (with_nodes half n forms)) same
     ∙ ap (with_table s) (sym stored))

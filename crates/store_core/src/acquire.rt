@@ -1,5 +1,5 @@
 //! One acquisition: the asked sequence, its peers in order of turn, their charges, and what was asked.
-ghost use Rattle.std.specs.Prelude.{◌≡◌, ◌≢◌, OnOk, OnErr, IfOk, [], take};
+ghost use Rattle.std.specs.Prelude.{◌≡◌, ◌≢◌, ◌+◌, ◌<◌, ℕ, OnOk, OnErr, IfOk, [], take};
 ghost use Rattle.std.specs.Ordering.{nat_cmp};
 ghost use Rattle.std.specs.List.{list_any};
 ghost use Rattle.ledger_spec.specs.Bytes.{same_bytes};
@@ -30,6 +30,7 @@ pub(crate) struct Acquire {
 }
 
 impl Model for Acquire {
+    ghost use Rattle.std.specs.Prelude.{◌<◌};
     ghost use Rattle.ledger_machine.specs.State.{Acquisition};
 
     ghost Value = { Acquisition };
@@ -41,6 +42,9 @@ impl Model for Acquire {
       asked = a.asked.items;
       ticks = a.ticks;
     } };
+
+    // An acquisition that has its seventh tick is given up.
+    ghost invariant = { λ a. a.ticks < 7 };
 }
 
 impl Acquire {
@@ -89,6 +93,25 @@ impl Acquire {
             return Err(Memory);
         }
         Ok(())
+    }
+
+    /// How many ticks there were, at most six.
+    pub(crate) fn ticks(&self) -> u8
+        ensures count { result ≡ self.now.ticks }
+        ensures few { self.now.ticks < 7 }
+    {
+        self.ticks
+    }
+
+    /// Takes one tick more, fewer than seven with it: what was asked is forgotten.
+    pub(crate) fn tick(&mut self) -> u8
+        requires { self.old.ticks < 6 }
+        ensures count { result ≡ self.old.ticks + 1 }
+        ensures after { self.new ≡ record self.old { ticks = self.old.ticks + 1; asked = [] } }
+    {
+        self.asked.clear();
+        self.ticks += 1;
+        self.ticks
     }
 
     /// Asks the first peer for the first missing places that were not asked yet.

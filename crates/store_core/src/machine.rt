@@ -1,6 +1,7 @@
 //! The state that the commands act on, over tables in memory.
-ghost use Rattle.std.specs.Prelude.{◌≡◌, ◌≢◌, [], OnOk, OnErr, IfOk, IfErr, Ok, None, length};
+ghost use Rattle.std.specs.Prelude.{◌≡◌, ◌≢◌, ◌<◌, [], ℕ, IsTrue, OnOk, OnErr, IfOk, IfErr, IfSome, Ok, None, length};
 ghost use Rattle.std.specs.FinMap as map;
+ghost use Rattle.ledger_spec.specs.Bytes.{is_nonzero};
 ghost use Rattle.ledger_spec.specs.Maps.{hash_cmp, get_in};
 ghost use Rattle.node_offer.specs.Stored.{HasClash};
 ghost use Rattle.ledger_machine.specs.State.{opening, form_in, stored_seq, with_wanted};
@@ -13,14 +14,16 @@ ghost use Rattle.script_form.specs.Servable.{IsServed};
 ghost use Rattle.ledger_machine.specs.Want.{want_reply, after_want};
 ghost use Rattle.ledger_machine.specs.Peer.{peer_reply, after_peer};
 ghost use Rattle.ledger_machine.specs.Check.{check_reply, after_check, after_ask};
+ghost use Rattle.ledger_machine.specs.Ticks.{tick_reply, after_tick};
 ghost use Rattle.ledger_machine.specs.Steps.{Step};
 ghost use Rattle.store_core.specs.Refusals.{IsClashReply, IsAsked, HasSomeParts, refusal_of, asked_reply};
 
 use crate::acquire::Acquire;
 use crate::header::{fault_of, stored_seq as seq_in};
-use half_hash::{Blob, Hash32, Memory, NodeHash};
+use half_hash::{Blob, Hash32, Memory, NodeHash, known_half};
 use ledger_machine::{
-    BaseReply, CheckReply, Command, HeadOffered, NodeReply, Offered, PeerReply, Reply, WantReply,
+    BaseReply, CheckReply, Command, HeadOffered, NodeReply, Offered, PeerReply, Reply, TickReply,
+    WantReply,
 };
 use missing_walk::{Found, whole};
 use nib_path::NodeId;
@@ -30,6 +33,9 @@ use shamap_node::{Kind, Place};
 use std::alloc::Global;
 use std::collections::BTreeMap;
 use std::marker::Model;
+
+/// How many ticks an acquisition waits; the next one gives it up.
+const LAST_TICK: u8 = 6;
 
 /// The most acquisitions that are open at a time.
 const MOST_WANTED: usize = 64;
@@ -336,6 +342,77 @@ impl<H: NodeHash> Machine<H> {
         Ok(reply)
     }
 
+    /// Takes a tick of an acquisition; the seventh gives it up.
+    fn tick(&mut self, target: &Hash32) -> TickReply
+        ensures reply { result ≡ tick_reply self.old target.now }
+        ensures after { self.new ≡ after_tick self.old target.now result }
+    {
+        let Some(acquire) = self.wanted.get(target) else {
+            return TickReply::NotOpen;
+        };
+        if acquire.ticks() == LAST_TICK {
+            self.wanted.remove(target);
+            return TickReply::GaveUp(LAST_TICK + 1);
+        }
+        self.wait(target)
+    }
+
+    /// The same, where it isn't the last tick.
+    fn wait(&mut self, target: &Hash32) -> TickReply
+        requires { IfSome (get_in hash_cmp self.old.wanted target.now) (λ a. a.ticks < 6) }
+        ensures reply { result ≡ tick_reply self.old target.now }
+        ensures after { self.new ≡ after_tick self.old target.now result }
+    {
+        let Some(acquire) = self.wanted.get_mut(target) else {
+            return TickReply::NotOpen;
+        };
+        TickReply::Timeout(acquire.tick())
+    }
+
+    /// The answer to a base reply.
+    fn take_base(
+        &mut self,
+        alloc: Global,
+        peer: u16,
+        target: &Hash32,
+        header: &Blob,
+        state: &Option<Blob>,
+        tx: &Option<Blob>,
+    ) -> Reply
+        requires { IsTrue (is_nonzero target.now) }
+        ensures step { (actor : ℕ)
+            → Step H.half self.old actor (Command.Base peer target.now header.now state.now tx.now) result [] self.new }
+        ensures no_fault { result ≢ Reply.Fault }
+    {
+        known_half::<H>();
+        self.known();
+        match self.base(alloc, peer, target, header, state, tx) {
+            Ok(reply) => Reply::Base(reply),
+            Err(fault) => refusal(fault),
+        }
+    }
+
+    /// The answer to a node.
+    fn take_node(
+        &mut self,
+        alloc: Global,
+        peer: u16,
+        target: &Hash32,
+        kind: Kind,
+        id: &NodeId,
+        blob: &Blob,
+    ) -> Reply
+        ensures step { (actor : ℕ)
+            → Step H.half self.old actor (Command.Node peer target.now kind id.now blob.now) result [] self.new }
+        ensures no_fault { result ≢ Reply.Fault }
+    {
+        self.known();
+        match self.node(alloc, peer, target, kind, id, blob) {
+            Ok(reply) => Reply::Node(reply),
+            Err(fault) => refusal(fault),
+        }
+    }
+
     /// One step of the machine.
     pub(crate) fn answer(&mut self, alloc: Global, actor: u8, command: &Command) -> Reply
         requires served { IsServed command.now }
@@ -359,24 +436,19 @@ impl<H: NodeHash> Machine<H> {
                 header,
                 state,
                 tx,
-            } => match self.base(alloc, *peer, target, header, state, tx) {
-                Ok(reply) => Reply::Base(reply),
-                Err(fault) => refusal(fault),
-            },
+            } => self.take_base(alloc, *peer, target, header, state, tx),
             Command::Node {
                 peer,
                 target,
                 kind,
                 id,
                 blob,
-            } => match self.node(alloc, *peer, target, *kind, id, blob) {
-                Ok(reply) => Reply::Node(reply),
-                Err(fault) => refusal(fault),
-            },
+            } => self.take_node(alloc, *peer, target, *kind, id, blob),
             Command::Check { target } => match self.check(alloc, target) {
                 Ok(reply) => Reply::Check(reply),
                 Err(_) => Reply::Memory,
             },
+            Command::Tick { target } => Reply::Tick(self.tick(target)),
             _ => unreachable!(),
         }
     }

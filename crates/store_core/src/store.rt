@@ -9,7 +9,7 @@ ghost use Rattle.store_core.specs.Journal.{Advances, IsJournal, IsNext, AllBefor
 ghost use Rattle.store_core.specs.Totals.{totals_of, is_complete as completes, is_closed as closes};
 
 use crate::machine::Machine;
-use half_hash::{Memory, NodeHash};
+use half_hash::{Memory, NodeHash, known_half};
 use ledger_machine::{CheckReply, CloseReply, Entry, Line, Reply, Script, Totals};
 use std::alloc::Global;
 use std::marker::Model;
@@ -98,6 +98,7 @@ impl<H: NodeHash> Core<H> {
         ensures unchanged { result ≢ Stepped.Answered → self.new ≡ self.old }
         ensures few { length self.new.journal ≤ length self.new.lines }
     {
+        known_half::<H>();
         if actor as usize >= self.cursors.len() {
             return Stepped::Finished;
         }

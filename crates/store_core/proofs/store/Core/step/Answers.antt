@@ -110,7 +110,7 @@ invariant_of-self-2 g c =
     let step = c.answer-reply.ensures.step in
     rw (pushed c.push.result _ _ _ _ c.push.ensures.items c.unwrap.ensures)
     (kept_step _ _ _ _ _ _ _ _ _ _ k c.args.actor _ (omega (arith, k.cursor_count, c.len.ensures, c.if-actor-len.false)) next c.index-line.result.now c.index-line.ensures _ _ _ _ refl refl free (λ _. used_nothing _ _ _ _ _ _ _ c.new.ensures.items c.answer-reply.ensures.step)
-    (λ t. acquiring_step_sound _ _ _ _ _ _ _ served range (k.sound t) step) (λ _. step_few _ _ _ _ _ _ _ served range step) c.push.ensures.capacity (omega arith) (λ fault. absurd (c.answer-reply.ensures.no_fault fault)))
+    (λ t. acquiring_step_sound _ c.known_half.ensures _ _ _ _ _ _ served range (k.sound t) step) (λ _. step_few _ c.known_half.ensures _ _ _ _ _ _ served range step) c.push.ensures.capacity (omega arith) (λ fault. absurd (c.answer-reply.ensures.no_fault fault)))
 
 pub returns-clause-answered : goal.returns-clause-answered
 returns-clause-answered g c _ =
