@@ -42,10 +42,10 @@ pub(crate) struct Shared<H: NodeHash, J: Pinned> {
 impl<H: NodeHash, J: Pinned> Model for Shared<H, J> {
     ghost use Rattle.std.specs.Coded.{codes};
     ghost use Rattle.ledger_spec.specs.Maps.{map_code, set_code};
-    ghost use Rattle.store_core.specs.Journal.{Ledger};
+    ghost use Rattle.store_core.specs.Journal.{CoreView};
     ghost use Rattle.actor_pool.specs.Order.{IsOf};
 
-    ghost Value = { Ledger };
+    ghost Value = { CoreView };
 
     ghost coded = { Prim.hlevel (codes, map_code, set_code) };
 

@@ -20,7 +20,7 @@ use Rattle.cow_map.specs.declared.look.Seen.{Seen}
 use Rattle.cow_map.specs.declared.look.Seen.TheVariants as seen
 use Rattle.cow_map.specs.Bodies.{Body, inner, IsBelow}
 use Rattle.cow_map.specs.Trees.{Found, none, one, fork, lacks, breaks, found_at}
-use Rattle.cow_map.specs.Looks.{Shows, Stops}
+use Rattle.cow_map.specs.Looks.{SeenAs, Stops}
 use Rattle.cow_map.specs.Ways.{Stop, absent, misfit, Goes, is_only, lone_or, only_branch, stop_at, stop_here, stop_at_branch, stop_left}
 use Rattle.cow_map.specs.Ways.{is_leaf_of, beside_in, beside_at, removal_stop_at, IsFailure}
 use Rattle.cow_map.specs.declared.link.Only.TheVariants as only
@@ -33,7 +33,7 @@ use Rattle.cow_map.proofs.Planting.{below_set, one_lower}
 use Rattle.cow_map.proofs.Putting.{lone_none, lone_one, way_none, way_one, way_step}
 
 -- the code goes on where it sees what is found
-pub shown_goes : (X : Type 0) (x : X) (path : List ℕ) (found : Found) (s : Seen) → Shows found s
+pub shown_goes : (X : Type 0) (x : X) (path : List ℕ) (found : Found) (s : Seen) → SeenAs found s
     → Goes {X = X} (stop_here path found) (Ok x)
 shown_goes X x path found seen.Nothing shown = ap (stop_here path) shown
 shown_goes X x path found (seen.Leaf key bytes) shown = ap (stop_here path) shown

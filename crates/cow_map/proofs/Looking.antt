@@ -22,7 +22,7 @@ use Rattle.cow_map.specs.declared.look.Seen.{Seen}
 use Rattle.cow_map.specs.declared.look.Seen.TheVariants as seen
 use Rattle.cow_map.specs.Bodies.{Body, inner, IsBelow}
 use Rattle.cow_map.specs.Trees.{Found, one, fork, breaks, link_to, found_held, found_body}
-use Rattle.cow_map.specs.Looks.{Shows, IsPlaced}
+use Rattle.cow_map.specs.Looks.{SeenAs, IsPlaced}
 use Rattle.cow_map.proofs.Leading.{below_all}
 
 -- a leaf that breaks no rule is the item
@@ -78,7 +78,7 @@ length_links [] = refl
 length_links (h ∷ hashes) = ap suc (length_links hashes)
 
 pub placed_node : (n : ℕ) (kind : Kind) (path : List ℕ) (node : Node) (s : Seen) → length path ≤ 64
-    → fault_of (held_in node) None kind path ≡ None → Shows (found_held (held_in node)) s → IsPlaced n path s
+    → fault_of (held_in node) None kind path ≡ None → SeenAs (found_held (held_in node)) s → IsPlaced n path s
 placed_node n kind path node seen.Nothing low fits shown = tt
 placed_node n kind path (nodes.Leaf l) (seen.Leaf key bytes) low fits shown =
     let both = leaf_faultless (same_kind l.kind kind) (length path == 0) (lies_under path l.item.key) WrongKind LeafAtRoot

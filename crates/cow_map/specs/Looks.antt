@@ -11,10 +11,10 @@ use Rattle.cow_map.specs.Bodies.{IsBelow}
 use Rattle.cow_map.specs.Trees.{Found, none, one, fork, lacks, breaks}
 
 -- what the code says of what is found
-abbrev pub Shows : Found → Seen → Type 0
-Shows found seen.Nothing = found ≡ none
-Shows found (seen.Leaf key bytes) = found ≡ one key bytes
-Shows found (seen.Inner links) = found ≡ fork links
+abbrev pub SeenAs : Found → Seen → Type 0
+SeenAs found seen.Nothing = found ≡ none
+SeenAs found (seen.Leaf key bytes) = found ≡ one key bytes
+SeenAs found (seen.Inner links) = found ≡ fork links
 
 -- why one doesn't get further than this place
 abbrev pub Stops : List ℕ → Found → MapFault → Type 0
@@ -25,7 +25,7 @@ Stops path found causes.Fault = Unit {0}
 Stops path found causes.Memory = Unit {0}
 
 abbrev pub Looks : List ℕ → Found → Result Seen MapFault → Type 0
-Looks path found (Ok s) = Shows found s
+Looks path found (Ok s) = SeenAs found s
 Looks path found (Err fault) = Stops path found fault
 
 -- a leaf lies on the way to its key, and an inner node above the bottom, with links to the first n nodes

@@ -12,7 +12,7 @@ ghost use Rattle.cow_map.specs.Bodies.{leaf as leaf_body, IsBelow};
 ghost use Rattle.cow_map.specs.Shown.{body_of};
 ghost use Rattle.cow_map.specs.Trees.{Found, found_held, found_seen, found_body, found_at};
 ghost use Rattle.cow_map.specs.Ways.{lone_or, NamesNoForm};
-ghost use Rattle.cow_map.specs.Looks.{Shows, Stops, Looks, IsPlaced};
+ghost use Rattle.cow_map.specs.Looks.{SeenAs, Stops, Looks, IsPlaced};
 
 use crate::arena::Arena;
 use crate::{Cow, Link, Links, MapFault};
@@ -86,7 +86,7 @@ fn through<H: NodeHash, S: NodeSource<H>>(
 
 // A leaf that is the only branch of an inner node below the root breaks the rule of the lone leaf.
 fn alone(seen: Seen, lone: bool, id: &NodeId) -> Result<Seen, MapFault>
-    ensures seen { (found : Found) → Shows found seen → Looks id.now (lone_or lone id.now found) result }
+    ensures seen { (found : Found) → SeenAs found seen → Looks id.now (lone_or lone id.now found) result }
     ensures same { IfOk result (λ s. s ≡ seen) }
     ensures cause { IfErr result (λ e. e ≡ causes.Fault → ⊥) }
     ensures formless { IfErr result NamesNoForm }
@@ -183,7 +183,7 @@ fn load<H: NodeHash, S: NodeSource<H>>(
 
 // What a node of the source is.
 fn of_node(alloc: Global, node: &Node) -> Result<Seen, Memory>
-    ensures { IfOk result (Shows (found_held (held node.now))) }
+    ensures { IfOk result (SeenAs (found_held (held node.now))) }
 {
     match node {
         Node::Leaf(leaf) => {

@@ -2,7 +2,7 @@
 use Rattle.std.specs.Prelude.{ℕ, List, [], ◌∷◌, ◌++◌, length, codes, flat_map, Bool, true, false, Option, Some, None}
 use Rattle.std.specs.Fmt.{decimal}
 use Rattle.hex.specs.Hex.{encode_upper}
-use Rattle.nib_path.specs.Paths.{wire_of}
+use Rattle.nib_path.specs.Paths.{id_wire}
 use Rattle.ledger_spec.specs.Bytes.{Bytes, Hash}
 use Rattle.ledger_spec.specs.Forms.{Held}
 use Rattle.ledger_spec.specs.declared.Kind.{Kind}
@@ -61,7 +61,7 @@ bytes_text (b ∷ bytes) = encode_upper (b ∷ bytes)
 
 -- the 66 digits of the ID of a path
 abbrev pub id_text : List ℕ → Bytes
-id_text path = encode_upper (wire_of path)
+id_text path = encode_upper (id_wire path)
 
 -- a map's name
 abbrev pub kind_text : Kind → Bytes

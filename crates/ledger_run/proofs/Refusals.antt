@@ -9,7 +9,7 @@ use Rattle.ledger_machine.specs.declared.commands.Line.{Line}
 use Rattle.script_form.specs.Words.{pieces, onto_first}
 use Rattle.script_form.specs.Grammar.{Says, AreLines, IsScript, IsRefused, ended, most_bytes, most_read}
 use Rattle.std.specs.Borrow.{Bor}
-use Rattle.store_core.specs.Journal.{Ledger}
+use Rattle.store_core.specs.Journal.{CoreView}
 use Rattle.ledger_run.specs.declared.status.TheConstants.{FINE, REFUSED, SINK_FAILED, CLASHED, NO_MEMORY}
 use Rattle.ledger_run.specs.Top.{IsOneOf, IsRefusedAt, IsRefusal}
 
@@ -91,7 +91,7 @@ not_refused None lines P script = tt
 not_refused (Some bytes) lines P script = λ (refused : IsRefusedAt bytes). absurd (script_stands (take most_read bytes) lines refused.0 script refused.1)
 
 -- a run is of no refused script
-pub run_refusal : (words : List (Bor (List ℕ))) (status : ℕ) (left rest held now : Option Bytes) (before after : ℕ) (lines : List Line) (core : Ledger)
+pub run_refusal : (words : List (Bor (List ℕ))) (status : ℕ) (left rest held now : Option Bytes) (before after : ℕ) (lines : List Line) (core : CoreView)
     → IfSome left (λ bytes. IsScript (take most_read bytes) lines) → IsOneOf status (FINE ∷ SINK_FAILED ∷ CLASHED ∷ NO_MEMORY ∷ []) → IsRefusal words status left rest held now before after (Some core)
 run_refusal words status left rest held now before after lines core script one = record {
   refused = λ e. absurd (other e);

@@ -14,7 +14,7 @@ use Rattle.ledger_machine.specs.declared.replies.Reply.TheVariants as says
 use Rattle.ledger_machine.specs.Collisions.{IsClash, is_clash, Collides, offered_in}
 use Rattle.ledger_laws.proofs.SoundForms.{in_head, in_tail}
 use Rattle.script_form.specs.Grammar.{IsScript, most_read}
-use Rattle.store_core.specs.Journal.{Ledger, IsJournal, faults_in, fault_count}
+use Rattle.store_core.specs.Journal.{CoreView, IsJournal, faults_in, fault_count}
 use Rattle.ledger_run.specs.declared.status.TheConstants.{FINE, SINK_FAILED, CLASHED, NO_MEMORY}
 use Rattle.ledger_run.specs.Output.{status_of, met_fault, is_fault, shows_clash, wanted_memory}
 use Rattle.ledger_run.specs.Top.{IsOneOf, IsRefusedAt, HasNoCollision, HasStatus, EndsWell}
@@ -97,7 +97,7 @@ shows_clashed : (journal : List Entry) → list_any shows_clash journal ≡ true
 shows_clashed journal e = cond-true (list_any shows_clash journal) _ _ e
 
 -- of a journal whose text was printed
-pub said_status : (half : Half) (n : ℕ) (c : Ledger) → IsJournal half c → n ≡ status_of c.journal → HasStatus half n c
+pub said_status : (half : Half) (n : ℕ) (c : CoreView) → IsJournal half c → n ≡ status_of c.journal → HasStatus half n c
 said_status half n c kept is = record {
   one_of = subst (λ m. IsOneOf m (FINE ∷ SINK_FAILED ∷ CLASHED ∷ NO_MEMORY ∷ [])) (sym is) (with_failing_sink (status_of c.journal) (fault_free c.journal kept.no_fault));
   fine = λ e. sym is ∙ e;
@@ -107,7 +107,7 @@ said_status half n c kept is = record {
 }
 
 -- where the sink failed
-pub failed_status : (half : Half) (n : ℕ) (c : Ledger) → n ≡ SINK_FAILED → HasStatus half n c
+pub failed_status : (half : Half) (n : ℕ) (c : CoreView) → n ≡ SINK_FAILED → HasStatus half n c
 failed_status half n c is = record {
   one_of = subst (λ m. IsOneOf m (FINE ∷ SINK_FAILED ∷ CLASHED ∷ NO_MEMORY ∷ [])) (sym is) refl;
   fine = λ e. absurd (omega (arith, is, e));
@@ -117,7 +117,7 @@ failed_status half n c is = record {
 }
 
 -- where memory was wanted in printing
-pub memory_status : (half : Half) (n : ℕ) (c : Ledger) → n ≡ NO_MEMORY → HasStatus half n c
+pub memory_status : (half : Half) (n : ℕ) (c : CoreView) → n ≡ NO_MEMORY → HasStatus half n c
 memory_status half n c is = record {
   one_of = subst (λ m. IsOneOf m (FINE ∷ SINK_FAILED ∷ CLASHED ∷ NO_MEMORY ∷ [])) (sym is) refl;
   fine = λ e. absurd (omega (arith, is, e));
@@ -133,7 +133,7 @@ no_collision half None lines script some collides = absurd some
 no_collision half (Some bytes) lines script some collides = some.1 lines script collides
 
 -- how a run ends whose text was printed
-pub said_ends : (half : Half) (words : List (Bor (List ℕ))) (left : Option Bytes) (n : ℕ) (c : Ledger) → IsJournal half c
+pub said_ends : (half : Half) (words : List (Bor (List ℕ))) (left : Option Bytes) (n : ℕ) (c : CoreView) → IsJournal half c
     → IfSome left (λ bytes. IsScript (take most_read bytes) c.lines) → n ≡ status_of c.journal → EndsWell half words left n
 said_ends half words left n c kept script is =
     let answered : IsOneOf n (FINE ∷ CLASHED ∷ NO_MEMORY ∷ []) = subst (λ m. IsOneOf m (FINE ∷ CLASHED ∷ NO_MEMORY ∷ [])) (sym is) (fault_free c.journal kept.no_fault) in

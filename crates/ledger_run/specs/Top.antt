@@ -7,7 +7,7 @@ use Rattle.ledger_machine.specs.declared.commands.Line.{Line}
 use Rattle.ledger_machine.specs.State.{default_interval}
 use Rattle.ledger_machine.specs.Runs.{IsFull}
 use Rattle.ledger_machine.specs.Collisions.{Collides, offered_in}
-use Rattle.store_core.specs.Journal.{Ledger, IsJournal}
+use Rattle.store_core.specs.Journal.{CoreView, IsJournal}
 use Rattle.store_core.specs.Totals.{totals_of}
 use Rattle.script_form.specs.Grammar.{IsScript, IsRefused, most_read}
 use Rattle.run_io.specs.Bytes.{Rose, Took, TookPart, Wrote, WrotePart}
@@ -23,7 +23,7 @@ abbrev pub IsOneOf : ℕ → List ℕ → Type 0
 IsOneOf n ns = list_any (λ m. m == n) ns ≡ true
 
 -- what is printed of a core
-abbrev pub text_of : Ledger → Bytes
+abbrev pub text_of : CoreView → Bytes
 text_of c = output c.lines c.journal (totals_of c.journal c.state)
 
 -- the bytes are refused at a line of this number
@@ -44,12 +44,12 @@ abbrev pub HasNoCollision : Half → Bytes → Type 0
 HasNoCollision half bytes = (lines : List Line) → IsScript (take most_read bytes) lines → Collides half (offered_in half lines) → ⊥
 
 -- The headline's part on the core: all that holds of a core's journal, and each line has its entry.
-pub record IsWhole (half : Half) (c : Ledger) : Type 0 where
+pub record IsWhole (half : Half) (c : CoreView) : Type 0 where
   pub kept : IsJournal half c
   pub full : IsFull c.lines c.journal
 
 -- The headline, of the core that a run leaves. `left` and `rest` are what the source had and has left, where it tells it.
-pub record IsRunOfInput (half : Half) (left rest : Option Bytes) (c : Ledger) : Type 0 where
+pub record IsRunOfInput (half : Half) (left rest : Option Bytes) (c : CoreView) : Type 0 where
   -- the core's lines are the script that was read
   pub script : IfSome left (λ bytes. IsScript (take most_read bytes) c.lines)
   -- the source was read to its end
@@ -60,14 +60,14 @@ pub record IsRunOfInput (half : Half) (left rest : Option Bytes) (c : Ledger) : 
   pub whole : IsWhole half c
 
 -- What a run has printed. `held` and `now` are what the sink held and holds, where it tells it.
-pub record HasPrinted (held now : Option Bytes) (status : ℕ) (c : Ledger) : Type 0 where
+pub record HasPrinted (held now : Option Bytes) (status : ℕ) (c : CoreView) : Type 0 where
   -- the text of that very journal
   pub whole : IsOneOf status (FINE ∷ CLASHED ∷ []) → Wrote held now (text_of c)
   -- or a front of it, where the sink failed or memory was wanted
   pub part : WrotePart held now (text_of c)
 
 -- The status of a run, with the core that it left.
-pub record HasStatus (half : Half) (status : ℕ) (c : Ledger) : Type 0 where
+pub record HasStatus (half : Half) (status : ℕ) (c : CoreView) : Type 0 where
   -- fine, the sink failed, a clash or a zero hash, or want of memory
   pub one_of : IsOneOf status (FINE ∷ SINK_FAILED ∷ CLASHED ∷ NO_MEMORY ∷ [])
   -- fine only where the journal shows no clash, no fault and no want of memory
@@ -100,7 +100,7 @@ pub record IsUsage (words : List (Bor (List ℕ))) (status : ℕ) (held now : Op
 
 -- A refused script.
 pub record IsRefusal (words : List (Bor (List ℕ))) (status : ℕ) (left rest held now : Option Bytes) (before after : ℕ)
-    (core : Option Ledger) : Type 0 where
+    (core : Option CoreView) : Type 0 where
   -- only where the bytes are refused
   pub refused : status ≡ REFUSED → IfSome left IsRefusedAt
   -- such bytes give it, unless the source failed or memory was wanted
@@ -114,7 +114,7 @@ pub record IsRefusal (words : List (Bor (List ℕ))) (status : ℕ) (left rest h
 
 -- What failed. `read` and `read'` are the source's counts of faults before and after, `wrote` and `wrote'` the sink's; `Unwritten` says
 -- that the sink is as it was.
-pub record HasCause (status : ℕ) (left rest : Option Bytes) (read read' wrote wrote' : ℕ) (core : Option Ledger)
+pub record HasCause (status : ℕ) (left rest : Option Bytes) (read read' wrote wrote' : ℕ) (core : Option CoreView)
     (Unwritten : Type 0) : Type 0 where
   -- the source failed
   pub source : status ≡ SOURCE_FAILED → Rose read read'

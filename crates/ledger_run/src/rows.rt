@@ -10,7 +10,7 @@ use std::test::Fail;
 
 /// A script, the status, and the journal, in short: `[xx]` is the byte xx and 31 zero bytes, `_` is 32
 /// zero bytes, `@` the header of ledger 10, and `#` the root of its state map.
-const ROWS: [(&str, u8, &str); 9] = [
+const ROWS: [(&str, u8, &str); 11] = [
     (WHOLE, 0, WHOLE_SAYS),
     (COMPRESSED, 0, COMPRESSED_SAYS),
     (VIEWED, 3, "refused 9 5\n"),
@@ -20,6 +20,8 @@ const ROWS: [(&str, u8, &str); 9] = [
     (REFUSED, 0, REFUSED_SAYS),
     (TWO_LEAVES, 0, TWO_LEAVES_SAYS),
     (BROKEN, 0, BROKEN_SAYS),
+    (KINDS, 0, KINDS_SAYS),
+    (TICKS, 0, TICKS_SAYS),
 ];
 
 const WHOLE: &str = "0 want [DD] 10
@@ -45,19 +47,21 @@ const WHOLE_SAYS: &str = "1 0 want opened
 end complete 1 closed 0 listed 1 floor 0 last 10 epoch 0
 ";
 
-/// The root in the form of its branches alone, which isn't read.
+/// The root in the form of its branches alone.
 const COMPRESSED: &str = "0 want [DD] 10
 0 peer 5 [DD]
 0 check [DD]
 0 base 5 [DD] @ [FA]0103
 0 check [DD]
+0 base 5 [DD] @ #
 ";
 
 const COMPRESSED_SAYS: &str = "1 0 want opened
 2 0 peer added
 3 0 check need 5 header
-4 0 base good / bad wire 2
-5 0 check need 5 state:_00
+4 0 base good / good
+5 0 check need 5 state:[10]01
+6 0 base duplicate / duplicate
 end complete 0 closed 0 listed 0 floor 0 last - epoch 0
 ";
 
@@ -152,8 +156,12 @@ const REFUSED: &str = "0 want [DD] 10
 0 node 5 [DD] state [20]01 0102[10]01
 0 node 5 [DD] state [10]01 0103[10]01
 0 node 5 [DD] state [10]01 -
-0 node 5 [DD] state [10]01 0004
+0 node 5 [DD] state [10]01 0005
 0 node 5 [DD] state [10]01 0002
+0 node 5 [DD] state [10]01 [FA]010003
+0 node 5 [DD] state [10]01 [FA]1003
+0 node 5 [DD] state [10]01 [FA]01[FA]0103
+0 node 5 [DD] state [10]01 _0003
 0 node 5 [DD] state [10]01 ________________02
 0 node 5 [DD] state [10]01 0001
 0 node 5 [DD] state [10]01 _01
@@ -173,11 +181,15 @@ const REFUSED_SAYS: &str = "1 0 want opened
 10 0 node bad wire 1
 11 0 node bad wire 2
 12 0 node bad wire 3
-13 0 node bad wire 8
-14 0 node bad wire 9
-15 0 node bad wire 10
-16 0 node good
-17 0 node underleaf [10]01
+13 0 node bad wire 4
+14 0 node bad wire 5
+15 0 node bad wire 6
+16 0 node bad wire 7
+17 0 node bad wire 8
+18 0 node bad wire 9
+19 0 node bad wire 10
+20 0 node good
+21 0 node underleaf [10]01
 end complete 0 closed 0 listed 0 floor 0 last - epoch 0
 ";
 
@@ -188,7 +200,7 @@ const TWO_LEAVES: &str = "0 want [9C] 11
 0 base 5 [9C] 0000000B0000000000000000[DD]_[BF]00000000000000000000 _[DB]______________02
 0 node 5 [9C] state [10]02 0102[10]01
 0 check [9C]
-0 node 5 [9C] state [10]01 [FA][FD]______________02
+0 node 5 [9C] state [10]01 [FD]01[FA]0003
 0 check [9C]
 0 check [9C]
 0 node 6 [9C] state [10]02 0102[10]01
@@ -214,7 +226,7 @@ end complete 1 closed 0 listed 1 floor 0 last 11 epoch 0
 /// A leaf on another branch, one alone below an inner node, one at the root, and a node that is no header.
 const BROKEN: &str = "0 want [DD] 10
 0 peer 5 [DD]
-0 base 5 [DD] @ __[FA]_____________02
+0 base 5 [DD] @ [FA]0203
 0 node 5 [DD] state [20]01 0102[10]01
 0 check [DD]
 0 check [DD]
@@ -250,6 +262,72 @@ const BROKEN_SAYS: &str = "1 0 want opened
 16 0 check malformed state:_00 5
 17 0 want opened
 18 0 check malformed header 6
+end complete 0 closed 0 listed 0 floor 0 last - epoch 0
+";
+
+/// Leaves of other kinds with the wanted hash: a transaction with metadata, and one without.
+const KINDS: &str = "0 want [DD] 10
+0 peer 5 [DD]
+0 base 5 [DD] @ #
+0 node 5 [DD] state [10]01 0302[10]04
+0 check [DD]
+0 want [DE] 10
+0 peer 5 [DE]
+0 base 5 [DE] 0000000A0000000000000000__[DF]00000000000000000000 [FB]0103
+0 node 5 [DE] state [10]01 0100
+0 check [DE]
+";
+
+const KINDS_SAYS: &str = "1 0 want opened
+2 0 peer added
+3 0 base good / good
+4 0 node malformed 1
+5 0 check malformed state:[10]01 1
+6 0 want opened
+7 0 peer added
+8 0 base good / good
+9 0 node malformed 1
+10 0 check malformed state:[10]01 1
+end complete 0 closed 0 listed 0 floor 0 last - epoch 0
+";
+
+/// What was asked is forgotten at a tick, and the seventh gives the acquisition up.
+const TICKS: &str = "0 tick [DD]
+0 want [DD] 10
+0 check [DD]
+0 peer 5 [DD]
+0 peer 6 [DD]
+0 check [DD]
+0 check [DD]
+0 tick [DD]
+0 check [DD]
+0 tick [DD]
+0 tick [DD]
+0 tick [DD]
+0 tick [DD]
+0 tick [DD]
+0 tick [DD]
+0 tick [DD]
+0 want [DD] 10
+";
+
+const TICKS_SAYS: &str = "1 0 tick notopen
+2 0 want opened
+3 0 check nopeer
+4 0 peer added
+5 0 peer added
+6 0 check need 5 header
+7 0 check waiting 1
+8 0 tick timeout 1
+9 0 check need 6 header
+10 0 tick timeout 2
+11 0 tick timeout 3
+12 0 tick timeout 4
+13 0 tick timeout 5
+14 0 tick timeout 6
+15 0 tick gaveup 7
+16 0 tick notopen
+17 0 want opened
 end complete 0 closed 0 listed 0 floor 0 last - epoch 0
 ";
 

@@ -14,14 +14,14 @@ use Rattle.ledger_spec.specs.Findings.{lacks, breaks, finding_at}
 use Rattle.std.proofs.lemmas.Bool.Decides.{nat_tests}
 use Rattle.ledger_spec.specs.Rules.{fault_of}
 use Rattle.shamap_node.specs.declared.parts.Inner.{Inner}
-use Rattle.missing_walk.specs.Sees.{Seen, is_over, noted, sees, found_below, found_in, is_sound_leaf, Shows, HasMissing}
+use Rattle.missing_walk.specs.Sees.{Seen, is_over, noted, sees, found_below, found_in, is_sound_leaf, LooksAs, HasMissing}
 use Rattle.missing_walk.specs.declared.sight.Sight.{Sight as Look}
 use Rattle.missing_walk.specs.declared.sight.Sight.TheVariants as look
 use Rattle.missing_walk.proofs.Noting.{sees-append, sees_over, sees_one, keeps_missing, missing_noted}
 use Rattle.missing_walk.proofs.Below.{at_place, below_zero, below_end, below_inner, in_more, in_none}
 
-shows : (a b : Look) (sight : Sight) → a ≡ b → Shows a sight → Shows b sight
-shows a b sight e h = subst (λ x. Shows x sight) e h
+shows : (a b : Look) (sight : Sight) → a ≡ b → LooksAs a sight → LooksAs b sight
+shows a b sight e h = subst (λ x. LooksAs x sight) e h
 
 leaf_end : (sight : Sight) (place : Rattle.ledger_spec.specs.declared.Place.Place) → is_sound_leaf sight ≡ true → cons_option (finding_at place sight) [] ≡ []
 leaf_end (sound (leaf kind key bytes)) place e = refl
@@ -63,31 +63,31 @@ module _ (half : Half) (nodes : Lookup) (kind : Kind) (left : ℕ) (parent : Opt
   pub walk_zero : true ≡ is_zero h → s ≡ sees s (found_below half nodes kind left parent path h)
   walk_zero none = ap (sees s) (sym (below_zero half nodes kind left parent path h (sym none)))
 
-  pub walk_missing : (seen : Look) (after : Seen) → false ≡ is_over s → false ≡ is_zero h → seen ≡ look.Missing → Shows seen (at_place half nodes kind parent path h)
+  pub walk_missing : (seen : Look) (after : Seen) → false ≡ is_over s → false ≡ is_zero h → seen ≡ look.Missing → LooksAs seen (at_place half nodes kind parent path h)
       → after ≡ noted s (lacks (Node kind path)) → after ≡ sees s (found_below half nodes kind left parent path h)
   walk_missing seen after more nonzero e shown done =
       done ∙ sees_one s (lacks (Node kind path)) (sym more)
       ∙ ap (sees s) (sym (below_end half nodes kind left parent path h missing (sym nonzero) (sym (shows _ _ _ e shown)) (λ each. refl)))
 
   pub walk_broken : (seen : Look) (fault : ShapeFault) (after : Seen) → false ≡ is_over s → false ≡ is_zero h → seen ≡ look.Broken fault
-      → Shows seen (at_place half nodes kind parent path h)
+      → LooksAs seen (at_place half nodes kind parent path h)
       → after ≡ noted s (breaks (Node kind path) fault) → after ≡ sees s (found_below half nodes kind left parent path h)
   walk_broken seen fault after more nonzero e shown done =
       done ∙ sees_one s (breaks (Node kind path) fault) (sym more)
       ∙ ap (sees s) (sym (below_end half nodes kind left parent path h (broken fault) (sym nonzero) (sym (shows _ _ _ e shown)) (λ each. refl)))
 
-  pub walk_leaf : (seen : Look) → false ≡ is_zero h → seen ≡ look.Leaf → Shows seen (at_place half nodes kind parent path h)
+  pub walk_leaf : (seen : Look) → false ≡ is_zero h → seen ≡ look.Leaf → LooksAs seen (at_place half nodes kind parent path h)
       → s ≡ sees s (found_below half nodes kind left parent path h)
   walk_leaf seen nonzero e shown =
       let is_leaf : is_sound_leaf (at_place half nodes kind parent path h) ≡ true = shows _ _ _ e shown in
       ap (sees s) (sym (below_end half nodes kind left parent path h (at_place half nodes kind parent path h) (sym nonzero) refl (leaf_bare _ is_leaf) ∙ leaf_end _ (Node kind path) is_leaf))
 
-  inner_above : (seen : Look) (node : Inner) → length path ≤ 64 → seen ≡ look.Inner node → Shows seen (at_place half nodes kind parent path h) → length path < 64
+  inner_above : (seen : Look) (node : Inner) → length path ≤ 64 → seen ≡ look.Inner node → LooksAs seen (at_place half nodes kind parent path h) → length path < 64
   inner_above seen node short e shown =
       let passes : (if length path == 64 then Some InnerAtBottom else None) ≡ None = sight_pass half (λ n. fault_of n parent kind path) (nodes h) (inner node.hashes) (shows _ _ _ e shown) in
       above_bottom (length path) short (no_fault _ _ passes)
 
-  pub walk_inner : (seen : Look) (node : Inner) (after : Seen) → false ≡ is_zero h → seen ≡ look.Inner node → Shows seen (at_place half nodes kind parent path h)
+  pub walk_inner : (seen : Look) (node : Inner) (after : Seen) → false ≡ is_zero h → seen ≡ look.Inner node → LooksAs seen (at_place half nodes kind parent path h)
       → left ≡ 64 - length path → length path ≤ 64
       → after ≡ sees s (found_in half nodes kind (63 - length path) node.hashes path 16) → after ≡ sees s (found_below half nodes kind left parent path h)
   walk_inner seen node after nonzero e shown level short done =
@@ -96,12 +96,12 @@ module _ (half : Half) (nodes : Lookup) (kind : Kind) (left : ℕ) (parent : Opt
       done ∙ ap (sees s) (sym (ap (λ l. found_below half nodes kind l parent path h) next
       ∙ below_inner half nodes kind (63 - length path) parent path h node.hashes (sym nonzero) (sym (shows _ _ _ e shown))))
 
-  pub refused_missing : (seen : Look) → false ≡ is_over s → false ≡ is_zero h → seen ≡ look.Missing → Shows seen (at_place half nodes kind parent path h)
+  pub refused_missing : (seen : Look) → false ≡ is_over s → false ≡ is_zero h → seen ≡ look.Missing → LooksAs seen (at_place half nodes kind parent path h)
       → HasMissing (sees s (found_below half nodes kind left parent path h))
   refused_missing seen more nonzero e shown =
       subst (λ t. HasMissing t) (walk_missing seen (noted s (lacks (Node kind path))) more nonzero e shown refl) (missing_noted s (Node kind path))
 
-  pub refused_inner : (seen : Look) (node : Inner) → false ≡ is_zero h → seen ≡ look.Inner node → Shows seen (at_place half nodes kind parent path h)
+  pub refused_inner : (seen : Look) (node : Inner) → false ≡ is_zero h → seen ≡ look.Inner node → LooksAs seen (at_place half nodes kind parent path h)
       → left ≡ 64 - length path → length path ≤ 64
       → HasMissing (sees s (found_in half nodes kind (63 - length path) node.hashes path 16)) → HasMissing (sees s (found_below half nodes kind left parent path h))
   refused_inner seen node nonzero e shown level short some =

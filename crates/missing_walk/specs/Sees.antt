@@ -83,11 +83,11 @@ is_sound_leaf (sound (leaf kind key bytes)) = true
 is_sound_leaf _ = false
 
 -- what the code says of a sight; it keeps no leaf
-abbrev pub Shows : Look → Sight → Type 0
-Shows look.Missing s = s ≡ missing
-Shows (look.Broken fault) s = s ≡ broken fault
-Shows (look.Inner i) s = s ≡ sound (inner i.hashes)
-Shows look.Leaf s = is_sound_leaf s ≡ true
+abbrev pub LooksAs : Look → Sight → Type 0
+LooksAs look.Missing s = s ≡ missing
+LooksAs (look.Broken fault) s = s ≡ broken fault
+LooksAs (look.Inner i) s = s ≡ sound (inner i.hashes)
+LooksAs look.Leaf s = is_sound_leaf s ≡ true
 
 -- the findings in the two maps that a header names
 unfoldable pub found_in_maps : Half → Lookup → Bytes → List Finding

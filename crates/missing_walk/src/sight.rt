@@ -10,7 +10,7 @@ ghost use Rattle.ledger_spec.specs.Forms.{leaf, leaf_prefix, data_limit, keyed_l
 ghost use Rattle.ledger_spec.specs.Rules.{fault_of};
 ghost use Rattle.ledger_spec.specs.Findings.{seen_as, judged, held_of, sight_of, sound as belongs};
 ghost use Rattle.shamap_node.specs.Nodes.{held, held_leaf, hashes_above};
-ghost use Rattle.missing_walk.specs.Sees.{Shows, without_data};
+ghost use Rattle.missing_walk.specs.Sees.{LooksAs, without_data};
 
 use crate::header::{hash_from, header_bytes};
 use half_hash::{Blob, Hash32, NodeHash, Prefix};
@@ -38,7 +38,7 @@ pub(crate) fn look<H: NodeHash>(
     id: &NodeId,
     hash: &Hash32,
 ) -> Sight
-    ensures { Shows result (sight_of H.half (λ n. fault_of n (hashes_above parent.entry) kind id.now) (map.get nodes.now hash.now)) }
+    ensures { LooksAs result (sight_of H.half (λ n. fault_of n (hashes_above parent.entry) kind id.now) (map.get nodes.now hash.now)) }
 {
     match nodes.get(hash) {
         Some(form) => judge::<H>(alloc, form.bytes(), kind, parent, id),
@@ -54,7 +54,7 @@ fn judge<H: NodeHash>(
     parent: Option<&Inner>,
     id: &NodeId,
 ) -> Sight
-    ensures { Shows result (judged (λ n. fault_of n (hashes_above parent.entry) kind id.now) (held_of H.half form.now)) }
+    ensures { LooksAs result (judged (λ n. fault_of n (hashes_above parent.entry) kind id.now) (held_of H.half form.now)) }
 {
     if let Some(inner) = inner_of(form) {
         return judge_node(&Node::Inner(inner), kind, parent, id);
@@ -70,7 +70,7 @@ fn judge<H: NodeHash>(
 
 // What is seen where this node stands.
 fn judge_node(node: &Node, kind: Kind, parent: Option<&Inner>, id: &NodeId) -> Sight
-    ensures { Shows result (seen_as (held node.now) (fault_of (held node.now) (hashes_above parent.entry) kind id.now)) }
+    ensures { LooksAs result (seen_as (held node.now) (fault_of (held node.now) (hashes_above parent.entry) kind id.now)) }
 {
     match shape(node, parent, kind, id) {
         Ok(()) => sound(node),
@@ -80,7 +80,7 @@ fn judge_node(node: &Node, kind: Kind, parent: Option<&Inner>, id: &NodeId) -> S
 
 // What is seen where this node belongs.
 fn sound(node: &Node) -> Sight
-    ensures { Shows result (belongs (held node.now)) }
+    ensures { LooksAs result (belongs (held node.now)) }
 {
     match node {
         Node::Inner(inner) => Sight::Inner(*inner),

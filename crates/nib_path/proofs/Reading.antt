@@ -11,7 +11,7 @@ use Rattle.std.proofs.lemmas.Bool.{and_parts, and_from, cases_Bool, cond-true, c
 use Rattle.nib_path.specs.declared.NodeId.TheInside.{Inside}
 use Rattle.nib_path.specs.declared.IdFault.{IdFault}
 use Rattle.nib_path.specs.declared.IdFault.TheVariants.{Length, Depth}
-use Rattle.nib_path.specs.Paths.{nibbles, path_of, inside_of, id_of, wire_of, first_set_from, IsNodeId, IsPath, length-nibbles}
+use Rattle.nib_path.specs.Paths.{nibbles, path_of, inside_of, id_of, id_wire, first_set_from, IsNodeId, IsPath, length-nibbles}
 use Rattle.nib_path.specs.Paths.{length_of_view, id_of_view}
 use Rattle.nib_path.specs.Wire.{path_unless, read_id, read_wire_id}
 use Rattle.nib_path.proofs.Nibbles.{nibbles-packed, length-packed, list_all-append_zeros}
@@ -78,7 +78,7 @@ get_or_seam [] y ys = refl
 get_or_seam (x ∷ xs) y ys = get_or_seam xs y ys
 
 -- bytes that are read as a path are its wire form
-pub read_wire_id-ok : (bytes p : List ℕ) → read_wire_id bytes ≡ Ok p → bytes ≡ wire_of p
+pub read_wire_id-ok : (bytes p : List ℕ) → read_wire_id bytes ≡ Ok p → bytes ≡ id_wire p
 read_wire_id-ok bytes p e =
     elim (cases_Bool (nat_eq (length bytes) 33)) [
       | inl whole ↦
@@ -91,7 +91,7 @@ read_wire_id-ok bytes p e =
           absurd (cc)
     ]
 
-pub read_wire_id-IfOk : (bytes : List ℕ) (r : Result (List ℕ) IdFault) → r ≡ read_wire_id bytes → IfOk r (λ p. bytes ≡ wire_of p)
+pub read_wire_id-IfOk : (bytes : List ℕ) (r : Result (List ℕ) IdFault) → r ≡ read_wire_id bytes → IfOk r (λ p. bytes ≡ id_wire p)
 read_wire_id-IfOk bytes (Ok p) e = read_wire_id-ok bytes p (sym e)
 read_wire_id-IfOk bytes (Err f) e = tt
 
@@ -135,17 +135,17 @@ read_id-id_of p h =
     ∙ ap (path_unless (take n (nibbles (id_of p)))) none
     ∙ ap (λ (q : List ℕ). Ok q) (path_of-inside_of p h)
 
-pub length-wire_of : (p : List ℕ) → IsPath p → length (wire_of p) ≡ 33
-length-wire_of p h = length-append (id_of p) (length p ∷ []) ∙ ap (λ k. k + 1) (length-id_of p h)
+pub length-id_wire : (p : List ℕ) → IsPath p → length (id_wire p) ≡ 33
+length-id_wire p h = length-append (id_of p) (length p ∷ []) ∙ ap (λ k. k + 1) (length-id_of p h)
 
 -- a path's wire form is read as the path
-pub read_wire_id-wire_of : (p : List ℕ) → IsPath p → read_wire_id (wire_of p) ≡ Ok p
-read_wire_id-wire_of p h =
+pub read_wire_id-id_wire : (p : List ℕ) → IsPath p → read_wire_id (id_wire p) ≡ Ok p
+read_wire_id-id_wire p h =
     let id = id_of p in
-    let n = length-wire_of p h in
-    let front : take 32 (wire_of p) ≡ id = take_at id _ 32 (length-id_of p h) in
-    let last : slice_index (wire_of p) 32 ≡ length p = ap (λ k. slice_index (wire_of p) k) (sym (length-id_of p h)) ∙ get_or_seam id (length p) [] in
-    cond-true _ _ _ (eq-eqb (length (wire_of p)) 33 n)
-    ∙ ap (λ (r : List ℕ). read_id r (slice_index (wire_of p) 32)) front
+    let n = length-id_wire p h in
+    let front : take 32 (id_wire p) ≡ id = take_at id _ 32 (length-id_of p h) in
+    let last : slice_index (id_wire p) 32 ≡ length p = ap (λ k. slice_index (id_wire p) k) (sym (length-id_of p h)) ∙ get_or_seam id (length p) [] in
+    cond-true _ _ _ (eq-eqb (length (id_wire p)) 33 n)
+    ∙ ap (λ (r : List ℕ). read_id r (slice_index (id_wire p) 32)) front
     ∙ ap (read_id id) last
     ∙ read_id-id_of p h

@@ -30,8 +30,8 @@ abbrev pub id_of : List ℕ → List ℕ
 id_of path = packed (path ++ replicate (64 - length path) 0)
 
 -- the wire form of a path: its ID, and then its length
-abbrev pub wire_of : List ℕ → List ℕ
-wire_of path = id_of path ++ length path ∷ []
+abbrev pub id_wire : List ℕ → List ℕ
+id_wire path = id_of path ++ length path ∷ []
 
 -- the place of the first nibble that isn't zero, from a depth on
 abbrev pub first_set_from : ℕ → List ℕ → Option ℕ

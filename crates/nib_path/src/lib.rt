@@ -111,7 +111,7 @@ impl Model for NodeId {
 }
 
 impl NodeId {
-    ghost use Rattle.nib_path.specs.Paths.{lies_under, id_of, wire_of, IsPath};
+    ghost use Rattle.nib_path.specs.Paths.{lies_under, id_of, id_wire, IsPath};
     ghost use Rattle.nib_path.specs.Wire.{read_id, read_wire_id};
 
     /// The root of every map, at depth 0.
@@ -175,7 +175,7 @@ impl NodeId {
 
     /// The ID as it is sent, rippled's `getRawString`: the 32 bytes, and then the depth.
     pub fn to_wire(&self) -> [u8; 33]
-        ensures { result ≡ wire_of self.now }
+        ensures { result ≡ id_wire self.now }
     {
         let mut wire = [0; 33];
         wire[..32].copy_from_slice(&self.id);
@@ -188,8 +188,8 @@ impl NodeId {
         ensures exact { result ≡ read_wire_id bytes.now }
 
         // each of `to_wire` and `from_wire` undoes the other
-        ensures ok { IfOk result (λ path. bytes.now ≡ wire_of path) }
-        ensures back { (path : List ℕ) → IsPath path → bytes.now ≡ wire_of path → result ≡ Ok path }
+        ensures ok { IfOk result (λ path. bytes.now ≡ id_wire path) }
+        ensures back { (path : List ℕ) → IsPath path → bytes.now ≡ id_wire path → result ≡ Ok path }
     {
         if bytes.len() != 33 {
             return Err(IdFault::Length(bytes.len()));

@@ -17,9 +17,9 @@ IsPlain fault.Memory = Unit {0}
 IsPlain _ = ⊥
 
 -- the store's name for what a backend answers
-abbrev pub fault_of : BackFault → StoreFault
-fault_of back.Fault = fault.Fault
-fault_of back.Memory = fault.Memory
+abbrev pub store_fault : BackFault → StoreFault
+store_fault back.Fault = fault.Fault
+store_fault back.Memory = fault.Memory
 
 -- a wrong hash is answered exactly where the form's half is another one, and is told with the hash
 abbrev pub TellsWrongHash : Half → Hash → Bytes → Result Put StoreFault → Type 0

@@ -366,9 +366,9 @@ fn compare(alloc: Global, h: &Hash32, old: Blob, form: &[u8]) -> Result<Put, Sto
 }
 
 impl From<BackFault> for StoreFault {
-    ghost use Rattle.rotating_store.specs.Puts.{fault_of};
+    ghost use Rattle.rotating_store.specs.Puts.{store_fault};
 
-    ghost from_gives = { λ b e. e ≡ fault_of b };
+    ghost from_gives = { λ b e. e ≡ store_fault b };
 
     fn from(fault: BackFault) -> StoreFault {
         match fault {

@@ -3,7 +3,7 @@ use Rattle.std.specs.Prelude.{◌≡◌, ◌⊎◌, ℕ, ◌+◌, ◌-◌, ◌*�
 use Rattle.std.specs.List.{list_all}
 use Rattle.std.specs.Char.{is_ascii_digit}
 use Rattle.hex.specs.Hex.{decode_of}
-use Rattle.nib_path.specs.Paths.{IsPath, wire_of}
+use Rattle.nib_path.specs.Paths.{IsPath, id_wire}
 use Rattle.half_hash.specs.Hex.{IsHexOf}
 use Rattle.ledger_spec.specs.Bytes.{Bytes, Hash, is_nonzero}
 
@@ -47,4 +47,4 @@ IsBlob word bytes = ((word ≡ 45 ∷ []) × (bytes ≡ [])) ⊎ ((0 < length wo
 pub record IsId (word : Bytes) (path : List ℕ) : Type 0 where
   pub digits : length word ≡ 66
   pub is_path : IsPath path
-  pub value : decode_of word ≡ Ok (wire_of path)
+  pub value : decode_of word ≡ Ok (id_wire path)

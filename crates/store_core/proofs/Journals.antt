@@ -26,7 +26,7 @@ use Rattle.ledger_spec.specs.Maps.{hash_cmp}
 use Rattle.ledger_machine.specs.declared.commands.Command.TheVariants as command
 use Rattle.ledger_laws.proofs.RunLaws.{run_more}
 use Rattle.ledger_machine.specs.Runs.{IsDone, is_answered, next_line}
-use Rattle.store_core.specs.Journal.{Kept, IsNext, Rose, RoseBy, faults_in, fault_count}
+use Rattle.store_core.specs.Journal.{CoreKeeps, IsNext, Rose, RoseBy, faults_in, fault_count}
 use Rattle.store_core.proofs.Finding.{rising, line_there}
 use Rattle.store_core.proofs.Waiting.{read_at, next_left, next_at, answered_any, any_answered, number_at, number_in, same_place, waits_more}
 use Rattle.ledger_machine.specs.declared.commands.Line.{Line}
@@ -124,7 +124,7 @@ served_acquires (command.Node p t kind path blob) served = tt
 served_acquires (command.Check t) served = tt
 served_acquires _ served = absurd served
 
-module _ (half : Half) (lines : List Line) (cursors : List ℕ) (journal : List Entry) (capacity interval : ℕ) (told : Bool) (opened now : ℕ) (s : State) (k : Kept half lines cursors journal capacity interval told opened now s) where
+module _ (half : Half) (lines : List Line) (cursors : List ℕ) (journal : List Entry) (capacity interval : ℕ) (told : Bool) (opened now : ℕ) (s : State) (k : CoreKeeps half lines cursors journal capacity interval told opened now s) where
   at_most : (a : ℕ) → a < 64 → part (λ e. e.actor) journal a ≤ part (λ l. l.actor) lines a
   at_most a lt = omega (arith, answered_part a journal, numbers_part a lines, ap length (k.done a lt), numbers-take-le a (slice_index cursors a) lines)
 
@@ -195,7 +195,7 @@ module _ (half : Half) (lines : List Line) (cursors : List ℕ) (journal : List 
       ] refl
 
   -- a cursor may go on to a place before which the actor has no further line
-  pub kept_moved : (a at : ℕ) → a < 64 → at ≤ length lines → numbers_of a (take at lines) ≡ numbers_of a (take (slice_index cursors a) lines) → Kept half lines (set cursors a at) journal capacity interval told opened now s
+  pub kept_moved : (a at : ℕ) → a < 64 → at ≤ length lines → numbers_of a (take at lines) ≡ numbers_of a (take (slice_index cursors a) lines) → CoreKeeps half lines (set cursors a at) journal capacity interval told opened now s
   kept_moved a at lt within none = record {
     run = k.run;
     sound = k.sound;
@@ -235,7 +235,7 @@ module _ (half : Half) (lines : List Line) (cursors : List ℕ) (journal : List 
         let P : Line → Type 0 = λ x. x.after ≢ 0 → is_answered journal x.after ≡ true in
         inr (subst P same free waits)
 
-    pub kept_step : (e : Entry) (s' : State) (c now' : ℕ) → e.line ≡ line.number → e.actor ≡ a → (line.after ≢ 0 → is_answered journal line.after ≡ true) → (IsTrue told → Step half s e.actor line.command e.reply (used_by e) s') → (IsTrue told → Sound half s') → (IsTrue told → length s'.listed ≤ suc (length s.listed)) → capacity ≤ c → now ≤ now' → (e.reply ≡ says.Fault → Rose now now') → Kept half lines (set cursors a (at + 1)) (journal ++ e ∷ []) c interval told opened now' s'
+    pub kept_step : (e : Entry) (s' : State) (c now' : ℕ) → e.line ≡ line.number → e.actor ≡ a → (line.after ≢ 0 → is_answered journal line.after ≡ true) → (IsTrue told → Step half s e.actor line.command e.reply (used_by e) s') → (IsTrue told → Sound half s') → (IsTrue told → length s'.listed ≤ suc (length s.listed)) → capacity ≤ c → now ≤ now' → (e.reply ≡ says.Fault → Rose now now') → CoreKeeps half lines (set cursors a (at + 1)) (journal ++ e ∷ []) c interval told opened now' s'
     kept_step e s' c now' number actor free step sound few more later cause = record {
       sound = sound;
       listed_few = λ t. omega (arith, few t, k.listed_few t, length-append journal (e ∷ []));
@@ -324,9 +324,9 @@ none_stored half h form e = absurd (no_some (sym (finite.get-empty hash_cmp h) �
 
 pub kept_open : (half : Half) (lines : List Line) (cursors : List ℕ) (journal : List Entry) (capacity interval : ℕ) (told : Bool) (opened now : ℕ) (s : State)
     → journal ≡ [] → length cursors ≡ 64 → ((a : ℕ) → a < 64 → slice_index cursors a ≡ 0) → AreServable lines → length lines ≤ capacity → opened ≡ now → (IsTrue told → s ≡ opening finite.empty interval)
-    → Kept half lines cursors journal capacity interval told opened now s
+    → CoreKeeps half lines cursors journal capacity interval told opened now s
 kept_open half lines cursors journal capacity interval told opened now s none size start_at servable room same start =
-    let P : List Entry → Type 0 = λ j. Kept half lines cursors j capacity interval told opened now s in
+    let P : List Entry → Type 0 = λ j. CoreKeeps half lines cursors j capacity interval told opened now s in
     subst P (sym none) (record {
       run = start;
       sound = λ t. subst (Sound half) (sym (start t)) (opening_is_sound half finite.empty interval (none_stored half));

@@ -14,11 +14,12 @@ use Rattle.ledger_machine.specs.Runs.{Answers, IsRunOf, opening_of, Projects, an
 use Rattle.ledger_machine.specs.Receipts.{AllStay}
 use Rattle.ledger_machine.specs.Complete.{IsAllStored, AreExact}
 use Rattle.ledger_machine.specs.Collisions.{IsClash, Collides, offered_in}
+use Rattle.run_io.specs.Bytes.{Rose}
 use Rattle.script_form.specs.Servable.{AreServable}
 
 -- what contracts see of a core: its script's lines, the interval, the store's count of faults at opening and now, the journal, and the
 -- state
-pub record Ledger : Type 0 where
+pub record CoreView : Type 0 where
   pub lines : List Line
   pub interval : ℕ
   pub opened : ℕ
@@ -35,10 +36,6 @@ abbrev pub faults_in : List Entry → ℕ
 faults_in [] = 0
 faults_in (e ∷ es) = fault_count e.reply + faults_in es
 
--- a count rose, or stands at the last value of a u64
-abbrev pub Rose : ℕ → ℕ → Type 0
-Rose before now = (before + 1 ≤ now) ⊎ (2 ^ 64 - 1 ≤ now)
-
 -- a count has risen by n at least, or stands at its last value
 abbrev pub RoseBy : ℕ → ℕ → ℕ → Type 0
 RoseBy n before now = (before + n ≤ now) ⊎ (2 ^ 64 - 1 ≤ now)
@@ -46,7 +43,7 @@ RoseBy n before now = (before + n ≤ now) ⊎ (2 ^ 64 - 1 ≤ now)
 -- What a core keeps: where its store tells what it holds, its journal is a run that led to a sound state, and no more ledgers are
 -- listed than it has entries; each actor's cursor stands behind the lines that it has answered, and no entry before that of the line
 -- that it waits for; the journal has room for an entry of each line; and each `fault` has a rise of the store's count of its own.
-pub record Kept (half : Half) (lines : List Line) (cursors : List ℕ) (journal : List Entry) (capacity interval : ℕ) (told : Bool)
+pub record CoreKeeps (half : Half) (lines : List Line) (cursors : List ℕ) (journal : List Entry) (capacity interval : ℕ) (told : Bool)
     (opened now : ℕ) (state : State) : Type 0 where
   pub run : IsTrue told → IsRunOf half lines interval journal state
   pub sound : IsTrue told → Sound half state
@@ -62,7 +59,7 @@ pub record Kept (half : Half) (lines : List Line) (cursors : List ℕ) (journal 
 
 -- One entry more, for this actor's next line and by a step of it. The store's count of faults never falls, and the entry answers `fault`
 -- only where the count rose in this very section.
-pub record Advances (half : Half) (told : Bool) (old : Ledger) (a : ℕ) (new : Ledger) : Type 0 where
+pub record Advances (half : Half) (told : Bool) (old : CoreView) (a : ℕ) (new : CoreView) : Type 0 where
   pub entry : Entry
   pub line : Line
   -- it is the actor's next line, and the actor's entry
@@ -81,11 +78,11 @@ pub record Advances (half : Half) (told : Bool) (old : Ledger) (a : ℕ) (new : 
   pub step : IsTrue told → Answers half old.lines old.state entry new.state
 
 -- a core's journal is a run of its script to its state
-abbrev pub IsRun : Half → Ledger → Type 0
+abbrev pub IsRun : Half → CoreView → Type 0
 IsRun half c = IsRunOf half c.lines c.interval c.journal c.state
 
 -- What holds of a core each time that it is given back, where its store tells what it holds.
-pub record IsJournal (half : Half) (c : Ledger) : Type 0 where
+pub record IsJournal (half : Half) (c : CoreView) : Type 0 where
   -- the journal is a run of the store machine from the script's opening to the actual state
   pub run : IsRun half c
   -- each actor's entries are for its first lines, in order, each once, and none stands before that of the line that it waits for

@@ -18,7 +18,7 @@ use shamap_node::Place;
 
 /// Why the form under the target is not that of an acceptable ledger's header, for the asked sequence
 /// (0 for any) and the floor; none where it is one, or where nothing is stored.
-pub(crate) fn fault_of(form: Option<&Blob>, asked: u32, floor: u32) -> Option<CheckReply>
+pub(crate) fn head_fault(form: Option<&Blob>, asked: u32, floor: u32) -> Option<CheckReply>
     ensures verdict { (rest : Reply)
         → option_map_or (λ f. form_verdict asked floor f rest) (option_copied form.entry) rest ≡ unwrap_or result rest }
 

@@ -19,7 +19,7 @@ ghost use Rattle.ledger_machine.specs.Steps.{Step};
 ghost use Rattle.store_core.specs.Refusals.{IsClashReply, IsAsked, HasSomeParts, refusal_of, asked_reply};
 
 use crate::acquire::Acquire;
-use crate::header::{fault_of, stored_seq as seq_in};
+use crate::header::{head_fault, stored_seq as seq_in};
 use half_hash::{Blob, Hash32, Memory, NodeHash, known_half};
 use ledger_machine::{
     BaseReply, CheckReply, Command, HeadOffered, NodeReply, Offered, PeerReply, Reply, TickReply,
@@ -292,7 +292,7 @@ impl<H: NodeHash> Machine<H> {
         let Some(acquire) = self.wanted.get(target) else {
             return Ok(CheckReply::NotOpen);
         };
-        if let Some(fault) = fault_of(self.nodes.get(target), acquire.seq(), self.floor) {
+        if let Some(fault) = head_fault(self.nodes.get(target), acquire.seq(), self.floor) {
             self.wanted.remove(target);
             return Ok(fault);
         }

@@ -47,9 +47,9 @@ impl<H: NodeHash> Model for Core<H> {
     ghost use Rattle.std.specs.Prelude.{vec_capacity, true};
     ghost use Rattle.std.specs.Coded.{codes};
     ghost use Rattle.ledger_spec.specs.Maps.{map_code, set_code};
-    ghost use Rattle.store_core.specs.Journal.{Ledger, Kept};
+    ghost use Rattle.store_core.specs.Journal.{CoreView, CoreKeeps};
 
-    ghost Value = { Ledger };
+    ghost Value = { CoreView };
 
     ghost coded = { Prim.hlevel (codes, map_code, set_code) };
 
@@ -64,7 +64,7 @@ impl<H: NodeHash> Model for Core<H> {
     } };
 
     ghost invariant = { λ c.
-        Kept H.half c.script.lines.items c.cursors.items c.journal.items (vec_capacity c.journal) c.interval true 0 0 c.machine };
+        CoreKeeps H.half c.script.lines.items c.cursors.items c.journal.items (vec_capacity c.journal) c.interval true 0 0 c.machine };
 }
 
 impl<H: NodeHash> Core<H> {

@@ -1,10 +1,10 @@
 use Rattle.std.proofs.Common.{◌≡◌, length, ap, ◌∙◌, arith, length-take}
 use Rattle.nib_path.specs.Wire.{read_wire_id}
-use Rattle.nib_path.proofs.Reading.{read_wire_id-IfOk, read_wire_id-whole, length-wire_of, read_wire_id-wire_of}
+use Rattle.nib_path.proofs.Reading.{read_wire_id-IfOk, read_wire_id-whole, length-id_wire, read_wire_id-id_wire}
 use Rattle.nib_path.proofs.NodeId.from_wire.Goals as goal
 
 pub returns-then-bytes-ne33-clause-back : goal.returns-then-bytes-ne33-clause-back
-returns-then-bytes-ne33-clause-back c = λ path h e. absurd (c.if-bytes-ne33.true (ap length e ∙ length-wire_of path h))
+returns-then-bytes-ne33-clause-back c = λ path h e. absurd (c.if-bytes-ne33.true (ap length e ∙ length-id_wire path h))
 
 pub slice_bounds-copy_from_slice-end-2 : goal.slice_bounds-copy_from_slice-end-2
 slice_bounds-copy_from_slice-end-2 c = omega (arith, length-take 32 c.args.bytes.now)
@@ -20,4 +20,4 @@ returns-clause-ok c =
 pub returns-clause-back : goal.returns-clause-back
 returns-clause-back c =
     let exact : c.of_parts.result ≡ read_wire_id c.args.bytes.now = read_wire_id-whole _ c.copy_from_slice.new.self c.of_parts.result c.if-bytes-ne33.false c.copy_from_slice.ensures.after c.of_parts.ensures in
-    λ path h e. exact ∙ ap read_wire_id e ∙ read_wire_id-wire_of path h
+    λ path h e. exact ∙ ap read_wire_id e ∙ read_wire_id-id_wire path h
