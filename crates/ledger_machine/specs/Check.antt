@@ -1,34 +1,21 @@
 -- The row of `check`.
-use Rattle.std.specs.Prelude.{ℕ, ◌==◌, ◌&&◌, not, Bool, true, false, nat_lt, if◌then◌else◌, List, [], ◌∷◌, ◌++◌, length, take, Option}
-use Rattle.std.specs.Prelude.{None, Some}
-use Rattle.std.specs.List.{filter, filter_map, list_any}
+use Rattle.std.specs.Prelude.{ℕ, ◌==◌, ◌&&◌, not, nat_lt, if◌then◌else◌, List, [], ◌∷◌, ◌++◌, length, take, Option, None, Some}
+use Rattle.std.specs.List.{filter_map}
 use Rattle.std.specs.Option.{option_map_or}
 use Rattle.ledger_spec.specs.Maps.{hash_cmp, get_in}
 use Rattle.ledger_spec.specs.declared.Place.{Place}
-use Rattle.ledger_spec.specs.declared.Place.TheVariants.{Header, Node}
+use Rattle.ledger_spec.specs.declared.Place.TheVariants.{Header}
 use Rattle.ledger_spec.specs.declared.ShapeFault.{ShapeFault}
-use Rattle.ledger_spec.specs.Bytes.{Bytes, Hash, Half, is_zero, same_bytes}
+use Rattle.ledger_spec.specs.Bytes.{Bytes, Hash, Half, is_zero}
 use Rattle.ledger_spec.specs.Header.{seq_of, state_root_of}
 use Rattle.ledger_spec.specs.Forms.{header_of}
-use Rattle.ledger_spec.specs.Rules.{rule_number, same_kind}
+use Rattle.ledger_spec.specs.Rules.{rule_number}
 use Rattle.ledger_spec.specs.Findings.{Finding, missing_of, first_broken, seen}
+use Rattle.ledger_spec.specs.Peers.{most_asked, unasked, first_to_end}
 use Rattle.ledger_machine.specs.declared.replies.CheckReply.{CheckReply}
 use Rattle.ledger_machine.specs.declared.replies.CheckReply.TheVariants.{Complete, Need, Waiting, NoPeer, SeqDiffers, ZeroState}
 use Rattle.ledger_machine.specs.declared.replies.CheckReply.TheVariants.{BelowFloor, Malformed, NotOpen}
 use Rattle.ledger_machine.specs.State.{State, Acquisition, form_in, with_wanted, ended, listed_with}
-
--- how many places are asked for at once
-abbrev pub most_asked : ℕ
-most_asked = 128
-
-abbrev pub same_place : Place → Place → Bool
-same_place Header Header = true
-same_place (Node kind path) (Node other way) = same_kind kind other && same_bytes path way
-same_place _ _ = false
-
--- the places that weren't asked since the last tick
-abbrev pub unasked : List Place → List Place → List Place
-unasked asked places = filter (λ p. not (list_any (same_place p) asked)) places
 
 -- the first places that weren't asked go to the first peer; where all n were asked, it waits
 abbrev pub need_or_wait : ℕ → ℕ → List Place → CheckReply
@@ -69,10 +56,6 @@ check_given half s t held (Some a) =
 
 abbrev pub check_reply : Half → State → Hash → CheckReply
 check_reply half s t = check_given half s t (form_in s t) (get_in hash_cmp s.wanted t)
-
-abbrev pub first_to_end : List ℕ → List ℕ
-first_to_end [] = []
-first_to_end (peer ∷ rest) = rest ++ peer ∷ []
 
 -- the acquisition that asked: its first peer has moved to the end, and the places are asked
 abbrev pub after_ask : CheckReply → Acquisition → Acquisition

@@ -1,10 +1,9 @@
 -- The rows of `begin` and `swap`, and what a rotation keeps meanwhile.
-use Rattle.std.specs.Prelude.{◌≡◌, ◌≢◌, ◌⊎◌, ℕ, ◌+◌, nat_le, IsTrue, List, Option, None, Some}
-use Rattle.std.specs.List.{filter}
-use Rattle.std.specs.Option.{unwrap_or}
+use Rattle.std.specs.Prelude.{◌≡◌, ◌≢◌, ◌⊎◌, ℕ, ◌+◌, IsTrue, List, Option, None, Some}
 use Rattle.std.specs.FinSet as set
 use Rattle.ledger_spec.specs.Bytes.{Bytes, Hash}
 use Rattle.ledger_spec.specs.Reach.{Reach}
+use Rattle.ledger_spec.specs.Retaining.{floor_behind, listed_from}
 use Rattle.ledger_machine.specs.declared.replies.BeginReply.{BeginReply}
 use Rattle.ledger_machine.specs.declared.replies.BeginReply.TheVariants as begins
 use Rattle.ledger_machine.specs.State.{State, form_in, roots, due, Kept}
@@ -12,7 +11,7 @@ use Rattle.ledger_machine.specs.State.{State, form_in, roots, due, Kept}
 abbrev pub begin_given : State → Option ℕ → Option ℕ → BeginReply
 begin_given s (Some v) _ = begins.Busy
 begin_given s None None = begins.NotDue
-begin_given s None (Some v) = begins.Begun v (unwrap_or s.last 0 + 1)
+begin_given s None (Some v) = begins.Begun v (floor_behind s.last)
 
 abbrev pub begin_reply : State → BeginReply
 begin_reply s = begin_given s s.turning (due s)
@@ -20,7 +19,7 @@ begin_reply s = begin_given s s.turning (due s)
 -- the floor rises, and lower ledgers are listed no more
 abbrev pub after_begin : State → BeginReply → State
 after_begin s (begins.Begun v floor) =
-    record s { floor = floor; listed = filter (λ e. nat_le floor e.1) s.listed; turning = Some v }
+    record s { floor = floor; listed = listed_from floor s.listed; turning = Some v }
 after_begin s _ = s
 
 -- what is shaded first reaches what the roots reach

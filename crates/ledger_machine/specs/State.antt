@@ -1,7 +1,6 @@
 -- The state of the store machine.
-use Rattle.std.specs.Prelude.{ℕ, ◌+◌, max, nat_le, is_some, if◌then◌else◌, List, [], ◌∷◌, ◌++◌, map, Option, None, Some}
+use Rattle.std.specs.Prelude.{ℕ, is_some, if◌then◌else◌, List, [], ◌∷◌, ◌++◌, map, Option, None, Some}
 use Rattle.std.specs.Option.{option_map_or}
-use Rattle.std.specs.List.{fold}
 use Rattle.std.specs.Map.{keys_of, values_of}
 use Rattle.ledger_spec.specs.Maps.{ForHash, ForActor, ForPeer, SetOf, hashes_in, hash_cmp, get_in, set_in, remove_in, insert_in}
 use Rattle.ledger_spec.specs.declared.Place.{Place}
@@ -11,6 +10,7 @@ use Rattle.ledger_spec.specs.Spots.{header_in}
 use Rattle.std.specs.FinMap as finite
 use Rattle.std.specs.FinSet as set
 use Rattle.ledger_spec.specs.Reach.{Reach}
+use Rattle.ledger_spec.specs.Retaining.{last_or, due_at}
 
 -- an open acquisition: the asked sequence, the present peers in order of turn, the charges of every peer that was ever added,
 -- the places asked since the last tick, and the ticks
@@ -65,17 +65,9 @@ roots s = retained s ++ keys_of s.wanted
 abbrev pub Kept : State → Hash → Type 0
 Kept s h = Reach (form_in s) s.shaded h
 
--- the greatest listed sequence
-abbrev pub greatest : State → ℕ
-greatest s = fold max 0 (values_of s.listed)
-
-abbrev pub due_after : State → Option ℕ → Option ℕ
-due_after s None = None
-due_after s (Some last) = if nat_le (last + s.interval) (greatest s) then Some (greatest s) else None
-
--- the sequence at which a rotation is due: the greatest listed one, where it is at least `last` plus the interval
+-- the sequence at which a rotation is due
 abbrev pub due : State → Option ℕ
-due s = due_after s s.last
+due s = due_at s.listed s.last s.interval
 
 -- with a form under its hash; a form that is there is not written again
 abbrev pub with_form : Half → State → Bytes → State
@@ -94,10 +86,6 @@ with_wanted s t change = option_map_or (λ a. record s { wanted = set_in hash_cm
 -- the acquisition has ended
 abbrev pub ended : State → Hash → State
 ended s t = record s { wanted = remove_in hash_cmp s.wanted t }
-
-abbrev pub last_or : Option ℕ → ℕ → ℕ
-last_or None seq = seq
-last_or (Some last) seq = last
 
 -- the ledger is listed; `last`, where it was unset, is its sequence
 abbrev pub listed_with : State → Hash → ℕ → State

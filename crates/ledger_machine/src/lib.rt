@@ -7,8 +7,8 @@ mod replies;
 
 pub use commands::{Command, Line, Script};
 pub use journal::{Entry, Totals};
-pub use ledger_spec::{HeadOffered, Offered};
+pub use ledger_spec::{HeadOffered, Offered, Places};
 pub use replies::{
     BaseReply, BeginReply, CheckReply, CloseReply, DelReply, EditReply, GetReply, NodeReply,
-    PageReply, PeerReply, Places, Reply, SwapReply, TickReply, ViewReply, WantReply,
+    PageReply, PeerReply, Reply, SwapReply, TickReply, ViewReply, WantReply,
 };

@@ -1,42 +1,8 @@
 //! What is answered.
-ghost use Rattle.std.specs.Prelude.{◌≡◌};
-
 use half_hash::{Blob, Hash32};
-use ledger_spec::{HeadOffered, Offered};
+use ledger_spec::{HeadOffered, Offered, Places};
 use shamap_node::{Node, Place};
-use std::marker::Model;
 use std::sync::Arc;
-
-/// Places in order. Contracts see the list of them.
-#[derive(Drop)]
-pub struct Places {
-    places: Vec<Place>,
-}
-
-impl Model for Places {
-    ghost use Rattle.std.specs.Prelude.{List};
-    ghost use Rattle.ledger_spec.specs.declared.Place.{Place};
-
-    ghost Value = { List Place };
-
-    ghost view = { λ a. a.places.items };
-}
-
-impl Places {
-    /// These places.
-    pub fn new(places: Vec<Place>) -> Places
-        ensures { result ≡ places.items }
-    {
-        Places { places }
-    }
-
-    /// The places.
-    pub fn as_slice(&self) -> &[Place]
-        ensures { result.now ≡ self.now }
-    {
-        &self.places
-    }
-}
 
 /// The answers to `want`.
 #[derive(Drop)]

@@ -7,7 +7,8 @@ ghost use Rattle.ledger_spec.specs.Maps.{has_in};
 ghost use Rattle.ledger_machine.specs.State.{fresh};
 ghost use Rattle.ledger_machine.specs.Peer.{with_peer};
 ghost use Rattle.ledger_machine.specs.Base.{is_present as stands_present};
-ghost use Rattle.ledger_machine.specs.Check.{missing_reply, after_ask, same_place, most_asked, unasked as not_asked};
+ghost use Rattle.ledger_machine.specs.Check.{missing_reply, after_ask};
+ghost use Rattle.ledger_spec.specs.Peers.{same_place, most_asked, unasked as not_asked};
 
 use half_hash::Memory;
 use ledger_machine::{CheckReply, Places};

@@ -1,5 +1,5 @@
 use Rattle.std.proofs.Common.{◌≡◌, take}
-use Rattle.ledger_machine.specs.Check.{most_asked, unasked as not_asked}
+use Rattle.ledger_spec.specs.Peers.{most_asked, unasked as not_asked}
 use Rattle.store_core.proofs.acquire.unasked.Given as goal
 
 abbrev pub invariant-loop-place : goal.invariant-loop-place
