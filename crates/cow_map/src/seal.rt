@@ -89,7 +89,7 @@ fn inner_form<H: NodeHash>(
 fn leaf_form(alloc: Global, kind: Kind, item: &Item) -> Result<Blob, Memory>
     ensures { IfOk result (λ form. form ≡ form_of_leaf kind item.now.key item.now.value) }
 {
-    let mut bytes = Vec::from_slice(alloc, &prefix_for(kind).bytes())?;
+    let mut bytes = Vec::from_slice(alloc, &kind.prefix().bytes())?;
     bytes.extend_from_slice(item.data())?;
     match kind {
         Kind::Set => Ok(Blob::new(bytes)),
@@ -97,17 +97,6 @@ fn leaf_form(alloc: Global, kind: Kind, item: &Item) -> Result<Blob, Memory>
             bytes.extend_from_slice(&item.key().bytes)?;
             Ok(Blob::new(bytes))
         }
-    }
-}
-
-// The prefix of a leaf of this kind.
-fn prefix_for(kind: Kind) -> Prefix
-    ensures { prefix_of result ≡ leaf_prefix kind }
-{
-    match kind {
-        Kind::State => Prefix::Mln,
-        Kind::Tx => Prefix::Snd,
-        Kind::Set => Prefix::Txn,
     }
 }
 

@@ -45,6 +45,16 @@ impl Hash32 {
         Hash32 { bytes: [0; 32] }
     }
 
+    /// The hash of 32 bytes.
+    pub fn from_slice(piece: &[u8]) -> Hash32
+        requires { length piece.now ≡ 32 }
+        ensures { result ≡ piece.now }
+    {
+        let mut bytes = [0; 32];
+        bytes.copy_from_slice(piece);
+        Hash32 { bytes }
+    }
+
     /// Whether all bytes are zero.
     pub fn is_zero(&self) -> bool
         ensures { result ≡ all_zero self.now }

@@ -37,7 +37,5 @@ pub(crate) fn hash_at(bytes: &[u8], at: usize) -> Hash32
     requires { at + 32 ≤ length bytes.now }
     ensures { result ≡ take 32 (drop at bytes.now) }
 {
-    let mut hash = [0; 32];
-    hash.copy_from_slice(part(bytes, at, 32));
-    Hash32 { bytes: hash }
+    Hash32::from_slice(part(bytes, at, 32))
 }

@@ -1,7 +1,8 @@
 //! What a set of peers answers.
-ghost use Rattle.std.specs.Prelude.{◌≡◌};
+ghost use Rattle.std.specs.Prelude.{◌≡◌, ◌≢◌, ◌++◌, ◌∷◌, [], length, MatchBool, OnOk, OnErr};
 
 use crate::Place;
+use half_hash::Memory;
 use std::marker::Model;
 
 /// Places in order. Contracts see the list of them.
@@ -25,6 +26,29 @@ impl Places {
         ensures { result ≡ places.items }
     {
         Places { places }
+    }
+
+    /// How many places there are.
+    pub fn len(&self) -> usize
+        ensures { result ≡ length self.now }
+    {
+        self.places.len()
+    }
+
+    /// Whether there is none.
+    pub fn is_empty(&self) -> bool
+        ensures { MatchBool result (self.now ≡ []) (self.now ≢ []) }
+    {
+        self.places.is_empty()
+    }
+
+    /// Adds a place behind the others; where memory is wanted there is none more.
+    pub fn push(&mut self, place: Place) -> Result<(), Memory>
+        ensures ok { OnOk result (self.new ≡ self.old ++ place ∷ []) }
+        ensures err { OnErr result (self.new ≡ self.old) }
+    {
+        self.places.push(place)?;
+        Ok(())
     }
 
     /// The places.

@@ -110,7 +110,7 @@ up_to_most zero (x ∷ xs) = omega arith
 up_to_most (suc room) (lacks place ∷ xs) = omega (arith, up_to_most room xs)
 up_to_most (suc room) (breaks place fault ∷ xs) = omega arith
 
-pub seen_most : (xs : List Finding) (f : Found) → IsSeen (up_to 256 xs) f → length f.missing.items ≤ 256
+pub seen_most : (xs : List Finding) (f : Found) → IsSeen (up_to 256 xs) f → length f.missing ≤ 256
 seen_most xs f h = rw h.missing (up_to_most 256 xs)
 
 pub some_missing : (xs : List Finding) (s : Seen) → s ≡ nothing_seen → HasMissing (sees s xs) → filter_map missing_of (up_to 256 xs) ≢ []

@@ -21,7 +21,7 @@ pub record Seen : Type 0 where
   pub broken : Option (Place × ShapeFault)
 
 abbrev pub shown : Found → Seen
-shown f = record { missing = f.missing.items; broken = f.broken }
+shown f = record { missing = f.missing; broken = f.broken }
 
 abbrev pub nothing_seen : Seen
 nothing_seen = record { missing = []; broken = None }
@@ -70,7 +70,7 @@ found_in half nodes kind left hashes path n =
 
 -- the result shows the missing places and the broken one of these findings
 pub record IsSeen (found : List Finding) (f : Found) : Type 0 where
-  pub missing : f.missing.items ≡ filter_map missing_of found
+  pub missing : f.missing ≡ filter_map missing_of found
   pub broken : f.broken ≡ first_broken found
 
 -- a leaf as one with no data; no rule of shape looks at the data

@@ -11,16 +11,17 @@ ghost use Rattle.std.specs.List.{filter_map};
 ghost use Rattle.std.specs.FinMap as map;
 ghost use Rattle.ledger_spec.specs.Findings.{seen, findings, lacks, breaks};
 ghost use Rattle.ledger_spec.specs.Findings.{missing_of};
+ghost use Rattle.ledger_spec.specs.Header.{header_bytes};
+ghost use Rattle.ledger_header.specs.Fields.{fields, Reads};
 ghost use Rattle.missing_walk.specs.Sees.{IsSeen, shown, nothing_seen, is_over as has_ended, noted, Notes, found_in_maps};
 
 mod descent;
-mod header;
 mod sight;
 
 use descent::walk;
 use half_hash::{Hash32, Memory, NodeHash};
-use header::{hash_at, header_bytes};
-use ledger_spec::{Kind, Place, ShapeFault};
+use ledger_header::Header;
+use ledger_spec::{Kind, Place, Places, ShapeFault};
 use nib_path::NodeId;
 use node_table::NodeTable;
 use std::alloc::Global;
@@ -34,7 +35,7 @@ pub struct Found {
     /// The place that ended the search, with the first rule that it breaks.
     pub broken: Option<(Place, ShapeFault)>,
     /// The places whose hash isn't stored, at most 256, in the order of the walk.
-    pub missing: Vec<Place>,
+    pub missing: Places,
 }
 
 impl Found {
@@ -44,7 +45,7 @@ impl Found {
     {
         Found {
             broken: None,
-            missing: Vec::new(alloc),
+            missing: Places::new(Vec::new(alloc)),
         }
     }
 
@@ -80,7 +81,7 @@ pub fn whole<H: NodeHash>(
     target: &Hash32,
 ) -> Result<Found, Memory>
     ensures found { IfOk result (λ f. IsSeen (seen H.half (map.get nodes.now) target.now) f) }
-    ensures size { IfOk result (λ f. length f.missing.items ≤ 256) }
+    ensures size { IfOk result (λ f. length f.missing ≤ 256) }
     // memory is refused only where a place is missing
     ensures memory { OnErr result (filter_map missing_of (seen H.half (map.get nodes.now) target.now) ≢ []) }
 {
@@ -102,8 +103,8 @@ fn walk_ledger<H: NodeHash>(
     let Some(form) = nodes.get(target) else {
         return Ok(found.add_missing(Place::Header)?);
     };
-    match header_bytes(form.bytes()) {
-        Some(header) => Ok(walk_maps::<H>(alloc, nodes, header, found)?),
+    match Header::from_form(form.bytes()) {
+        Some(header) => Ok(walk_maps::<H>(alloc, nodes, &header, found)?),
         None => {
             found.add_broken(Place::Header, ShapeFault::Foreign);
             Ok(())
@@ -115,17 +116,16 @@ fn walk_ledger<H: NodeHash>(
 fn walk_maps<H: NodeHash>(
     alloc: Global,
     nodes: &NodeTable,
-    header: &[u8],
+    header: &Header,
     found: &mut Found,
 ) -> Result<(), Memory>
-    requires { length header.now ≡ 118 }
-    ensures { Notes result (shown found.old) (shown found.new) (found_in_maps H.half (map.get nodes.now) header.now) }
+    requires { Reads (header_bytes (fields header.now)) header.now }
+    ensures { Notes result (shown found.old) (shown found.new)
+        (found_in_maps H.half (map.get nodes.now) (header_bytes (fields header.now))) }
 {
     let root = NodeId::root();
-    let state = hash_at(header, 76);
-    let tx = hash_at(header, 44);
-    walk::<H>(alloc, nodes, Kind::State, None, &root, &state, found)?;
-    walk::<H>(alloc, nodes, Kind::Tx, None, &root, &tx, found)?;
+    walk::<H>(alloc, nodes, Kind::State, None, &root, &header.state_root, found)?;
+    walk::<H>(alloc, nodes, Kind::Tx, None, &root, &header.tx_root, found)?;
     Ok(())
 }
 
@@ -232,7 +232,7 @@ mod tests {
             ),
         ] {
             let found = found_in(alloc, &forms)?;
-            let first = found.missing.first().map(|place| spot(place));
+            let first = found.missing.as_slice().first().map(|place| spot(place));
             assert_eq!(rt; first, missing, "missing: {name}");
             assert!(rt; found.missing.len() <= 1, "one: {name}");
             let fault = found
@@ -251,7 +251,7 @@ mod tests {
         let below = inner(0, 16, 1);
         let found = found_in(alloc, &[(0xDD, &head), (0x24, &root), (0xF4, &below)])?;
         assert_eq!(rt; found.missing.len(), 256);
-        let last = found.missing.last().and_then(|place| spot(place));
+        let last = found.missing.as_slice().last().and_then(|place| spot(place));
         assert_eq!(rt; last, Some((Kind::State, 2, 0xFF)));
         Ok(())
     }

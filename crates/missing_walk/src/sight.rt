@@ -12,8 +12,8 @@ ghost use Rattle.ledger_spec.specs.Findings.{seen_as, judged, held_of, sight_of,
 ghost use Rattle.shamap_node.specs.Nodes.{held, held_leaf, hashes_above};
 ghost use Rattle.missing_walk.specs.Sees.{LooksAs, without_data};
 
-use crate::header::{hash_from, header_bytes};
 use half_hash::{Blob, Hash32, NodeHash, Prefix};
+use ledger_header::Header;
 use ledger_spec::{Kind, ShapeFault};
 use nib_path::NodeId;
 use node_table::NodeTable;
@@ -59,7 +59,7 @@ fn judge<H: NodeHash>(
     if let Some(inner) = inner_of(form) {
         return judge_node(&Node::Inner(inner), kind, parent, id);
     }
-    if header_bytes(form).is_some() {
+    if Header::from_form(form).is_some() {
         return Sight::Broken(ShapeFault::Foreign);
     }
     match leaf_in::<H>(alloc, form) {
@@ -109,7 +109,7 @@ fn keyed_leaf(alloc: Global, form: &[u8], kind: Kind) -> Option<Leaf>
         return None;
     }
     let (_front, key) = form.split_at(form.len() - 32);
-    leaf_with(alloc, kind, hash_from(key))
+    leaf_with(alloc, kind, Hash32::from_slice(key))
 }
 
 // The same of a bare transaction.
@@ -137,23 +137,12 @@ fn is_keyed(form: &[u8], kind: Kind) -> bool
     ensures { result
         ≡ (starts_with nat_eq form.now (leaf_prefix kind) && nat_le 36 (length form.now) && nat_le (length form.now) (36 + data_limit)) }
 {
-    form.starts_with(&prefix_for(kind).bytes()) && form.len() >= 36 && form.len() <= 36 + DATA_LIMIT
+    form.starts_with(&kind.prefix().bytes()) && form.len() >= 36 && form.len() <= 36 + DATA_LIMIT
 }
 
 // The same of a bare transaction.
 fn is_bare(form: &[u8]) -> bool
     ensures { result ≡ (starts_with nat_eq form.now (leaf_prefix kinds.Set) && nat_le (length form.now) (4 + data_limit)) }
 {
-    form.starts_with(&prefix_for(Kind::Set).bytes()) && form.len() <= 4 + DATA_LIMIT
-}
-
-// The prefix of a leaf of this kind.
-fn prefix_for(kind: Kind) -> Prefix
-    ensures { prefix_of result ≡ leaf_prefix kind }
-{
-    match kind {
-        Kind::State => Prefix::Mln,
-        Kind::Tx => Prefix::Snd,
-        Kind::Set => Prefix::Txn,
-    }
+    form.starts_with(&Kind::Set.prefix().bytes()) && form.len() <= 4 + DATA_LIMIT
 }

@@ -8,7 +8,6 @@ ghost use Rattle.node_wire.specs.Faults.{code, TellsFront, TellsChunk};
 ghost use Rattle.node_wire.specs.declared.fault.WireFault.TheVariants as faults;
 
 use crate::WireFault;
-use crate::reading::hash_from;
 use half_hash::Hash32;
 use shamap_node::{Inner, Node};
 
@@ -53,7 +52,7 @@ fn take_chunk(chunk: &[u8], hashes: &mut [Hash32; 16]) -> Result<(), WireFault>
     if !hashes[at].is_zero() {
         return Err(WireFault::Repeated(position));
     }
-    let hash = hash_from(&chunk[..32]);
+    let hash = Hash32::from_slice(&chunk[..32]);
     if hash.is_zero() {
         return Err(WireFault::ZeroChunk(position));
     }

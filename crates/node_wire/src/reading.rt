@@ -109,7 +109,7 @@ fn keyed_leaf(alloc: Global, kind: Kind, front: &[u8]) -> Result<Leaf, WireFault
         return Err(WireFault::LeafShort(front.len()));
     }
     let (data, key) = front.split_at(front.len() - 32);
-    Ok(leaf_from(alloc, kind, hash_from(key), data)?)
+    Ok(leaf_from(alloc, kind, Hash32::from_slice(key), data)?)
 }
 
 // The leaf of a key and data, or why they are none.
@@ -129,14 +129,4 @@ fn leaf_from(alloc: Global, kind: Kind, key: Hash32, bytes: &[u8]) -> Result<Lea
         Ok(item) => Ok(Leaf { kind, item }),
         Err(_) => unreachable!(),
     }
-}
-
-// The hash of 32 bytes.
-pub(crate) fn hash_from(piece: &[u8]) -> Hash32
-    requires { length piece.now ≡ 32 }
-    ensures { result ≡ piece.now }
-{
-    let mut bytes = [0; 32];
-    bytes.copy_from_slice(piece);
-    Hash32 { bytes }
 }

@@ -63,17 +63,6 @@ fn begins(bytes: &[u8], prefix: Prefix) -> bool
     bytes.starts_with(&prefix.bytes())
 }
 
-// The prefix of a leaf of this kind.
-fn prefix_for(kind: Kind) -> Prefix
-    ensures { prefix_of result ≡ leaf_prefix kind }
-{
-    match kind {
-        Kind::State => Prefix::Mln,
-        Kind::Tx => Prefix::Snd,
-        Kind::Set => Prefix::Txn,
-    }
-}
-
 // The key as it stands behind the data: none at a bare transaction.
 fn key_part(leaf: &Leaf) -> &[u8]
     ensures { leaf_form leaf.now.kind leaf.now.item.key leaf.now.item.value
@@ -117,7 +106,7 @@ pub fn encode_form(alloc: Global, node: &Node) -> Result<Blob, Memory>
         Node::Inner(inner) => joined(alloc, Prefix::Min, &body_of(inner), &[]),
         Node::Leaf(leaf) => joined(
             alloc,
-            prefix_for(leaf.kind),
+            leaf.kind.prefix(),
             leaf.item.data(),
             key_part(leaf),
         ),
@@ -131,21 +120,11 @@ pub fn hash_of<H: NodeHash>(node: &Node) -> Hash32
     match node {
         Node::Inner(inner) => H::half_parts(&Prefix::Min.bytes(), &body_of(inner), &[]),
         Node::Leaf(leaf) => H::half_parts(
-            &prefix_for(leaf.kind).bytes(),
+            &leaf.kind.prefix().bytes(),
             leaf.item.data(),
             key_part(leaf),
         ),
     }
-}
-
-// The hash of 32 bytes.
-fn hash_from(piece: &[u8]) -> Hash32
-    requires { length piece.now ≡ 32 }
-    ensures { result ≡ piece.now }
-{
-    let mut bytes = [0; 32];
-    bytes.copy_from_slice(piece);
-    Hash32 { bytes }
 }
 
 // The sixteen hashes that are joined here.
@@ -157,7 +136,7 @@ fn hashes_in(body: &[u8]) -> [Hash32; 16]
     let mut rest = body;
     for b in 0..16usize {
         let (front, back) = rest.split_at(32);
-        hashes[b] = hash_from(front);
+        hashes[b] = Hash32::from_slice(front);
         rest = back;
     }
     hashes
@@ -200,7 +179,7 @@ fn keyed_item(alloc: Global, form: &[u8]) -> Result<Item, FormFault>
     }
     let (front, key) = form.split_at(form.len() - 32);
     let (_prefix, data) = front.split_at(4);
-    Ok(item_from(alloc, hash_from(key), data)?)
+    Ok(item_from(alloc, Hash32::from_slice(key), data)?)
 }
 
 // The item of a bare transaction.

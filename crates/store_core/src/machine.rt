@@ -308,7 +308,7 @@ impl<H: NodeHash> Machine<H> {
             self.list(target)?;
             return Ok(CheckReply::Complete);
         }
-        Ok(self.ask(alloc, target, &missing)?)
+        Ok(self.ask(alloc, target, missing.as_slice())?)
     }
 
     /// Lists a ledger with the sequence of its header, and ends its acquisition.
