@@ -26,7 +26,8 @@ use Rattle.ledger_spec.specs.Maps.{hash_cmp}
 use Rattle.ledger_machine.specs.declared.commands.Command.TheVariants as command
 use Rattle.ledger_laws.proofs.RunLaws.{run_more}
 use Rattle.ledger_machine.specs.Runs.{IsDone, is_answered, next_line}
-use Rattle.store_core.specs.Journal.{CoreKeeps, IsNext, Rose, RoseBy, faults_in, fault_count}
+use Rattle.run_io.specs.Bytes.{Rose}
+use Rattle.store_core.specs.Journal.{CoreKeeps, IsNext, RoseBy, faults_in, fault_count}
 use Rattle.store_core.proofs.Finding.{rising, line_there}
 use Rattle.store_core.proofs.Waiting.{read_at, next_left, next_at, answered_any, any_answered, number_at, number_in, same_place, waits_more}
 use Rattle.ledger_machine.specs.declared.commands.Line.{Line}

@@ -36,14 +36,14 @@ returns-then-is_empty-clause-reply g c =
 pub returns-clause-reply : goal.returns-clause-reply
 returns-clause-reply g c =
     let at : get_in hash_cmp c.args.self.now.wanted c.args.target.now ≡ Some c.in-Some.acquire.now = rw (← c.self.view_is) (sym c.in-Some.ensures.value) in
-    let same : c.deref.result.now ≡ c.in_ok-broken.field-0.missing = search (rules, common_steps) in
+    let same : c.as_slice.result.now ≡ c.in_ok-broken.field-0.missing = search (rules, common_steps) in
     sym ((check_found g.H.NodeHash.half c.args.self.now c.args.target.now c.in-Some.acquire.now c.seq.result (option_copied c.get-2.result) c.head_fault.result
     (rw (← c.self.view_is) (sym c.in-Some.ensures.value)) c.seq.ensures (rw (← c.self.view_is) c.get-2.ensures) (rw (← c.self.view_is) c.head_fault.ensures.verdict) c.in_default-head_fault.is
     c.in_ok-broken.field-0.missing c.in_ok-broken.field-0.broken (rw (← c.self.view_is) c.in_ok-broken.ensures.found.missing) (rw (← c.self.view_is) c.in_ok-broken.ensures.found.broken))
     ∙ ap (found_reply c.in-Some.acquire.now c.in_ok-broken.field-0.missing) c.in_default-broken.is ∙ ap (missing_reply c.in-Some.acquire.now) (sym same)
-    ∙ sym (c.in_ok-ask.ensures.reply ∙ ap (λ (o : Option Acquisition). asked_reply o c.deref.result.now) at))
+    ∙ sym (c.in_ok-ask.ensures.reply ∙ ap (λ (o : Option Acquisition). asked_reply o c.as_slice.result.now) at))
 
 pub returns-clause-after : goal.returns-clause-after
 returns-clause-after g c =
-    let some : c.deref.result.now ≢ [] = search (rules, common_steps) in
-    c.in_ok-ask.ensures.after ∙ asked_after c.args.self.now c.args.target.now c.in-Some.acquire.now _ c.deref.result.now c.in_ok-ask.field-0 (rw (← c.self.view_is) (sym c.in-Some.ensures.value)) some c.in_ok-ask.ensures.reply
+    let some : c.as_slice.result.now ≢ [] = search (rules, common_steps) in
+    c.in_ok-ask.ensures.after ∙ asked_after c.args.self.now c.args.target.now c.in-Some.acquire.now _ c.as_slice.result.now c.in_ok-ask.field-0 (rw (← c.self.view_is) (sym c.in-Some.ensures.value)) some c.in_ok-ask.ensures.reply
