@@ -271,11 +271,11 @@ const KINDS: &str = "0 want [DD] 10
 0 base 5 [DD] @ #
 0 node 5 [DD] state [10]01 0302[10]04
 0 check [DD]
-0 want [DE] 10
-0 peer 5 [DE]
-0 base 5 [DE] 0000000A0000000000000000__[DF]00000000000000000000 [FB]0103
-0 node 5 [DE] state [10]01 0100
-0 check [DE]
+0 want [E1] 13
+0 peer 5 [E1]
+0 base 5 [E1] 0000000D0000000000000000__[DF]00000000000000000000 [FB]0103
+0 node 5 [E1] state [10]01 0100
+0 check [E1]
 ";
 
 const KINDS_SAYS: &str = "1 0 want opened
