@@ -1,0 +1,4 @@
+pub mod Keys
+pub mod Finding
+pub mod Unasked
+pub mod Charging
