@@ -1,5 +1,6 @@
 -- Who stays present through a charge.
-use Rattle.std.proofs.Common.{◌≡◌, ◌≢◌, ◌∙◌, ◌+◌, ◌<◌, ◌==◌, ◌&&◌, ℕ, List, Bool, true, false, not, cond, nat_lt, Option, Some, None, refl, sym, ap, subst, arith}
+use Rattle.std.proofs.Common.{◌≡◌, ◌≢◌, ◌∙◌, ◌+◌, ◌<◌, ◌==◌, ◌&&◌, ℕ, List, Bool, true, false, not, cond, nat_lt, Option, Some}
+use Rattle.std.proofs.Common.{None, refl, sym, ap, subst, arith}
 use Rattle.std.specs.List.{list_any}
 use Rattle.std.specs.Option.{option_map_or, unwrap_or, IsSome}
 use Rattle.std.specs.Ordering.{nat_cmp, eq_by_cmp}
@@ -41,8 +42,8 @@ module _ (turn : List ℕ) (charges : ForPeer ℕ) (p count : ℕ)
   -- the charges after one more
   after : (q : ℕ) → get_in nat_cmp (set_in nat_cmp charges p count) q ≡ cond (is_at (nat_cmp p) q) (Some count) (get_in nat_cmp charges q)
   after q =
-      lookup-set_value (eq_by_cmp_equiv nat_cmp_total) (is_at (nat_cmp p)) (λ x y e. (eq_by_cmp_equiv nat_cmp_total).congr p x y e) q count charges
-      some_of
+      lookup-set_value (eq_by_cmp_equiv nat_cmp_total) (is_at (nat_cmp p)) (λ x y e. (eq_by_cmp_equiv nat_cmp_total).congr p x y e)
+      q count charges some_of
 
   without_is : (q : ℕ) → list_any (λ r. r == q) (without p turn) ≡ (not (q == p) && list_any (λ r. r == q) turn)
   without_is q =

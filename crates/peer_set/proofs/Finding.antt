@@ -1,14 +1,15 @@
 -- What an index finds through a change.
-use Rattle.std.proofs.Common.{◌≡◌, ◌∙◌, ◌<◌, ◌≤◌, ◌+◌, ◌-◌, ◌&&◌, ◌⊎◌, ℕ, List, [], ◌∷◌, ◌++◌, length, take, drop, get_or, Bool, true, false, cond, nat_lt, Option, Some, None, refl, sym, ap, subst, inl, inr, arith}
+use Rattle.std.proofs.Common.{◌≡◌, ◌∙◌, ◌<◌, ◌≤◌, ◌+◌, ◌-◌, ◌&&◌, ℕ, List, [], ◌∷◌, ◌++◌, length, take, drop, get_or, Bool}
+use Rattle.std.proofs.Common.{true, false, cond, nat_lt, Option, Some, None, refl, sym, ap, subst, inl, inr, arith}
 use Rattle.std.specs.List.{All, Contains, list_any}
-use Rattle.std.specs.Map.{lookup}
 use Rattle.std.specs.BTreeMap.{is_at}
 use Rattle.std.specs.Cmp.{eq_by_cmp_equiv}
 use Rattle.std.specs.Cmp.Lexicographic.{nat_list_cmp_total}
 use Rattle.std.specs.Ordering.{eq_by_cmp}
 use Rattle.std.proofs.lemmas.Bool.{and_parts, and_from, ltb-true, ltb-false, lt-ltb, le-ltb, cases_Bool}
 use Rattle.std.proofs.lemmas.Bool.Decides.{same_from_decides}
-use Rattle.std.proofs.lemmas.List.{take_more, take-take, take-append-drop, length-append, get_or_append_left, get_or-append_right, get_or_read}
+use Rattle.std.proofs.lemmas.List.{take_more, take-take, take-append-drop, length-append, get_or_append_left}
+use Rattle.std.proofs.lemmas.List.{get_or-append_right, get_or_read}
 use Rattle.std.proofs.lemmas.List.Elements.{All-push, All-take, All-contains, Contains-append_left, Contains-push_cases}
 use Rattle.std.proofs.lemmas.Map.Lookups.{exact_bytes}
 use Rattle.std.proofs.lemmas.Map.Views.{tells_apart, Contains-from_any, list_any-from_Contains}
@@ -102,9 +103,11 @@ behind all more p new is (Some i) e =
           stands all p i front (sym (get_or_append_left all more p i front) ∙ at)
       | inr outside ↦
           let past : length all ≤ i = ltb-false i (length all) outside in
-          let among_new : Contains more p = (i - length all, omega (arith, lt, length-append all more), sym (get_or-append_right all more (length all) i p refl past) ∙ at) in
+          let among_new : Contains more p =
+          (i - length all, omega (arith, lt, length-append all more), sym (get_or-append_right all more (length all) i p refl past) ∙ at) in
           let old : list_any (same_place p) all ≡ true = list_any-from_Contains places_equiv p all is in
-          let unasked : list_any (same_place p) all ≡ false = All-contains (λ q. list_any (same_place q) all ≡ false) more p new among_new in
+          let unasked : list_any (same_place p) all ≡ false =
+          All-contains (λ q. list_any (same_place q) all ≡ false) more p new among_new in
           absurd (cc)
     ]
 
@@ -139,8 +142,8 @@ one_more index new all i p lt is place sets finds =
         | inl before ↦
             let held = finds.found q before in
             subst (λ (o : Option ℕ). stands_at all q o ≡ true) (sym (sets (key_of q)))
-            (after_set all i p q (get_in hash_cmp index (key_of q)) lt (sym is) place (All-contains IsPlace (take i all) q finds.places before) held
-            (equal (key_of p) (key_of q)) refl)
+            (after_set all i p q (get_in hash_cmp index (key_of q)) lt (sym is) place
+            (All-contains IsPlace (take i all) q finds.places before) held (equal (key_of p) (key_of q)) refl)
         | inr same ↦
             let here : get_in hash_cmp new (key_of p) ≡ Some i =
             sets (key_of p) ∙ ap (λ (b : Bool). cond b (Some i) (get_in hash_cmp index (key_of p)))

@@ -1,5 +1,5 @@
 -- Places as bytes.
-use Rattle.std.specs.Prelude.{ℕ, List, [], ◌∷◌, ◌++◌, replicate}
+use Rattle.std.specs.Prelude.{ℕ, [], ◌∷◌, ◌++◌, replicate}
 use Rattle.nib_path.specs.Paths.{IsPath, wire_of}
 use Rattle.ledger_spec.specs.declared.Kind.{Kind}
 use Rattle.ledger_spec.specs.declared.Kind.TheVariants.{State, Tx, Set}

@@ -95,8 +95,8 @@ impl PeerSet {
         }
     }
 
-    /// Says whom to ask for missing places: the first peer, for the first at most 128 of them that weren't asked since the last tick. That
-    /// peer moves to the end. Where memory is refused nothing changes.
+    /// Says whom to ask for missing places: the first peer, for the first at most 128 of them that weren't asked since the last
+    /// tick. That peer moves to the end. Where memory is refused nothing changes.
     pub fn ask(&mut self, alloc: Global, missing: &[Place]) -> Result<Ask, Memory>
         ensures answer { IfOk result (λ a. a ≡ ask_for self.old missing.now) }
         ensures after { IfOk result (λ a. self.new ≡ after_asking self.old a) }
@@ -152,7 +152,7 @@ fn one_more(charges: &mut BTreeMap<u16, u8>, peer: u16) -> u8
             *count += 1;
             *count
         }
-        None => 0,
+        None => unreachable!(),
     }
 }
 

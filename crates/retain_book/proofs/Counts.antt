@@ -1,5 +1,6 @@
 -- What a book keeps of its sequences and pins through a change.
-use Rattle.std.proofs.Common.{◌≡◌, ◌≢◌, ◌<◌, ◌≤◌, ◌-◌, ◌+◌, ◌∙◌, ℕ, List, Bool, true, false, nat_le, nat_eq, Option, Some, None, IsTrue, refl, sym, ap, arith, leb-true}
+use Rattle.std.proofs.Common.{◌≡◌, ◌≢◌, ◌<◌, ◌≤◌, ◌-◌, ℕ, List, Bool, true, false, nat_le, nat_eq, Option, Some, None, IsTrue}
+use Rattle.std.proofs.Common.{refl, arith, leb-true}
 use Rattle.std.proofs.lemmas.Bool.{eqb-false}
 use Rattle.std.specs.List.{All, filter}
 use Rattle.std.specs.Map.{values_of}
@@ -18,12 +19,15 @@ listed_from_high floor es =
     All-map (λ seq. floor ≤ seq) (λ (e : List ℕ × ℕ). e.1) (filter p es)
     (All-weaker (λ e. p e ≡ true) (λ e. floor ≤ e.1) (λ e t. leb-true floor e.1 t) (filter p es) (filter_passes p es))
 
+some_pins : (o : Option ℕ) → IsTrue (is_some o) → IfSome o (λ n. 0 < n) → 0 < unwrap_or o 0
+some_pins None none lt = absurd (cc)
+some_pins (Some n) some lt = lt
+
 -- a pinned ledger is pinned at least once
-pub pinned_once : (pins : ForHash ℕ) (h : Hash) → All (λ n. 0 < n) (values_of pins) → IsTrue (has_in hash_cmp pins h) → 0 < pin_count pins h
+pinned_once : (pins : ForHash ℕ) (h : Hash) → All (λ n. 0 < n) (values_of pins) → IsTrue (has_in hash_cmp pins h)
+    → 0 < pin_count pins h
 pinned_once pins h all pinned =
-    let counted : (o : Option ℕ) → IsTrue (is_some o) → IfSome o (λ n. 0 < n) → 0 < unwrap_or o 0 = λ o.
-    elim o as (λ o. IsTrue (is_some o) → IfSome o (λ n. 0 < n) → 0 < unwrap_or o 0) [ None ↦ λ no _. absurd (cc (no)) | Some n ↦ λ _ lt. lt ] in
-    counted (get_in hash_cmp pins h) pinned (IfSome-lookup_from_All (λ n. 0 < n) (is_at (hash_cmp h)) pins all)
+    some_pins (get_in hash_cmp pins h) pinned (IfSome-lookup_from_All (λ n. 0 < n) (is_at (hash_cmp h)) pins all)
 
 less_by : (pins : ForHash ℕ) (h : Hash) → All (λ n. 0 < n) (values_of pins) → (n : ℕ) → 0 < n → (b : Bool) → nat_eq n 1 ≡ b
     → All (λ n. 0 < n) (values_of (with_pin_less pins h n))

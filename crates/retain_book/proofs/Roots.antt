@@ -1,14 +1,13 @@
 -- The roots from a floor on: the pinned ledgers, then the listed ones that aren't pinned.
-use Rattle.std.proofs.Common.{◌≡◌, ◌<◌, ◌≤◌, ◌∙◌, ◌⊎◌, ℕ, List, [], ◌∷◌, ◌++◌, Bool, true, false, not, cond, nat_le, Option, Some, None, IsTrue, refl, sym, ap, subst, inl, inr, leb-true}
-use Rattle.std.specs.Prelude.{◌||◌, ◌↔◌, IsSome, IsSomeAnd}
+use Rattle.std.proofs.Common.{◌≡◌, ◌≤◌, ◌∙◌, ◌⊎◌, ℕ, List, [], ◌∷◌, ◌++◌, Bool, true, false, not, cond, nat_le, Option, Some}
+use Rattle.std.proofs.Common.{None, IsTrue, refl, sym, ap, subst, inl, inr, leb-true}
+use Rattle.std.specs.Prelude.{IsSome, IsSomeAnd}
 use Rattle.std.specs.List.{Contains, IsDistinct, AllByRecursion, All, filter, list_any}
 use Rattle.std.specs.List.Sorted.{IsStrictlySortedBy}
 use Rattle.std.specs.Map.{keys_of, lookup}
-use Rattle.std.specs.Option.{is_some}
 use Rattle.std.specs.Cmp.{eq_by_cmp_equiv}
 use Rattle.std.specs.Cmp.Lexicographic.{nat_list_cmp_total}
 use Rattle.std.specs.Ordering.{eq_by_cmp}
-use Rattle.std.specs.BTreeMap.{is_at}
 use Rattle.std.proofs.lemmas.Bool.{or_parts, le-leb}
 use Rattle.std.proofs.lemmas.Bool.Decides.{same_from_decides}
 use Rattle.std.proofs.lemmas.Slice.Eq.{bytes_eq-Decides}
@@ -20,7 +19,7 @@ use Rattle.std.proofs.lemmas.Map.Made.{IsDistinct-keys_filter}
 use Rattle.std.proofs.lemmas.Map.Views.{tells_apart, All-keys_from_lookup, Contains-keys_from_lookup, IsSome-lookup_from_Contains}
 use Rattle.ledger_spec.specs.Maps.{ForHash, hash_cmp, get_in, has_in}
 use Rattle.ledger_spec.specs.Bytes.{Hash, same_bytes}
-use Rattle.ledger_spec.specs.Retaining.{Retention, listed_from, IsRootFrom, AreRootsFrom}
+use Rattle.ledger_spec.specs.Retaining.{Retention, listed_from, AreRootsFrom}
 
 -- the entries whose key isn't pinned
 abbrev pub unpinned : ForHash ℕ → ForHash ℕ → ForHash ℕ
@@ -56,8 +55,8 @@ distinct_append (x ∷ xs) ys a b c =
     (all_append (λ y. equal x y ≡ false) xs ys (IsDistinct-head equal x xs a) (none_equal x ys (All-head P x xs c)))
     (distinct_append xs ys (IsDistinct-tail equal x xs a) b (All-tail P x xs c))
 
-other_key : (pins : ForHash ℕ) (x k : Hash) → has_in hash_cmp pins x ≡ true → has_in hash_cmp pins k ≡ false → (b : Bool) → equal x k ≡ b
-    → equal x k ≡ false
+other_key : (pins : ForHash ℕ) (x k : Hash) → has_in hash_cmp pins x ≡ true → has_in hash_cmp pins k ≡ false
+    → (b : Bool) → equal x k ≡ b → equal x k ≡ false
 other_key pins x k held none true is = absurd (let e = ap (has_in hash_cmp pins) (exact x k is) in cc)
 other_key pins x k held none false is = is
 
@@ -79,8 +78,8 @@ distinct ks is = subst (λ (f : Hash → Hash → Bool). IsDistinct f ks) (λ i 
 abbrev pub roots_of : ForHash ℕ → ForHash ℕ → ℕ → List Hash
 roots_of pins listed floor = keys_of pins ++ keys_of (unpinned pins (listed_from floor listed))
 
-each_once : (pins listed : ForHash ℕ) (floor : ℕ) → IsStrictlySortedBy hash_cmp (keys_of pins) → IsStrictlySortedBy hash_cmp (keys_of listed)
-    → IsDistinct same_bytes (roots_of pins listed floor)
+each_once : (pins listed : ForHash ℕ) (floor : ℕ) → IsStrictlySortedBy hash_cmp (keys_of pins)
+    → IsStrictlySortedBy hash_cmp (keys_of listed) → IsDistinct same_bytes (roots_of pins listed floor)
 each_once pins listed floor a b =
     let from = listed_from floor listed in
     let few : IsDistinct equal (keys_of from) =
@@ -99,7 +98,8 @@ found pins listed floor h sorted =
     lookup-filter-keys (equal h) (λ k. not (has_in hash_cmp pins k)) (not (has_in hash_cmp pins h))
     (λ k same. ap (λ (x : Hash). not (has_in hash_cmp pins x)) (sym (exact h k same))) (listed_from floor listed)
     ∙ ap (λ (o : Option ℕ). cond (not (has_in hash_cmp pins h)) o None)
-    (lookup-filter-values (eq_by_cmp_equiv nat_list_cmp_total) (nat_le floor) h listed (IsDistinct-from_sorted hash_cmp (keys_of listed) sorted))
+    (lookup-filter-values (eq_by_cmp_equiv nat_list_cmp_total) (nat_le floor) h listed
+    (IsDistinct-from_sorted hash_cmp (keys_of listed) sorted))
 
 high_by : (floor seq : ℕ) (b : Bool) → nat_le floor seq ≡ b → IsSome (cond b (Some seq) None) → floor ≤ seq
 high_by floor seq true is some = leb-true floor seq is

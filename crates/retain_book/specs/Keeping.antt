@@ -1,5 +1,5 @@
 -- What a book keeps.
-use Rattle.std.specs.Prelude.{ℕ, ◌<◌, ◌≤◌}
+use Rattle.std.specs.Prelude.{◌<◌, ◌≤◌}
 use Rattle.std.specs.List.{All}
 use Rattle.std.specs.Map.{values_of}
 use Rattle.ledger_spec.specs.Retaining.{Retention}

@@ -1,9 +1,10 @@
-//! Which ledgers are retained, and when a rotation is due. A ledger is retained where it is listed, for its sequence, or pinned; a rotation
-//! sets the floor behind the last one, and lower ledgers are listed no more.
+//! Which ledgers are retained, and when a rotation is due. A ledger is retained where it is listed, with its sequence, or pinned; a
+//! rotation sets the floor behind the last one, and lower ledgers are listed no more.
 #![tactic(auto)]
 
 ghost use Rattle.std.specs.Prelude.{◌≡◌, ◌+◌, ◌-◌, ◌^◌, ◌<◌, ◌≤◌, OnOk, OnErr, IfOk, IsTrue, IsSome, IsNone, length};
-ghost use Rattle.ledger_spec.specs.Retaining.{none_retained, after_listing, is_listed as stands_listed, is_pinned, is_retained as stands_retained};
+ghost use Rattle.ledger_spec.specs.Retaining.{none_retained, after_listing, is_listed as stands_listed, is_pinned};
+ghost use Rattle.ledger_spec.specs.Retaining.{is_retained as stands_retained};
 ghost use Rattle.ledger_spec.specs.Retaining.{pins_of, after_pinning, after_unpinning, greatest as greatest_of, due as due_in};
 ghost use Rattle.ledger_spec.specs.Retaining.{after_begin, after_finish, listed_from, AreRootsFrom};
 ghost use Rattle.ledger_spec.specs.Retaining.{pin_count, with_pin_less};

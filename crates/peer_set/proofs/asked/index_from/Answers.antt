@@ -1,4 +1,4 @@
-use Rattle.std.proofs.Common.{◌≡◌, ◌∙◌, ◌≤◌, Bool, cond, Some, sym, ap, arith}
+use Rattle.std.proofs.Common.{◌≡◌, ◌∙◌, ◌≤◌, cond, Some, ap, arith}
 use Rattle.std.specs.BTreeMap.{is_at}
 use Rattle.std.proofs.lemmas.Result.{err_from_is_err_and}
 use Rattle.ledger_spec.specs.Maps.{hash_cmp, get_in}
@@ -21,4 +21,5 @@ loop-at-preserved c =
     ≡ cond (is_at (hash_cmp (key_of p)) q) (Some c.loop-at.at) (get_in hash_cmp c.loop-at.index.entries q) =
     λ q. c.in_ok-insert.ensures.updates.0 q
     ∙ ap (λ (k : Bytes). cond (is_at (hash_cmp k) q) (Some c.loop-at.at) (get_in hash_cmp c.loop-at.index.entries q)) c.of.ensures.key in
-    one_more c.loop-at.index.entries c.insert.new.self.entries c.args.places.now c.loop-at.at p (omega arith) c.index-places-at.is c.of.ensures.place sets c.loop-at.invariant
+    one_more c.loop-at.index.entries c.insert.new.self.entries c.args.places.now c.loop-at.at p (omega arith)
+    c.index-places-at.is c.of.ensures.place sets c.loop-at.invariant

@@ -17,7 +17,8 @@ invariant_of-self-2 c =
     let one_more : 0 < c.unwrap_or-count.result + 1 = omega arith in
     record {
       high = c.self.invariant.high;
-      pinned = rw c.in_ok-insert.ensures.entries (All-values-insert_entry hash_cmp c.args.h.now (c.unwrap_or-count.result + 1) (λ n. 0 < n)
-          c.self.inside.pins.entries c.self.invariant.pinned one_more);
+      pinned = rw c.in_ok-insert.ensures.entries
+          (All-values-insert_entry hash_cmp c.args.h.now (c.unwrap_or-count.result + 1) (λ n. 0 < n) c.self.inside.pins.entries
+          c.self.invariant.pinned one_more);
       apart = c.self.invariant.apart;
     }

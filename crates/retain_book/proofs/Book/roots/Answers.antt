@@ -1,4 +1,4 @@
-use Rattle.std.proofs.Common.{◌≡◌, ◌∙◌, ℕ, List, [], ◌++◌, sym, ap}
+use Rattle.std.proofs.Common.{◌≡◌, ◌∙◌, ℕ, List, ◌++◌, sym, ap}
 use Rattle.std.proofs.lemmas.List.{append-nil}
 use Rattle.std.specs.Map.{keys_of}
 use Rattle.ledger_spec.specs.Maps.{ForHash}

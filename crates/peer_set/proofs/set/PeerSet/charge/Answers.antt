@@ -1,4 +1,4 @@
-use Rattle.std.proofs.Common.{◌≡◌, ◌≢◌, ◌==◌, true}
+use Rattle.std.proofs.Common.{◌≡◌, ◌==◌, true}
 use Rattle.std.specs.List.{list_any}
 use Rattle.peer_set.proofs.Charging.{dropped, kept}
 use Rattle.peer_set.proofs.set.PeerSet.charge.Goals as goal
@@ -8,8 +8,8 @@ invariant_of-self c =
     let held : list_any (λ r. r == c.args.peer) c.self.inside.turn.items ≡ true = rw (← c.self.view_is) at c.requires in
     record {
       present = rw (c.drop_from.ensures, c.one_more-charges.ensures.after)
-          (dropped c.self.inside.turn.items c.self.inside.charges.entries c.args.peer c.one_more-charges.result c.self.invariant.present held
-          c.if-charges-eq-MOST_CHARGES.true);
+          (dropped c.self.inside.turn.items c.self.inside.charges.entries c.args.peer c.one_more-charges.result
+          c.self.invariant.present held c.if-charges-eq-MOST_CHARGES.true);
     }
 
 pub invariant_of-self-else-charges-eq-MOST_CHARGES : goal.invariant_of-self-else-charges-eq-MOST_CHARGES
@@ -17,6 +17,6 @@ invariant_of-self-else-charges-eq-MOST_CHARGES c =
     let held : list_any (λ r. r == c.args.peer) c.self.inside.turn.items ≡ true = rw (← c.self.view_is) at c.requires in
     record {
       present = rw c.one_more-charges.ensures.after
-          (kept c.self.inside.turn.items c.self.inside.charges.entries c.args.peer c.one_more-charges.result c.self.invariant.present held
-          c.one_more-charges.ensures.answer c.if-charges-eq-MOST_CHARGES.false);
+          (kept c.self.inside.turn.items c.self.inside.charges.entries c.args.peer c.one_more-charges.result
+          c.self.invariant.present held c.one_more-charges.ensures.answer c.if-charges-eq-MOST_CHARGES.false);
     }
