@@ -30,6 +30,7 @@ pub record Peers : Type 0 where
 abbrev pub no_peers : Peers
 no_peers = record { present = []; charges = []; asked = []; ticks = 0 }
 
+-- it has a turn
 abbrev pub is_present : Peers → ℕ → Bool
 is_present s p = list_any (λ q. q == p) s.present
 
@@ -37,6 +38,7 @@ is_present s p = list_any (λ q. q == p) s.present
 abbrev pub was_added : Peers → ℕ → Bool
 was_added s p = has_in nat_cmp s.charges p
 
+-- what a peer that joins is told
 abbrev pub added : Peers → ℕ → Added
 added s p = if was_added s p then adds.Known else adds.Added
 
@@ -57,6 +59,7 @@ charges_of s p = unwrap_or (get_in nat_cmp s.charges p) 0
 abbrev pub is_last_charge : Peers → ℕ → Bool
 is_last_charge s p = charges_of s p + 1 == most_charges
 
+-- what comes of a charge
 abbrev pub charged : Peers → ℕ → Charge
 charged s p = if is_last_charge s p then Dropped else Charged (charges_of s p + 1)
 
@@ -75,6 +78,7 @@ after_charging s p = record s {
 abbrev pub most_asked : ℕ
 most_asked = 128
 
+-- the two places are one
 abbrev pub same_place : Place → Place → Bool
 same_place Header Header = true
 same_place (Node kind path) (Node other way) = same_kind kind other && same_bytes path way
@@ -89,6 +93,7 @@ abbrev pub send_or_wait : ℕ → ℕ → List Place → Ask
 send_or_wait peer n [] = Waiting n
 send_or_wait peer n (place ∷ rest) = Send peer (place ∷ rest)
 
+-- nobody is asked where none is present
 abbrev pub ask_first : List ℕ → List Place → List Place → Ask
 ask_first [] asked places = NoPeer
 ask_first (peer ∷ others) asked places = send_or_wait peer (length places) (take most_asked (unasked asked places))
@@ -97,6 +102,7 @@ ask_first (peer ∷ others) asked places = send_or_wait peer (length places) (ta
 abbrev pub ask_for : Peers → List Place → Ask
 ask_for s places = ask_first s.present s.asked places
 
+-- whose turn it was comes last
 abbrev pub first_to_end : List ℕ → List ℕ
 first_to_end [] = []
 first_to_end (peer ∷ rest) = rest ++ peer ∷ []
@@ -110,6 +116,7 @@ after_asking s _ = s
 abbrev pub most_ticks : ℕ
 most_ticks = 7
 
+-- what comes of a tick
 abbrev pub ticked : Peers → Tick
 ticked s = if s.ticks + 1 == most_ticks then GaveUp most_ticks else Timeout (s.ticks + 1)
 

@@ -22,15 +22,19 @@ pub record Retention : Type 0 where
 abbrev pub none_retained : ℕ → Retention
 none_retained interval = record { listed = []; pins = []; floor = 0; last = None; turning = None; interval = interval }
 
+-- it has a sequence in the list
 abbrev pub is_listed : Retention → Hash → Bool
 is_listed b h = has_in hash_cmp b.listed h
 
+-- a view or a session holds it
 abbrev pub is_pinned : Retention → Hash → Bool
 is_pinned b h = has_in hash_cmp b.pins h
 
+-- listed or pinned
 abbrev pub is_retained : Retention → Hash → Bool
 is_retained b h = is_listed b h || is_pinned b h
 
+-- the last sequence, or this one where there is none
 abbrev pub last_or : Option ℕ → ℕ → ℕ
 last_or None seq = seq
 last_or (Some last) seq = last
@@ -46,13 +50,15 @@ pin_count pins h = unwrap_or (get_in hash_cmp pins h) 0
 abbrev pub pins_of : Retention → Hash → ℕ
 pins_of b h = pin_count b.pins h
 
+-- one pin more
 abbrev pub after_pinning : Retention → Hash → Retention
 after_pinning b h = record b { pins = insert_in hash_cmp b.pins h (pins_of b h + 1) }
 
--- one pin less; with the last one the ledger is pinned no more
+-- one pin less of the n; with the last one the ledger is pinned no more
 abbrev pub with_pin_less : ForHash ℕ → Hash → ℕ → ForHash ℕ
 with_pin_less pins h n = if n == 1 then remove_in hash_cmp pins h else set_in hash_cmp pins h (n - 1)
 
+-- one pin of the ledger less
 abbrev pub after_unpinning : Retention → Hash → Retention
 after_unpinning b h = record b { pins = with_pin_less b.pins h (pins_of b h) }
 
@@ -65,6 +71,7 @@ abbrev pub due_at : ForHash ℕ → Option ℕ → ℕ → Option ℕ
 due_at listed None interval = None
 due_at listed (Some last) interval = if nat_le (last + interval) (greatest listed) then Some (greatest listed) else None
 
+-- the same of a book
 abbrev pub due : Retention → Option ℕ
 due b = due_at b.listed b.last b.interval
 
