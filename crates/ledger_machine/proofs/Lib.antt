@@ -1,1 +1,6 @@
 mod Rows
+mod RowValues
+mod RowSteps
+mod RowClosing
+mod RowsEdits
+mod RowsLimits
