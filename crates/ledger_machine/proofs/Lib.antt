@@ -4,3 +4,6 @@ mod RowSteps
 mod RowClosing
 mod RowsEdits
 mod RowsLimits
+mod RowReach
+mod RowSwaps
+mod RowsRotation

@@ -73,3 +73,22 @@ nodes12 = header bytes12 ∷ root12 ∷ nodes11
 -- the item [11] = 05, to be put
 abbrev pub item11 : Item
 item11 = record { key = at 0x11; value = 5 ∷ []; valid = record { key_size = refl; key_nonzero = refl; data_size = omega arith } }
+
+-- ledgers 13 and 14: also [20] = 07, and then [20] = 08
+abbrev pub leaf20 : ℕ → Held
+leaf20 b = leaf State (at 0x20) (b ∷ [])
+
+abbrev pub root_of_two : Hash → Held
+root_of_two h = inner (zero_hash ∷ at 0xFD ∷ h ∷ replicate 13 zero_hash)
+
+abbrev pub bytes13 : Bytes
+bytes13 = head 13 (at 0x7E) (at 0xEF)
+
+abbrev pub bytes14 : Bytes
+bytes14 = head 14 (at 0x6F) (at 0xF0)
+
+abbrev pub nodes13 : List Held
+nodes13 = header bytes13 ∷ root_of_two (at 0x0E) ∷ leaf20 7 ∷ nodes12
+
+abbrev pub nodes14 : List Held
+nodes14 = header bytes14 ∷ root_of_two (at 0x0F) ∷ leaf20 8 ∷ nodes13
