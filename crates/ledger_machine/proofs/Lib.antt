@@ -7,3 +7,4 @@ mod RowsLimits
 mod RowReach
 mod RowSwaps
 mod RowsRotation
+mod RowsViews

@@ -1,19 +1,21 @@
 -- A row of the machine, tried on a state whose stored forms are given as a list of entries.
-use Rattle.std.specs.Prelude.{◌≡◌, ℕ, ◌==◌, nat_le, not, length, Bool, true, false, is_some, if◌then◌else◌, List, [], ◌∷◌, refl}
+use Rattle.std.specs.Prelude.{◌≡◌, ℕ, ◌==◌, nat_le, not, length, Bool, true, false, is_some, if◌then◌else◌, List, [], ◌∷◌, refl, Option, Some}
 use Rattle.std.specs.FinMap as finite
 use Rattle.std.specs.FinMap.{find as find_by}
 use Rattle.std.specs.FinSet as set
 use Rattle.std.proofs.Common.{ap, sym, ◌∙◌, subst}
 use Rattle.std.specs.Cmp.Lexicographic.{nat_list_cmp_total}
 use Rattle.half_hash.specs.Half.{byte_sum_half}
-use Rattle.ledger_spec.specs.Maps.{hash_cmp, numbered_cmp, has_in, insert_in}
+use Rattle.ledger_spec.specs.Maps.{hash_cmp, numbered_cmp, get_in, has_in, insert_in}
 use Rattle.ledger_spec.specs.Bytes.{Bytes, Hash, Half, Lookup, zero_hash}
 use Rattle.ledger_machine.specs.declared.commands.Command.{Command}
 use Rattle.ledger_machine.specs.declared.replies.Reply.{Reply}
 use Rattle.ledger_machine.specs.State.{State, Session, form_in, with_form, with_forms}
 use Rattle.ledger_machine.specs.Rotation.{Carries, WhileTurning}
-use Rattle.ledger_machine.specs.Steps.{Step, Outcomes, UsesNodes, own_hashes, Gives, IsAfter}
+use Rattle.ledger_machine.specs.Steps.{Step, Outcomes, UsesNodes, own_hashes, Gives, IsAfter, Gets, Pages}
 use Rattle.ledger_machine.specs.Sessions.{edit_reply, after_edit}
+use Rattle.ledger_spec.specs.declared.Kind.{Kind}
+use Rattle.ledger_machine.specs.Reading.{view_root, IsRead, IsPage}
 use Rattle.ledger_machine.specs.Views.{is_retained}
 use Rattle.ledger_machine.specs.declared.replies.EditReply.{EditReply}
 use Rattle.ledger_machine.specs.declared.replies.EditReply.TheVariants as edits
@@ -22,7 +24,7 @@ use Rattle.ledger_spec.specs.declared.Kind.TheVariants as kinds
 use Rattle.ledger_spec.specs.Findings.{items_of}
 use Rattle.ledger_spec.specs.Header.{seq_of}
 use Rattle.ledger_spec.specs.Spots.{header_in, header_root}
-use Rattle.std.specs.Option.{option_map_or}
+use Rattle.std.specs.Option.{option_map, option_map_or, option_and_then}
 use Rattle.ledger_spec.specs.Forms.{Held}
 use Rattle.ledger_machine.proofs.RowValues.{entries_of, hashes_of}
 
@@ -126,3 +128,25 @@ edit_gives s es born x t e fine is =
     edit_says s es born x t edits.Fine _ fine
     (ap (λ (nodes : Lookup). over (record s { sessions = insert_in numbered_cmp s.sessions x (session_in t nodes) }) es born) (lookup_of es)
     ∙ ap (λ (f : Session). over (record s { sessions = insert_in numbered_cmp s.sessions x f }) es born) is)
+
+-- the root of an open view's map, as a lookup shows it
+abbrev pub root_in : State → Kind → ℕ × ℕ → Lookup → Option Hash
+root_in s kind v nodes = option_and_then (λ t. option_map (header_root kind) (header_in nodes t)) (get_in numbered_cmp s.views v)
+
+-- a read from this root
+pub gets_from : (s : State) (es : Entries) (born : List Hash) (kind : Kind) (key : Hash) (v : ℕ × ℕ) (root : Hash) (reply : Reply) (used : List Held)
+    → root_in s kind v (in_list es) ≡ Some root → IsRead byte_sum_half kind key root reply used
+    → Gets byte_sum_half (over s es born) kind key (view_root (over s es born) kind v) reply used (over s es born)
+gets_from s es born kind key v root reply used is read =
+    subst (λ (r : Option Hash). Gets byte_sum_half (over s es born) kind key r reply used (over s es born)) (sym (read_off (root_in s kind v) es (Some root) is)) (read, refl)
+
+-- a page from this root
+pub pages_from : (s : State) (es : Entries) (born : List Hash) (kind : Kind) (key : Hash) (n : ℕ) (v : ℕ × ℕ) (root : Hash) (reply : Reply) (used : List Held)
+    → root_in s kind v (in_list es) ≡ Some root → IsPage byte_sum_half (over s es born) kind key n root reply used
+    → Pages byte_sum_half (over s es born) kind key n (view_root (over s es born) kind v) reply used (over s es born)
+pages_from s es born kind key n v root reply used is page =
+    subst (λ (r : Option Hash). Pages byte_sum_half (over s es born) kind key n r reply used (over s es born)) (sym (read_off (root_in s kind v) es (Some root) is)) (page, refl)
+
+-- actor 0's read is answered so, with these nodes, and changes nothing
+abbrev pub Reads : State → Command → Reply → List Held → Type 0
+Reads s c reply used = Step byte_sum_half s 0 c reply used s
