@@ -8,3 +8,4 @@ mod RowReach
 mod RowSwaps
 mod RowsRotation
 mod RowsViews
+mod RowsPinned
