@@ -9,3 +9,4 @@ mod RowSwaps
 mod RowsRotation
 mod RowsViews
 mod RowsPinned
+mod RowsBounds

@@ -1,5 +1,5 @@
 -- What is reached in a list of entries, and that an entry found in a part of a list is found in the list.
-use Rattle.std.specs.Prelude.{◌≡◌, ◌≢◌, Bool, true, false, ◌&&◌, ◌||◌, List, [], ◌∷◌, map, Option, None, Some, cond, refl}
+use Rattle.std.specs.Prelude.{◌≡◌, Bool, true, false, ◌&&◌, ◌||◌, List, [], ◌∷◌, map, Option, None, Some, cond, refl}
 use Rattle.std.specs.List.{list_all, list_any, Contains, AllByRecursion}
 use Rattle.std.specs.FinMap.{slice_cmp-IsAntisymmetric, nat_cmp-IsAntisymmetric}
 use Rattle.std.specs.Ordering.{eq_by_cmp, is_eq}
@@ -8,7 +8,7 @@ use Rattle.std.specs.declared.cmp.Ordering.TheVariants.{Less, Equal, Greater}
 use Rattle.std.proofs.Common.{ap, sym, ◌∙◌, subst, true≢false}
 use Rattle.ledger_spec.specs.Maps.{hash_cmp}
 use Rattle.ledger_spec.specs.Bytes.{Bytes, Hash, Lookup}
-use Rattle.ledger_spec.specs.Reach.{Reach, root, kid, Stored, kids}
+use Rattle.ledger_spec.specs.Reach.{Reach, root, kid, kids}
 use Rattle.std.proofs.lemmas.Map.Views.{Contains-from_any}
 use Rattle.ledger_spec.proofs.ReachLaws.{reach_joins}
 use Rattle.ledger_machine.proofs.RowSteps.{Entries, in_list}

@@ -10,7 +10,7 @@ use Rattle.ledger_spec.specs.Maps.{hash_cmp, numbered_cmp, get_in, has_in, inser
 use Rattle.ledger_spec.specs.Bytes.{Bytes, Hash, Half, Lookup, zero_hash}
 use Rattle.ledger_machine.specs.declared.commands.Command.{Command}
 use Rattle.ledger_machine.specs.declared.replies.Reply.{Reply}
-use Rattle.ledger_machine.specs.State.{State, Session, form_in, with_form, with_forms}
+use Rattle.ledger_machine.specs.State.{State, Session, with_form, with_forms}
 use Rattle.ledger_machine.specs.Rotation.{Carries, WhileTurning}
 use Rattle.ledger_machine.specs.Steps.{Step, Outcomes, UsesNodes, own_hashes, Gives, IsAfter, Gets, Pages}
 use Rattle.ledger_machine.specs.Sessions.{edit_reply, after_edit}

@@ -1,15 +1,15 @@
 -- A walk through the state's map, and what answers say was received, computed.
-use Rattle.std.specs.Prelude.{◌≡◌, ℕ, List, [], ◌∷◌, ◌++◌, replicate, refl, None}
+use Rattle.std.specs.Prelude.{◌≡◌, List, [], ◌∷◌, ◌++◌, refl, None}
 use Rattle.std.specs.FinMap as map
 use Rattle.std.specs.FinMap.{find as find_by}
 use Rattle.std.proofs.Common.{ap, ◌∙◌, inl}
 use Rattle.std.specs.Ordering.{nat_cmp}
-use Rattle.std.specs.Cmp.Lexicographic.{slice_cmp, nat_list_cmp_total}
+use Rattle.std.specs.Cmp.Lexicographic.{slice_cmp}
 use Rattle.half_hash.specs.Half.{byte_sum_half}
 use Rattle.ledger_spec.specs.declared.Kind.TheVariants.{State}
 use Rattle.ledger_spec.specs.declared.Place.TheVariants.{Node}
 use Rattle.ledger_spec.specs.Bytes.{Bytes, Hash, Lookup}
-use Rattle.ledger_spec.specs.Forms.{Held, inner, leaf, header, form_of, inner_of, header_of, keyed_leaf_of, bare_leaf_of}
+use Rattle.ledger_spec.specs.Forms.{Held, header, form_of, inner_of, header_of, keyed_leaf_of, bare_leaf_of}
 use Rattle.ledger_spec.specs.Findings.{walk, walk_map, walk_ledger, Finding, findings, lacks}
 use Rattle.ledger_spec.specs.Wire.{read_wire}
 use Rattle.ledger_machine.specs.declared.commands.Command.TheVariants as command
@@ -20,25 +20,11 @@ use Rattle.ledger_machine.specs.declared.replies.NodeReply.TheVariants as node
 use Rattle.ledger_machine.specs.declared.replies.Reply.TheVariants as says
 use Rattle.ledger_machine.specs.State.{form_in, opening}
 use Rattle.ledger_machine.specs.Receipts.{Receives}
-
-abbrev at : ℕ → Hash
-at x = x ∷ replicate 31 0
-
-abbrev leaf10 : Held
-leaf10 = leaf State (at 0x10) (1 ∷ 2 ∷ [])
-
-abbrev root10 : Held
-root10 = inner (replicate 1 (replicate 32 0) ++ at 0xFA ∷ replicate 14 (replicate 32 0))
-
-abbrev bytes10 : Bytes
-bytes10 = 0 ∷ 0 ∷ 0 ∷ 10 ∷ replicate 72 0 ++ at 0xDE ++ replicate 10 0
+use Rattle.ledger_machine.proofs.RowValues.{at, leaf10, root10, bytes10}
+use Rattle.ledger_machine.proofs.RowSteps.{lookup_of}
 
 abbrev head10 : Held
 head10 = header bytes10
-
--- the walk of a map of entries is that of its look-up, which computes
-pub lookup_of : (es : List (Hash × Bytes)) → map.get (map.from_entries {R = slice_cmp nat_cmp} es) ≡ (λ h. find_by (slice_cmp nat_cmp) h es)
-lookup_of es = λ i h. map.get-from_entries nat_list_cmp_total es h i
 
 abbrev with_root : List (Hash × Bytes)
 with_root = (at 0xDD, form_of head10) ∷ (at 0xDE, form_of root10) ∷ []

@@ -1,10 +1,10 @@
 -- Worked rows of edits, under the byte sum: sessions on ledgers 10, 11 and 12, each on the one that was closed before.
-use Rattle.std.specs.Prelude.{◌≡◌, ℕ, List, [], ◌∷◌, map, true, false, Some, refl}
+use Rattle.std.specs.Prelude.{◌≡◌, ℕ, List, [], ◌∷◌, true, false, Some, refl}
 use Rattle.std.specs.FinMap as finite
 use Rattle.half_hash.specs.Half.{byte_sum_half}
-use Rattle.ledger_spec.specs.Bytes.{Bytes, Hash}
+use Rattle.ledger_spec.specs.Bytes.{Hash}
 use Rattle.ledger_spec.specs.Findings.{walk, walk_map}
-use Rattle.ledger_spec.specs.Forms.{Held, header, inner_of, header_of, keyed_leaf_of, bare_leaf_of}
+use Rattle.ledger_spec.specs.Forms.{header, inner_of, header_of, keyed_leaf_of, bare_leaf_of}
 use Rattle.ledger_spec.specs.Header.{header_bytes}
 use Rattle.ledger_spec.specs.Tree.{form_at, form_of_part, forms_of_part}
 use Rattle.ledger_machine.specs.declared.commands.Command.TheVariants as command

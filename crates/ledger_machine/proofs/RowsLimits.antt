@@ -1,14 +1,13 @@
 -- Worked rows, under the byte sum: a close that makes a form with the zero hash, the last sequence, and seven ticks.
-use Rattle.std.specs.Prelude.{◌≡◌, ℕ, List, [], ◌∷◌, ◌++◌, replicate, None, Some, refl}
+use Rattle.std.specs.Prelude.{◌≡◌, ℕ, List, [], ◌∷◌, ◌++◌, replicate, Some, refl}
 use Rattle.std.specs.FinMap as finite
 use Rattle.std.proofs.Common.{sym, arith}
 use Rattle.half_hash.specs.Half.{byte_sum_half}
 use Rattle.ledger_spec.specs.declared.Kind.TheVariants.{State as accounts}
 use Rattle.ledger_spec.specs.declared.Place.{Place}
 use Rattle.ledger_spec.specs.declared.Place.TheVariants.{Header}
-use Rattle.ledger_spec.specs.Bytes.{Bytes, Hash, zero_hash}
-use Rattle.ledger_spec.specs.Findings.{walk, walk_map}
-use Rattle.ledger_spec.specs.Forms.{Held, leaf, inner, header, form_of, inner_of, header_of, keyed_leaf_of, bare_leaf_of}
+use Rattle.ledger_spec.specs.Bytes.{Bytes, zero_hash}
+use Rattle.ledger_spec.specs.Forms.{Held, leaf, inner, header, form_of, header_of}
 use Rattle.ledger_spec.specs.Header.{header_bytes}
 use Rattle.ledger_spec.specs.Tree.{form_at, form_of_part, forms_of_part}
 use Rattle.ledger_machine.specs.declared.commands.Command.{Command}
@@ -20,7 +19,7 @@ use Rattle.ledger_machine.specs.State.{State, Session, Acquisition, opening, def
 use Rattle.ledger_machine.specs.Closing.{closing_forms}
 use Rattle.ledger_machine.specs.Steps.{Refused}
 use Rattle.ledger_machine.proofs.RowValues.{at, entries_of, hashes_of, forms_in, head, leaf10, root10, nodes10}
-use Rattle.ledger_machine.proofs.RowSteps.{store, Row, step, gives, edit_gives, edit_says}
+use Rattle.ledger_machine.proofs.RowSteps.{store, Row, step, gives, edit_says}
 use Rattle.ledger_machine.proofs.RowClosing.{header_over, close_says}
 
 abbrev none : List ℕ

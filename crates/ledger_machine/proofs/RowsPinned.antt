@@ -1,6 +1,6 @@
 -- Worked rows of two rotations, under the byte sum, with an interval of 1: through the first a view pins ledger 10, and after the second
 -- ledger 12 alone stays.
-use Rattle.std.specs.Prelude.{◌≡◌, ◌⊎◌, ℕ, List, [], ◌∷◌, true, false, None, Some, refl}
+use Rattle.std.specs.Prelude.{◌≡◌, ℕ, List, [], ◌∷◌, true, None, Some, refl}
 use Rattle.std.specs.List.{AllByRecursion}
 use Rattle.std.specs.FinMap as finite
 use Rattle.std.specs.declared.sync.Arc.{Arc}
@@ -10,7 +10,7 @@ use Rattle.half_hash.specs.Half.{byte_sum_half}
 use Rattle.shamap_node.specs.declared.Node.{Node}
 use Rattle.shamap_node.specs.Nodes.{held}
 use Rattle.ledger_spec.specs.declared.Kind.TheVariants.{State as accounts}
-use Rattle.ledger_spec.specs.Bytes.{Bytes, Hash}
+use Rattle.ledger_spec.specs.Bytes.{Hash}
 use Rattle.ledger_spec.specs.Findings.{walk, walk_map}
 use Rattle.ledger_spec.specs.Forms.{Held, header, form_of, inner_of, header_of, keyed_leaf_of, bare_leaf_of}
 use Rattle.ledger_spec.specs.Header.{header_bytes}
@@ -30,7 +30,7 @@ use Rattle.ledger_machine.specs.Closing.{closing_forms}
 use Rattle.ledger_machine.specs.Reading.{value_in}
 use Rattle.ledger_machine.specs.Rotation.{Swapped}
 use Rattle.ledger_machine.specs.State.{State, Session, opening, roots}
-use Rattle.ledger_machine.proofs.RowValues.{at, entries_of, hashes_of, forms_in, leaf10, leaf11, root10, inner11, root11, root12, bytes11, bytes12, nodes10, nodes11, nodes12}
+use Rattle.ledger_machine.proofs.RowValues.{at, entries_of, hashes_of, forms_in, leaf10, leaf11, root10, root12, bytes11, bytes12, nodes11, nodes12}
 use Rattle.ledger_machine.proofs.RowSteps.{in_list, over, store, Row, Reads, step, gives, edit_gives, gets_from}
 use Rattle.ledger_machine.proofs.RowClosing.{header_over, close_gives}
 use Rattle.ledger_machine.proofs.RowReach.{reach_start, reach_kid}
@@ -79,9 +79,12 @@ swapped11 = swapped_to turning11 (entries_of nodes11) []
 swap_keeps_the_pinned_ledger : Row (store turning11 nodes11) command.Swap (says.Swap (swaps.Swapped 1)) swapped11
 unfolding inner_of header_of
 swap_keeps_the_pinned_ledger =
-    step (refl, swap_may_leave turning11 (entries_of nodes11) (hashes_of nodes11) (entries_of nodes11) [] (hashes_of nodes11)
-    (refl, (refl, (refl, (refl, (refl, (refl, (refl, tt))))))) refl refl (refl, (refl, (refl, (refl, (refl, (refl, (refl, tt)))))))
-    (born_may_stay turning11 (entries_of nodes11) (hashes_of nodes11) (hashes_of nodes11) refl)) refl tt
+    step (
+      refl,
+      swap_may_leave turning11 (entries_of nodes11) (hashes_of nodes11) (entries_of nodes11) [] (hashes_of nodes11)
+          (refl, (refl, (refl, (refl, (refl, (refl, (refl, tt))))))) refl refl (refl, (refl, (refl, (refl, (refl, (refl, (refl, tt)))))))
+          (born_may_stay turning11 (entries_of nodes11) (hashes_of nodes11) (hashes_of nodes11) refl),
+    ) refl tt
 
 -- and no swap leaves anything else
 no_swap_loses_the_pinned_ledger : (s' : State) → Swapped (store turning11 nodes11) s' → s'.nodes ≡ finite.from_entries (entries_of nodes11)
@@ -109,7 +112,7 @@ get_from_the_pinned_ledger : (n : Arc Node Global) → held n.value ≡ leaf10 �
 unfolding header_of
 get_from_the_pinned_ledger n is = record {
   outcome = gets_from (later only11 pinned []) (entries_of nodes11) [] accounts (at 0x10) (0, 9) (at 0xDE) _ _ refl
-  record { says = sym (ap value_in is); some = λ none. absurd (let e : Some (value (1 ∷ 2 ∷ [])) ≡ None = sym (ap value_in is) ∙ none in cc) };
+      record { says = sym (ap value_in is); some = λ none. absurd (let e : Some (value (1 ∷ 2 ∷ [])) ≡ None = sym (ap value_in is) ∙ none in cc) };
   uses = tt;
   carries = tt;
 }
@@ -178,8 +181,11 @@ three_are_reached =
 swap_drops_the_old_ledgers : Row (kept turning12 nodes12 new12) command.Swap (says.Swap (swaps.Swapped 2)) (swapped_to turning12 (entries_of three) [])
 unfolding inner_of header_of
 swap_drops_the_old_ledgers =
-    step (refl, swap_may_leave turning12 (entries_of nodes12) (hashes_of new12) (entries_of three) [] (hashes_of three)
-    (refl, (refl, (refl, tt))) refl refl (refl, (refl, (refl, tt))) (inr refl, (inr refl, (inl three_are_reached.1.1.0, tt)))) refl tt
+    step (
+      refl,
+      swap_may_leave turning12 (entries_of nodes12) (hashes_of new12) (entries_of three) [] (hashes_of three)
+          (refl, (refl, (refl, tt))) refl refl (refl, (refl, (refl, tt))) (inr refl, (inr refl, (inl three_are_reached.1.1.0, tt))),
+    ) refl tt
 
 -- every swap leaves exactly these three
 three_forms_stay : (s' : State) → Swapped (kept turning12 nodes12 new12) s' → s'.nodes ≡ finite.from_entries (entries_of three)

@@ -1,9 +1,9 @@
 -- Worked rows of a rotation, under the byte sum: ledgers 10 to 14, an interval of 4, and a view of ledger 11 that is opened meanwhile.
-use Rattle.std.specs.Prelude.{◌≡◌, ℕ, List, [], ◌∷◌, ◌++◌, true, None, Some, refl}
+use Rattle.std.specs.Prelude.{◌≡◌, ℕ, List, [], ◌∷◌, None, Some, refl}
 use Rattle.std.specs.FinMap as finite
 use Rattle.std.proofs.Common.{inl, inr, sym, true≢false}
 use Rattle.half_hash.specs.Half.{byte_sum_half}
-use Rattle.ledger_spec.specs.Bytes.{Bytes, Hash, Lookup}
+use Rattle.ledger_spec.specs.Bytes.{Hash}
 use Rattle.ledger_spec.specs.Forms.{Held, header, form_of, inner_of, header_of}
 use Rattle.ledger_spec.specs.Reach.{Reach}
 use Rattle.ledger_spec.specs.Header.{header_bytes}
@@ -19,7 +19,7 @@ use Rattle.ledger_machine.specs.State.{State, Session, roots, opening, fresh}
 use Rattle.ledger_machine.specs.Closing.{closing_forms}
 use Rattle.ledger_machine.specs.Rotation.{Swapped, Carries}
 use Rattle.ledger_machine.proofs.RowValues.{at, entries_of, hashes_of, forms_in, leaf10, leaf11, inner11, root11, root12, leaf20, root_of_two}
-use Rattle.ledger_machine.proofs.RowValues.{bytes11, bytes12, bytes13, bytes14, nodes10, nodes12, nodes13, nodes14}
+use Rattle.ledger_machine.proofs.RowValues.{bytes11, bytes12, bytes13, bytes14, nodes12, nodes13, nodes14}
 use Rattle.ledger_machine.proofs.RowSteps.{in_list, store, Row, step, gives}
 use Rattle.ledger_machine.proofs.RowClosing.{header_over, close_gives}
 use Rattle.ledger_machine.proofs.RowSwaps.{swapped_to, swap_may_leave, swap_may_not_lose, born_may_stay, carries_on, reach_on, reach_off}
@@ -126,11 +126,14 @@ nodes14_but_leaf10 = header bytes14 ∷ root_of_two (at 0x0F) ∷ leaf20 8 ∷ h
 swap_to_what_is_reached : Row (store viewed nodes14) command.Swap (says.Swap (swaps.Swapped 1)) (swapped_to viewed (entries_of nodes_kept) [])
 unfolding inner_of header_of
 swap_to_what_is_reached =
-    step (refl, swap_may_leave viewed (entries_of nodes14) (hashes_of nodes14) (entries_of nodes_kept) [] (hashes_of nodes_kept)
-    (refl, (refl, (refl, (refl, (refl, (refl, (refl, (refl, (refl, (refl, (refl, (refl, (refl, tt)))))))))))))
-    refl refl
-    (refl, (refl, (refl, (refl, (refl, (refl, (refl, (refl, (refl, (refl, (refl, (refl, (refl, tt)))))))))))))
-    (born_may_stay viewed (entries_of nodes14) (hashes_of nodes14) (hashes_of nodes_kept) refl)) refl tt
+    step (
+      refl,
+      swap_may_leave viewed (entries_of nodes14) (hashes_of nodes14) (entries_of nodes_kept) [] (hashes_of nodes_kept)
+          (refl, (refl, (refl, (refl, (refl, (refl, (refl, (refl, (refl, (refl, (refl, (refl, (refl, tt)))))))))))))
+          refl refl
+          (refl, (refl, (refl, (refl, (refl, (refl, (refl, (refl, (refl, (refl, (refl, (refl, (refl, tt)))))))))))))
+          (born_may_stay viewed (entries_of nodes14) (hashes_of nodes14) (hashes_of nodes_kept) refl),
+    ) refl tt
 
 -- no swap loses the leaf [10], which the view of ledger 11 reaches
 a_swap_loses_no_leaf : (shaded : List Hash) → Swapped (store viewed nodes14) (swapped_to viewed (entries_of nodes14_but_leaf10) shaded) → ⊥

@@ -1,5 +1,5 @@
 -- Worked rows of views and reads, under the byte sum: a view of ledger 10, and one of a ledger that has a transaction too.
-use Rattle.std.specs.Prelude.{◌≡◌, ℕ, List, [], ◌∷◌, ◌++◌, map, replicate, true, false, Vec, vec_items, None, Some, refl}
+use Rattle.std.specs.Prelude.{◌≡◌, ℕ, List, [], ◌∷◌, ◌++◌, map, replicate, true, false, Vec, None, Some, refl}
 use Rattle.std.specs.FinMap as finite
 use Rattle.std.specs.declared.sync.Arc.{Arc}
 use Rattle.std.specs.declared.alloc.Global.{Global}
@@ -9,7 +9,7 @@ use Rattle.shamap_node.specs.declared.Node.{Node}
 use Rattle.shamap_node.specs.Nodes.{held}
 use Rattle.ledger_spec.specs.declared.Kind.TheVariants.{State as accounts, Tx as txs}
 use Rattle.ledger_spec.specs.declared.Place.TheVariants as place
-use Rattle.ledger_spec.specs.Bytes.{Bytes, Hash, Items, zero_hash}
+use Rattle.ledger_spec.specs.Bytes.{Hash, Items, zero_hash}
 use Rattle.ledger_spec.specs.Reads.{value}
 use Rattle.ledger_spec.specs.Pages.{page_from, heard_from, IsPageOf, IsPageOrShows, after_key}
 use Rattle.std.proofs.lemmas.List.Elements.{All-contains, All-nil, All-cons}
@@ -45,7 +45,7 @@ get_gives_the_value : (n : Arc Node Global) → held n.value ≡ leaf10 → Read
 unfolding header_of
 get_gives_the_value n is = record {
   outcome = gets_from viewed10 (entries_of nodes10) (hashes_of nodes10) accounts (at 0x10) (0, 7) (at 0xDE) _ _ refl
-  record { says = sym (ap value_in is); some = λ none. absurd (let e : Some (value (1 ∷ 2 ∷ [])) ≡ None = sym (ap value_in is) ∙ none in cc) };
+      record { says = sym (ap value_in is); some = λ none. absurd (let e : Some (value (1 ∷ 2 ∷ [])) ≡ None = sym (ap value_in is) ∙ none in cc) };
   uses = tt;
   carries = tt;
 }
@@ -139,7 +139,7 @@ get_in_the_transaction_map : (n : Arc Node Global) → held n.value ≡ tx_leaf 
 unfolding header_of
 get_in_the_transaction_map n is = record {
   outcome = gets_from viewed_tx (entries_of nodes_tx) (hashes_of nodes_tx) txs (at 0x30) (0, 1) (at 0xFB) _ _ refl
-  record { says = sym (ap value_in is); some = λ none. absurd (let e : Some (value (2 ∷ [])) ≡ None = sym (ap value_in is) ∙ none in cc) };
+      record { says = sym (ap value_in is); some = λ none. absurd (let e : Some (value (2 ∷ [])) ≡ None = sym (ap value_in is) ∙ none in cc) };
   uses = tt;
   carries = tt;
 }

@@ -1,15 +1,13 @@
 -- The rows of `base` and `node`. A bad outcome charges nobody yet: `after_base` and `after_offer` know the peer, and leave it as it is.
-use Rattle.std.specs.Prelude.{ℕ, ◌==◌, Bool, if◌then◌else◌, List, [], ◌∷◌, ◌++◌, Option, None, Some, Result, Ok, Err}
+use Rattle.std.specs.Prelude.{ℕ, ◌==◌, Bool, if◌then◌else◌, List, [], ◌++◌, Option, None, Some, Result, Ok, Err}
 use Rattle.std.specs.List.{list_any}
 use Rattle.ledger_spec.specs.Maps.{hash_cmp, get_in}
 use Rattle.ledger_spec.specs.declared.Kind.{Kind}
 use Rattle.ledger_spec.specs.declared.Kind.TheVariants as kinds
 use Rattle.ledger_spec.specs.Bytes.{Bytes, Hash, Half, Lookup}
-use Rattle.ledger_spec.specs.Forms.{header_prefix}
 use Rattle.ledger_spec.specs.Wire.{read_wire}
 use Rattle.ledger_spec.specs.declared.outcomes.Offered.{Offered}
 use Rattle.ledger_spec.specs.declared.outcomes.HeadOffered.{HeadOffered}
-use Rattle.ledger_spec.specs.declared.outcomes.HeadOffered.TheVariants as head
 use Rattle.ledger_machine.specs.declared.replies.BaseReply.TheVariants as base
 use Rattle.ledger_machine.specs.declared.replies.NodeReply.TheVariants as node
 use Rattle.ledger_machine.specs.declared.replies.Reply.{Reply}
