@@ -1,5 +1,6 @@
 -- A close, tried on a state whose stored forms are given as a list of entries.
-use Rattle.std.specs.Prelude.{◌≡◌, ℕ, ◌==◌, nat_lt, if◌then◌else◌, List, [], ◌∷◌, ◌++◌, length, Option, None, Some, refl}
+use Rattle.std.specs.Prelude.{◌≡◌, ℕ, ◌==◌, nat_lt, if◌then◌else◌, List, [], ◌∷◌, ◌++◌, length, Option}
+use Rattle.std.specs.Prelude.{None, Some, refl}
 use Rattle.std.specs.List.{find}
 use Rattle.std.specs.Option.{option_or, unwrap_or}
 use Rattle.std.proofs.Common.{ap, ap₂, ◌∙◌}
@@ -15,16 +16,20 @@ use Rattle.ledger_machine.specs.declared.replies.Reply.TheVariants as says
 use Rattle.ledger_machine.specs.State.{State, Session, with_forms, listed_with}
 use Rattle.ledger_machine.specs.Steps.{Gives}
 use Rattle.ledger_machine.specs.Sessions.{without_session}
-use Rattle.ledger_machine.specs.Closing.{closing_forms, clash_under, first_clash, closed_or_clash, zero_or, close_outcome, close_given, closed, new_header, closing_header}
-use Rattle.ledger_machine.proofs.RowSteps.{Entries, in_list, over, lookup_of, with_entry, with_birth, with_entries, with_births, with_form_over, with_forms_over, gives}
+use Rattle.ledger_machine.specs.Closing.{closing_forms, clash_under, first_clash, closed_or_clash, zero_or, close_outcome, close_given}
+use Rattle.ledger_machine.specs.Closing.{closed, new_header, closing_header}
+use Rattle.ledger_machine.proofs.RowSteps.{Entries, in_list, over, lookup_of, with_entry, with_birth, with_entries, with_births}
+use Rattle.ledger_machine.proofs.RowSteps.{with_form_over, with_forms_over, gives}
 
 module _ (half : Half) where
   -- the first clash, as a list of entries shows it
   abbrev pub clash_in : Entries → List Bytes → Option Clash
   clash_in es [] = None
-  clash_in es (form ∷ rest) = option_or (clash_under (half form) form (in_list es (half form))) (clash_in (with_entry half es form) rest)
+  clash_in es (form ∷ rest) = option_or (clash_under (half form) form (in_list es (half form)))
+      (clash_in (with_entry half es form) rest)
 
-  pub first_clash_over : (s : State) (es : Entries) (born : List Hash) (forms : List Bytes) → first_clash half (over s es born) forms ≡ clash_in es forms
+  pub first_clash_over : (s : State) (es : Entries) (born : List Hash) (forms : List Bytes)
+      → first_clash half (over s es born) forms ≡ clash_in es forms
   first_clash_over s es born [] = refl
   first_clash_over s es born (form ∷ rest) =
       ap₂ option_or (ap (λ (n : Lookup). clash_under (half form) form (n (half form))) (lookup_of es))
@@ -40,7 +45,8 @@ module _ (half : Half) where
       else zero_or (find (λ form. is_zero (half form)) forms)
       (if has_in hash_cmp s.listed h then says.Close close.Listed else closed_or_clash h clash)
 
-  pub outcome_over : (s : State) (es : Entries) (born : List Hash) (e : Session) (header : Bytes) (forms : List Bytes) (reply : Reply)
+  pub outcome_over : (s : State) (es : Entries) (born : List Hash) (e : Session) (header : Bytes) (forms : List Bytes)
+      (reply : Reply)
       → closing_forms half e header ≡ forms → outcome_by s e header forms (clash_in es forms) ≡ reply
       → close_outcome half (over s es born) e header ≡ reply
   outcome_over s es born e header forms reply are is =
@@ -51,26 +57,34 @@ module _ (half : Half) where
   abbrev pub header_over : Entries → Session → List ℕ → Bytes
   header_over es e fields = closing_header half e (unwrap_or (header_in (in_list es) e.base) []) fields
 
-  pub new_header_over : (s : State) (es : Entries) (born : List Hash) (e : Session) (fields : List ℕ) → new_header half (over s es born) e fields ≡ header_over es e fields
-  new_header_over s es born e fields = ap (λ (nodes : Lookup). closing_header half e (unwrap_or (header_in nodes e.base) []) fields) (lookup_of es)
+  pub new_header_over : (s : State) (es : Entries) (born : List Hash) (e : Session) (fields : List ℕ)
+      → new_header half (over s es born) e fields ≡ header_over es e fields
+  new_header_over s es born e fields = ap (λ (nodes : Lookup). closing_header half e (unwrap_or (header_in nodes e.base) [])
+      fields) (lookup_of es)
 
   -- the state after a close
   abbrev pub closed_by : State → Entries → List Hash → ℕ × ℕ → Bytes → List Bytes → Hash → State
-  closed_by s es born x header forms h = without_session (listed_with (over s (with_entries half s es forms) (with_births half s es born forms)) h (seq_of header)) x
+  closed_by s es born x header forms h = without_session (listed_with
+      (over s (with_entries half s es forms) (with_births half s es born forms)) h (seq_of header)) x
 
   -- a session's close answers so
-  pub close_says : (s : State) (es : Entries) (born : List Hash) (e : Session) (fields : List ℕ) (header : Bytes) (forms : List Bytes) (reply : Reply)
-      → header_over es e fields ≡ header → closing_forms half e header ≡ forms → outcome_by s e header forms (clash_in es forms) ≡ reply
+  pub close_says : (s : State) (es : Entries) (born : List Hash) (e : Session) (fields : List ℕ) (header : Bytes)
+      (forms : List Bytes) (reply : Reply)
+      → header_over es e fields ≡ header → closing_forms half e header ≡ forms
+      → outcome_by s e header forms (clash_in es forms) ≡ reply
       → close_given half (over s es born) fields (Some e) ≡ reply
   close_says s es born e fields header forms reply is are says =
-      ap (close_outcome half (over s es born) e) (new_header_over s es born e fields ∙ is) ∙ outcome_over s es born e header forms reply are says
+      ap (close_outcome half (over s es born) e) (new_header_over s es born e fields ∙ is)
+      ∙ outcome_over s es born e header forms reply are says
 
   -- a session's close answers so, and stores these forms
-  pub close_gives : (s : State) (es : Entries) (born : List Hash) (e : Session) (x : ℕ × ℕ) (fields : List ℕ) (header : Bytes) (forms : List Bytes) (h : Hash) (s' : State)
+  pub close_gives : (s : State) (es : Entries) (born : List Hash) (e : Session) (x : ℕ × ℕ) (fields : List ℕ) (header : Bytes)
+      (forms : List Bytes) (h : Hash) (s' : State)
       → header_over es e fields ≡ header → closing_forms half e header ≡ forms
       → outcome_by s e header forms (clash_in es forms) ≡ says.Close (close.Closed h)
       → closed_by s es born x header forms h ≡ s'
-      → Gives (close_given half (over s es born) fields (Some e)) (closed half (over s es born) x fields h (Some e)) (says.Close (close.Closed h)) s'
+      → Gives (close_given half (over s es born) fields (Some e)) (closed half (over s es born) x fields h (Some e))
+      (says.Close (close.Closed h)) s'
   close_gives s es born e x fields header forms h s' is are says after =
       gives (close_says s es born e fields header forms _ is are says)
       (ap (λ b. without_session (listed_with (with_forms half (over s es born) (closing_forms half e b)) h (seq_of b)) x) own

@@ -52,18 +52,22 @@ kids_under (Some form) = kids form
 abbrev pub is_closed : Lookup → List Hash → Bool
 is_closed nodes all = list_all (λ h. list_all (among all) (kids_under (nodes h))) all
 
-pub reach_within : (nodes : Lookup) (roots all : List Hash) {h : Hash} → list_all (among all) roots ≡ true → is_closed nodes all ≡ true → Reach nodes roots h → among all h ≡ true
+pub reach_within : (nodes : Lookup) (roots all : List Hash) {h : Hash} → list_all (among all) roots ≡ true
+    → is_closed nodes all ≡ true → Reach nodes roots h → among all h ≡ true
 reach_within nodes roots all {h = h} start closed (root named stored) = contained_passes (among all) roots h start named
 reach_within nodes roots all {h = k} start closed (kid {h = h} {form = form} reached is named stored) =
-    let inside : list_all (among all) (kids_under (nodes h)) ≡ true = one_passes (λ g. list_all (among all) (kids_under (nodes g))) h all closed (reach_within nodes roots all start closed reached) in
+    let inside : list_all (among all) (kids_under (nodes h)) ≡ true = one_passes (λ g. list_all (among all) (kids_under (nodes g)))
+    h all closed (reach_within nodes roots all start closed reached) in
     contained_passes (among all) (kids form) k (subst (λ o. list_all (among all) (kids_under o) ≡ true) is inside) named
 
 -- an entry that is found in a part of a list is found in the list
-pub found_in_part : (part all : Entries) → AllByRecursion (λ e. in_list all e.0 ≡ Some e.1) part → (h : Hash) (form : Bytes) → in_list part h ≡ Some form → in_list all h ≡ Some form
+pub found_in_part : (part all : Entries) → AllByRecursion (λ e. in_list all e.0 ≡ Some e.1) part → (h : Hash) (form : Bytes)
+    → in_list part h ≡ Some form → in_list all h ≡ Some form
 found_in_part [] all are h form is = absurd cc
 found_in_part (e ∷ part) all are h form is = by (hash_cmp h e.0) refl is (found_in_part part all are.1 h form)
   where
-    by : (o : Ordering) → hash_cmp h e.0 ≡ o → cond (is_eq o) (Some e.1) (in_list part h) ≡ Some form → (in_list part h ≡ Some form → in_list all h ≡ Some form) → in_list all h ≡ Some form
+    by : (o : Ordering) → hash_cmp h e.0 ≡ o → cond (is_eq o) (Some e.1) (in_list part h) ≡ Some form
+        → (in_list part h ≡ Some form → in_list all h ≡ Some form) → in_list all h ≡ Some form
     by Less same found later = later found
     by Equal same found later = ap (in_list all) (same_hash h e.0 same) ∙ are.0 ∙ found
     by Greater same found later = later found
@@ -73,7 +77,8 @@ pub found_among : (es : Entries) (h : Hash) (form : Bytes) → in_list es h ≡ 
 found_among [] h form is = absurd cc
 found_among (e ∷ es) h form is = by (hash_cmp h e.0) is (found_among es h form)
   where
-    by : (o : Ordering) → cond (is_eq o) (Some e.1) (in_list es h) ≡ Some form → (in_list es h ≡ Some form → among (map (λ e. e.0) es) h ≡ true) → (is_eq o || among (map (λ e. e.0) es) h) ≡ true
+    by : (o : Ordering) → cond (is_eq o) (Some e.1) (in_list es h) ≡ Some form
+        → (in_list es h ≡ Some form → among (map (λ e. e.0) es) h ≡ true) → (is_eq o || among (map (λ e. e.0) es) h) ≡ true
     by Less found later = later found
     by Equal found later = refl
     by Greater found later = later found
@@ -97,12 +102,16 @@ same_of x y e = by (hash_cmp x y) refl e
     by Greater is e = absurd (true≢false (sym e))
 
 -- one of these that is stored is reached from them
-pub reach_start : {nodes : Lookup} (from : List Hash) (h : Hash) (form : Bytes) → among from h ≡ true → nodes h ≡ Some form → Reach nodes from h
+pub reach_start : {nodes : Lookup} (from : List Hash) (h : Hash) (form : Bytes) → among from h ≡ true → nodes h ≡ Some form
+    → Reach nodes from h
 reach_start from h form one is = root (Contains-from_any same_of h from one) (form, is)
 
-pub reach_kid : {nodes : Lookup} {from : List Hash} {h : Hash} (k : Hash) (form kid_form : Bytes) → Reach nodes from h → nodes h ≡ Some form → among (kids form) k ≡ true → nodes k ≡ Some kid_form → Reach nodes from k
+pub reach_kid : {nodes : Lookup} {from : List Hash} {h : Hash} (k : Hash) (form kid_form : Bytes) → Reach nodes from h
+    → nodes h ≡ Some form → among (kids form) k ≡ true → nodes k ≡ Some kid_form → Reach nodes from k
 reach_kid k form kid_form reached is one there = kid reached is (Contains-from_any same_of k (kids form) one) (kid_form, there)
 
 -- what is reached from some of these is reached from all of them
-pub reach_more : {nodes : Lookup} {h : Hash} (some all : List Hash) → list_all (among all) some ≡ true → Reach nodes some h → Reach nodes all h
-reach_more some all are reached = reach_joins (λ r named stored. reach_start all r stored.0 (contained_passes (among all) some r are named) stored.1) reached
+pub reach_more : {nodes : Lookup} {h : Hash} (some all : List Hash) → list_all (among all) some ≡ true → Reach nodes some h
+    → Reach nodes all h
+reach_more some all are reached = reach_joins (λ r named stored. reach_start all r stored.0
+    (contained_passes (among all) some r are named) stored.1) reached

@@ -1,5 +1,6 @@
 -- A row of the machine, tried on a state whose stored forms are given as a list of entries.
-use Rattle.std.specs.Prelude.{◌≡◌, ℕ, ◌==◌, nat_le, not, length, Bool, true, false, is_some, if◌then◌else◌, List, [], ◌∷◌, refl, Option, Some}
+use Rattle.std.specs.Prelude.{◌≡◌, ℕ, ◌==◌, nat_le, not, length, Bool, true, false, is_some, if◌then◌else◌, List, []}
+use Rattle.std.specs.Prelude.{◌∷◌, refl, Option, Some}
 use Rattle.std.specs.FinMap as finite
 use Rattle.std.specs.FinMap.{find as find_by}
 use Rattle.std.specs.FinSet as set
@@ -71,12 +72,15 @@ abbrev pub with_birth : Half → Entries → List Hash → Bytes → List Hash
 with_birth half es born form = if is_some (in_list es (half form)) then born else half form ∷ born
 
 module _ (half : Half) (s : State) where
-  pub with_form_over : (es : Entries) (born : List Hash) (form : Bytes) → with_form half (over s es born) form ≡ over s (with_entry half es form) (with_birth half es born form)
+  pub with_form_over : (es : Entries) (born : List Hash) (form : Bytes)
+      → with_form half (over s es born) form ≡ over s (with_entry half es form) (with_birth half es born form)
   with_form_over es born form =
-      ap (λ (b : Bool). if b then over s es born else over s ((half form, form) ∷ es) (half form ∷ born)) (ap (λ (n : Lookup). is_some (n (half form))) (lookup_of es))
+      ap (λ (b : Bool). if b then over s es born else over s ((half form, form) ∷ es) (half form ∷ born))
+      (ap (λ (n : Lookup). is_some (n (half form))) (lookup_of es))
       ∙ by (is_some (in_list es (half form)))
     where
-      by : (b : Bool) → (if b then over s es born else over s ((half form, form) ∷ es) (half form ∷ born)) ≡ over s (if b then es else (half form, form) ∷ es) (if b then born else half form ∷ born)
+      by : (b : Bool) → (if b then over s es born else over s ((half form, form) ∷ es) (half form ∷ born)) ≡ over s
+          (if b then es else (half form, form) ∷ es) (if b then born else half form ∷ born)
       by true = refl
       by false = refl
 
@@ -88,17 +92,21 @@ module _ (half : Half) (s : State) where
   with_births es born [] = born
   with_births es born (form ∷ forms) = with_births (with_entry half es form) (with_birth half es born form) forms
 
-  pub with_forms_over : (es : Entries) (born : List Hash) (forms : List Bytes) → with_forms half (over s es born) forms ≡ over s (with_entries es forms) (with_births es born forms)
+  pub with_forms_over : (es : Entries) (born : List Hash) (forms : List Bytes)
+      → with_forms half (over s es born) forms ≡ over s (with_entries es forms) (with_births es born forms)
   with_forms_over es born [] = refl
   with_forms_over es born (form ∷ forms) =
-      ap (λ t. with_forms half t forms) (with_form_over es born form) ∙ with_forms_over (with_entry half es form) (with_birth half es born form) forms
+      ap (λ t. with_forms half t forms) (with_form_over es born form)
+      ∙ with_forms_over (with_entry half es form) (with_birth half es born form) forms
 
 -- what is read of the stored forms is read of the list
-pub read_off : {X : Type 0} (f : Lookup → X) (es : Entries) (x : X) → f (in_list es) ≡ x → f (finite.get (finite.from_entries {R = hash_cmp} es)) ≡ x
+pub read_off : {X : Type 0} (f : Lookup → X) (es : Entries) (x : X) → f (in_list es) ≡ x
+    → f (finite.get (finite.from_entries {R = hash_cmp} es)) ≡ x
 read_off f es x is = ap f (lookup_of es) ∙ is
 
 -- the reply, and the state after that reply
-pub gives_after : {X : Type 0} (say : X → Reply) (after : X → State) (r x : X) (s' : State) → r ≡ x → after x ≡ s' → Gives (say r) (after r) (say x) s'
+pub gives_after : {X : Type 0} (say : X → Reply) (after : X → State) (r x : X) (s' : State) → r ≡ x → after x ≡ s'
+    → Gives (say r) (after r) (say x) s'
 gives_after say after r x s' says is = gives (ap say says) (ap after says ∙ is)
 
 -- a session on the ledger, as a lookup shows it
@@ -116,17 +124,23 @@ edit_by s x t nodes =
     else edits.Fine
 
 -- an edit answers so, and the state after that answer is this one
-pub edit_says : (s : State) (es : Entries) (born : List Hash) (x : ℕ × ℕ) (t : Hash) (r : EditReply) (s' : State) → edit_by s x t (in_list es) ≡ r → after_edit byte_sum_half (over s es born) x t r ≡ s'
-    → Gives (says.Edit (edit_reply (over s es born) x t)) (after_edit byte_sum_half (over s es born) x t (edit_reply (over s es born) x t)) (says.Edit r) s'
-edit_says s es born x t r s' is after = gives_after says.Edit (after_edit byte_sum_half (over s es born) x t) _ r s' (read_off (edit_by s x t) es r is) after
+pub edit_says : (s : State) (es : Entries) (born : List Hash) (x : ℕ × ℕ) (t : Hash) (r : EditReply) (s' : State)
+    → edit_by s x t (in_list es) ≡ r → after_edit byte_sum_half (over s es born) x t r ≡ s'
+    → Gives (says.Edit (edit_reply (over s es born) x t)) (after_edit byte_sum_half (over s es born) x t
+    (edit_reply (over s es born) x t)) (says.Edit r) s'
+edit_says s es born x t r s' is after = gives_after says.Edit (after_edit byte_sum_half (over s es born) x t) _ r s'
+    (read_off (edit_by s x t) es r is) after
 
 -- an edit opens this session
-pub edit_gives : (s : State) (es : Entries) (born : List Hash) (x : ℕ × ℕ) (t : Hash) (e : Session) → edit_by s x t (in_list es) ≡ edits.Fine → session_in t (in_list es) ≡ e
-    → Gives (says.Edit (edit_reply (over s es born) x t)) (after_edit byte_sum_half (over s es born) x t (edit_reply (over s es born) x t)) (says.Edit edits.Fine)
+pub edit_gives : (s : State) (es : Entries) (born : List Hash) (x : ℕ × ℕ) (t : Hash) (e : Session)
+    → edit_by s x t (in_list es) ≡ edits.Fine → session_in t (in_list es) ≡ e
+    → Gives (says.Edit (edit_reply (over s es born) x t)) (after_edit byte_sum_half (over s es born) x t
+    (edit_reply (over s es born) x t)) (says.Edit edits.Fine)
     (over (record s { sessions = insert_in numbered_cmp s.sessions x e }) es born)
 edit_gives s es born x t e fine is =
     edit_says s es born x t edits.Fine _ fine
-    (ap (λ (nodes : Lookup). over (record s { sessions = insert_in numbered_cmp s.sessions x (session_in t nodes) }) es born) (lookup_of es)
+    (ap (λ (nodes : Lookup). over (record s { sessions = insert_in numbered_cmp s.sessions x (session_in t nodes) }) es born)
+    (lookup_of es)
     ∙ ap (λ (f : Session). over (record s { sessions = insert_in numbered_cmp s.sessions x f }) es born) is)
 
 -- the root of an open view's map, as a lookup shows it
@@ -134,18 +148,22 @@ abbrev pub root_in : State → Kind → ℕ × ℕ → Lookup → Option Hash
 root_in s kind v nodes = option_and_then (λ t. option_map (header_root kind) (header_in nodes t)) (get_in numbered_cmp s.views v)
 
 -- a read from this root
-pub gets_from : (s : State) (es : Entries) (born : List Hash) (kind : Kind) (key : Hash) (v : ℕ × ℕ) (root : Hash) (reply : Reply) (used : List Held)
+pub gets_from : (s : State) (es : Entries) (born : List Hash) (kind : Kind) (key : Hash) (v : ℕ × ℕ) (root : Hash) (reply : Reply)
+    (used : List Held)
     → root_in s kind v (in_list es) ≡ Some root → IsRead byte_sum_half kind key root reply used
     → Gets byte_sum_half (over s es born) kind key (view_root (over s es born) kind v) reply used (over s es born)
 gets_from s es born kind key v root reply used is read =
-    subst (λ (r : Option Hash). Gets byte_sum_half (over s es born) kind key r reply used (over s es born)) (sym (read_off (root_in s kind v) es (Some root) is)) (read, refl)
+    subst (λ (r : Option Hash). Gets byte_sum_half (over s es born) kind key r reply used (over s es born))
+    (sym (read_off (root_in s kind v) es (Some root) is)) (read, refl)
 
 -- a page from this root
-pub pages_from : (s : State) (es : Entries) (born : List Hash) (kind : Kind) (key : Hash) (n : ℕ) (v : ℕ × ℕ) (root : Hash) (reply : Reply) (used : List Held)
+pub pages_from : (s : State) (es : Entries) (born : List Hash) (kind : Kind) (key : Hash) (n : ℕ) (v : ℕ × ℕ) (root : Hash)
+    (reply : Reply) (used : List Held)
     → root_in s kind v (in_list es) ≡ Some root → IsPage byte_sum_half (over s es born) kind key n root reply used
     → Pages byte_sum_half (over s es born) kind key n (view_root (over s es born) kind v) reply used (over s es born)
 pages_from s es born kind key n v root reply used is page =
-    subst (λ (r : Option Hash). Pages byte_sum_half (over s es born) kind key n r reply used (over s es born)) (sym (read_off (root_in s kind v) es (Some root) is)) (page, refl)
+    subst (λ (r : Option Hash). Pages byte_sum_half (over s es born) kind key n r reply used (over s es born))
+    (sym (read_off (root_in s kind v) es (Some root) is)) (page, refl)
 
 -- actor 0's read is answered so, with these nodes, and changes nothing
 abbrev pub Reads : State → Command → Reply → List Held → Type 0

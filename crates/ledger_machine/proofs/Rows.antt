@@ -43,16 +43,19 @@ is_whole : missing_in whole10 ≡ []
 unfolding walk walk_map walk_ledger inner_of header_of keyed_leaf_of bare_leaf_of
 is_whole = refl
 
-state_lacks_leaf : findings byte_sum_half (form_in (opening (map.from_entries with_root) 256)) (at 0xDD) ≡ lacks (Node State (1 ∷ [])) ∷ []
+state_lacks_leaf : findings byte_sum_half (form_in (opening (map.from_entries with_root) 256)) (at 0xDD) ≡ lacks
+    (Node State (1 ∷ [])) ∷ []
 state_lacks_leaf = ap (λ (n : Lookup). findings byte_sum_half n (at 0xDD)) (lookup_of with_root) ∙ lacks_leaf
 
 state_is_whole : findings byte_sum_half (form_in (opening (map.from_entries whole10) 256)) (at 0xDD) ≡ []
 state_is_whole = ap (λ (n : Lookup). findings byte_sum_half n (at 0xDD)) (lookup_of whole10) ∙ is_whole
 
 -- the header that a base reply brings, and the leaf that a node reply brings, are received
-received_header : Receives byte_sum_half (at 0xDD) (command.Base 5 (at 0xDD) bytes10 None None) (says.Base (base.Parts head.Good None None)) head10
+received_header : Receives byte_sum_half (at 0xDD) (command.Base 5 (at 0xDD) bytes10 None None)
+    (says.Base (base.Parts head.Good None None)) head10
 received_header = (refl, inl (tt, refl))
 
-received_leaf : Receives byte_sum_half (at 0xDD) (command.Node 5 (at 0xDD) State (1 ∷ []) ((1 ∷ 2 ∷ []) ++ at 0x10 ++ 1 ∷ [])) (says.Node (node.One offered.Good)) leaf10
+received_leaf : Receives byte_sum_half (at 0xDD) (command.Node 5 (at 0xDD) State (1 ∷ []) ((1 ∷ 2 ∷ []) ++ at 0x10 ++ 1 ∷ []))
+    (says.Node (node.One offered.Good)) leaf10
 unfolding read_wire
 received_leaf = (refl, (tt, refl))

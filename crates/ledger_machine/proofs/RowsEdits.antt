@@ -14,7 +14,8 @@ use Rattle.ledger_machine.specs.declared.replies.CloseReply.TheVariants as close
 use Rattle.ledger_machine.specs.declared.replies.Reply.TheVariants as says
 use Rattle.ledger_machine.specs.State.{State, Session, opening, default_interval}
 use Rattle.ledger_machine.specs.Closing.{closing_forms}
-use Rattle.ledger_machine.proofs.RowValues.{at, entries_of, hashes_of, forms_in, item11, leaf10, leaf11, inner11, root11, root12, bytes11, bytes12, nodes10, nodes11, nodes12}
+use Rattle.ledger_machine.proofs.RowValues.{at, entries_of, hashes_of, forms_in, item11, leaf10, leaf11, inner11, root11, root12}
+use Rattle.ledger_machine.proofs.RowValues.{bytes11, bytes12, nodes10, nodes11, nodes12}
 use Rattle.ledger_machine.proofs.RowSteps.{store, Row, step, gives, edit_gives}
 use Rattle.ledger_machine.proofs.RowClosing.{header_over, close_gives}
 
@@ -90,7 +91,8 @@ none = 0 ∷ 0 ∷ 0 ∷ 0 ∷ []
 -- an edit of ledger 10 opens a session on its account state
 edit_opens_a_session : Row listed10 (command.Edit 1 (at 0xDD)) (says.Edit edits.Fine) edited10
 unfolding walk walk_map inner_of header_of keyed_leaf_of bare_leaf_of
-edit_opens_a_session = step (edit_gives (with only10 []) (entries_of nodes10) (hashes_of nodes10) (0, 1) (at 0xDD) session10 refl refl) refl tt
+edit_opens_a_session = step (edit_gives (with only10 []) (entries_of nodes10) (hashes_of nodes10) (0, 1) (at 0xDD) session10 refl
+    refl) refl tt
 
 -- a put adds to it
 put_adds_an_item : Row edited10 (command.Put 1 item11) (says.Put true) put10
@@ -102,20 +104,23 @@ unfolding form_of_part form_at header_bytes header_of
 close_numbers_the_next_ledger = refl
 
 -- the forms of its close: two leaves, the inner node, the root, the header
-close_makes_the_tree : closing_forms byte_sum_half session10_put bytes11 ≡ forms_in (leaf10 ∷ leaf11 ∷ inner11 ∷ root11 ∷ header bytes11 ∷ [])
+close_makes_the_tree : closing_forms byte_sum_half session10_put bytes11 ≡ forms_in
+    (leaf10 ∷ leaf11 ∷ inner11 ∷ root11 ∷ header bytes11 ∷ [])
 unfolding form_of_part form_at forms_of_part
 close_makes_the_tree = refl
 
 -- the close stores what is new of them and lists [9C]; the session has ended
 close_lists_the_next_ledger : Row put10 (command.Close 1 none) (says.Close (close.Closed (at 0x9C))) listed11
 close_lists_the_next_ledger =
-    step (close_gives byte_sum_half (with only10 (((0, 1), session10_put) ∷ [])) (entries_of nodes10) (hashes_of nodes10) session10_put (0, 1) none bytes11 _ (at 0x9C) _
+    step (close_gives byte_sum_half (with only10 (((0, 1), session10_put) ∷ [])) (entries_of nodes10) (hashes_of nodes10)
+    session10_put (0, 1) none bytes11 _ (at 0x9C) _
     close_numbers_the_next_ledger close_makes_the_tree refl refl) refl tt
 
 -- a session on ledger 11
 edit_of_a_closed_ledger : Row listed11 (command.Edit 2 (at 0x9C)) (says.Edit edits.Fine) edited11
 unfolding walk walk_map inner_of header_of keyed_leaf_of bare_leaf_of
-edit_of_a_closed_ledger = step (edit_gives (with up_to11 []) (entries_of nodes11) (hashes_of nodes11) (0, 2) (at 0x9C) session11 refl refl) refl tt
+edit_of_a_closed_ledger = step (edit_gives (with up_to11 []) (entries_of nodes11) (hashes_of nodes11) (0, 2) (at 0x9C) session11
+    refl refl) refl tt
 
 -- del takes [10] from it
 del_takes_an_item : Row edited11 (command.Del 2 (at 0x10)) (says.Del dels.Fine) cut11
@@ -133,13 +138,15 @@ close_numbers_the_ledger_after_that = refl
 -- its close stores the root and the header alone, and lists [7E]
 close_lists_the_ledger_after_that : Row cut11 (command.Close 2 none) (says.Close (close.Closed (at 0x7E))) listed12
 close_lists_the_ledger_after_that =
-    step (close_gives byte_sum_half (with up_to11 (((0, 2), session11_cut) ∷ [])) (entries_of nodes11) (hashes_of nodes11) session11_cut (0, 2) none bytes12 _ (at 0x7E) _
+    step (close_gives byte_sum_half (with up_to11 (((0, 2), session11_cut) ∷ [])) (entries_of nodes11) (hashes_of nodes11)
+    session11_cut (0, 2) none bytes12 _ (at 0x7E) _
     close_numbers_the_ledger_after_that the_last_leaf_moves_up refl refl) refl tt
 
 -- a session on ledger 12
 edit_of_ledger_12 : Row listed12 (command.Edit 3 (at 0x7E)) (says.Edit edits.Fine) edited12
 unfolding walk walk_map inner_of header_of keyed_leaf_of bare_leaf_of
-edit_of_ledger_12 = step (edit_gives (with up_to12 []) (entries_of nodes12) (hashes_of nodes12) (0, 3) (at 0x7E) session12 refl refl) refl tt
+edit_of_ledger_12 = step (edit_gives (with up_to12 []) (entries_of nodes12) (hashes_of nodes12) (0, 3) (at 0x7E) session12 refl
+    refl) refl tt
 
 -- del takes its only item
 del_takes_the_last_item : Row edited12 (command.Del 3 (at 0x11)) (says.Del dels.Fine) cut12
@@ -162,4 +169,10 @@ nothing_without_a_session : Row others12 (command.Del 3 (at 0x11)) (says.Del del
     × Row others12 (command.Put 3 item11) (says.Put false) others12
     × Row others12 (command.Close 3 none) (says.Close close.NoSession) others12
     × Row others12 (command.Abandon 3) (says.Abandon false) others12
-nothing_without_a_session = (step (gives refl refl) refl tt, step (gives refl refl) refl tt, step (gives refl refl) refl tt, step (gives refl refl) refl tt)
+nothing_without_a_session = (
+  step (gives refl refl) refl tt,
+  step (gives refl refl) refl tt,
+  step (gives refl refl) refl tt,
+  step
+      (gives refl refl) refl tt,
+)

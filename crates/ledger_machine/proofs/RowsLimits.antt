@@ -30,7 +30,12 @@ abbrev session : Session
 session = record { base = at 0xDD; accounts = (at 0x10, 9 ∷ []) ∷ []; txs = [] }
 
 abbrev state10 : State
-state10 = record (opening finite.empty default_interval) { listed = (at 0xDD, 10) ∷ []; last = Some 10; sessions = ((0, 1), session) ∷ [] }
+state10 = record (opening finite.empty default_interval) {
+  listed = (at 0xDD, 10) ∷ [];
+  last = Some 10;
+  sessions =
+      ((0, 1), session) ∷ [];
+}
 
 abbrev leaf_zero : Held
 leaf_zero = leaf accounts (at 0x10) (9 ∷ [])
@@ -51,9 +56,14 @@ refused_zero : Refused byte_sum_half (store state10 nodes10) 0 (command.Close 1 
 refused_zero = record { forms = []; own = λ form c. absurd (omega (arith, c.1)); same = refl }
 
 -- the close answers the leaf, and stores nothing
-close_with_a_zero_hash : Row (store state10 nodes10) (command.Close 1 none) (says.ZeroHash (form_of leaf_zero)) (store state10 nodes10)
+close_with_a_zero_hash : Row (store state10 nodes10) (command.Close 1 none) (says.ZeroHash (form_of leaf_zero))
+    (store state10 nodes10)
 close_with_a_zero_hash =
-    step (sym (close_says byte_sum_half state10 (entries_of nodes10) (hashes_of nodes10) session none _ _ _ header_zero closing_zero refl), refused_zero) refl tt
+    step (
+      sym (close_says byte_sum_half state10 (entries_of nodes10) (hashes_of nodes10) session none _ _ _ header_zero
+          closing_zero refl),
+      refused_zero,
+    ) refl tt
 
 -- the last ledger that a header can number: its header, hash [CF], is over the root of ledger 10
 abbrev bytes_last : Bytes
@@ -66,9 +76,11 @@ abbrev nodes_last : List Held
 nodes_last = leaf10 ∷ root10 ∷ header bytes_last ∷ []
 
 -- no session is opened on it, since no ledger can come after it
-edit_of_the_last_sequence : Row (store state_last nodes_last) (command.Edit 1 (at 0xCF)) (says.Edit edits.LastSeq) (store state_last nodes_last)
+edit_of_the_last_sequence : Row (store state_last nodes_last) (command.Edit 1 (at 0xCF)) (says.Edit edits.LastSeq)
+    (store state_last nodes_last)
 unfolding header_of
-edit_of_the_last_sequence = step (edit_says state_last (entries_of nodes_last) (hashes_of nodes_last) (0, 1) (at 0xCF) edits.LastSeq _ refl refl) refl tt
+edit_of_the_last_sequence = step (edit_says state_last (entries_of nodes_last) (hashes_of nodes_last) (0, 1) (at 0xCF)
+    edits.LastSeq _ refl refl) refl tt
 
 -- an acquisition of 32 bytes 11 that has asked for the header, with so many ticks
 abbrev acquisition : ℕ → List Place → Acquisition
@@ -89,10 +101,19 @@ ticks_count : Row (acquiring (acquisition 1 [])) tick (says.Tick (ticks.Timeout 
     × Row (acquiring (acquisition 3 [])) tick (says.Tick (ticks.Timeout 4)) (acquiring (acquisition 4 []))
     × Row (acquiring (acquisition 4 [])) tick (says.Tick (ticks.Timeout 5)) (acquiring (acquisition 5 []))
     × Row (acquiring (acquisition 5 [])) tick (says.Tick (ticks.Timeout 6)) (acquiring (acquisition 6 []))
-ticks_count = (step (gives refl refl) refl tt, step (gives refl refl) refl tt, step (gives refl refl) refl tt, step (gives refl refl) refl tt, step (gives refl refl) refl tt)
+ticks_count = (
+  step (gives refl refl) refl tt,
+  step (gives refl refl) refl tt,
+  step (gives refl refl) refl tt,
+  step
+      (gives refl refl) refl tt,
+  step (gives refl refl) refl tt,
+)
 
-the_seventh_tick_gives_up : Row (acquiring (acquisition 6 [])) tick (says.Tick (ticks.GaveUp 7)) (opening finite.empty default_interval)
+the_seventh_tick_gives_up : Row (acquiring (acquisition 6 [])) tick (says.Tick (ticks.GaveUp 7))
+    (opening finite.empty default_interval)
 the_seventh_tick_gives_up = step (gives refl refl) refl tt
 
-tick_of_nothing_open : Row (opening finite.empty default_interval) tick (says.Tick ticks.NotOpen) (opening finite.empty default_interval)
+tick_of_nothing_open : Row (opening finite.empty default_interval) tick (says.Tick ticks.NotOpen)
+    (opening finite.empty default_interval)
 tick_of_nothing_open = step (gives refl refl) refl tt

@@ -30,7 +30,8 @@ use Rattle.ledger_machine.specs.Closing.{closing_forms}
 use Rattle.ledger_machine.specs.Reading.{value_in}
 use Rattle.ledger_machine.specs.Rotation.{Swapped}
 use Rattle.ledger_machine.specs.State.{State, Session, opening, roots}
-use Rattle.ledger_machine.proofs.RowValues.{at, entries_of, hashes_of, forms_in, leaf10, leaf11, root10, root12, bytes11, bytes12, nodes11, nodes12}
+use Rattle.ledger_machine.proofs.RowValues.{at, entries_of, hashes_of, forms_in, leaf10, leaf11, root10, root12, bytes11, bytes12}
+use Rattle.ledger_machine.proofs.RowValues.{nodes11, nodes12}
 use Rattle.ledger_machine.proofs.RowSteps.{in_list, over, store, Row, Reads, step, gives, edit_gives, gets_from}
 use Rattle.ledger_machine.proofs.RowClosing.{header_over, close_gives}
 use Rattle.ledger_machine.proofs.RowReach.{reach_start, reach_kid}
@@ -46,15 +47,18 @@ both = (at 0x9C, 11) ∷ (at 0xDD, 10) ∷ []
 abbrev pinned : List ((ℕ × ℕ) × Hash)
 pinned = ((0, 9), at 0xDD) ∷ []
 
-view_pins_ledger_10 : Row (store (with both []) nodes11) (command.View 9 (at 0xDD)) (says.View views.Fine) (store (with both pinned) nodes11)
+view_pins_ledger_10 : Row (store (with both []) nodes11) (command.View 9 (at 0xDD)) (says.View views.Fine)
+    (store (with both pinned) nodes11)
 view_pins_ledger_10 = step (gives refl refl) refl tt
 
 -- the rotation at ledger 11: ledger 10 isn't listed any more, but it is pinned, so it is a root
 abbrev turning11 : State
 turning11 = record (with ((at 0x9C, 11) ∷ []) pinned) { floor = 11; turning = Some 11; shaded = at 0x9C ∷ at 0xDD ∷ [] }
 
-begin_at_ledger_11 : Row (store (with both pinned) nodes11) command.Begin (says.Begin (begins.Begun 11 11)) (store turning11 nodes11)
-begin_at_ledger_11 = step (record { says = refl; after = refl }, record { only = λ h kept. kept; all = λ h reached. reached }) refl tt
+begin_at_ledger_11 : Row (store (with both pinned) nodes11) command.Begin (says.Begin (begins.Begun 11 11))
+    (store turning11 nodes11)
+begin_at_ledger_11 = step (record { says = refl; after = refl }, record { only = λ h kept. kept; all = λ h reached. reached }) refl
+    tt
 
 -- each node of both ledgers is reached
 abbrev Reached11 : Hash → Type 0
@@ -82,12 +86,14 @@ swap_keeps_the_pinned_ledger =
     step (
       refl,
       swap_may_leave turning11 (entries_of nodes11) (hashes_of nodes11) (entries_of nodes11) [] (hashes_of nodes11)
-          (refl, (refl, (refl, (refl, (refl, (refl, (refl, tt))))))) refl refl (refl, (refl, (refl, (refl, (refl, (refl, (refl, tt)))))))
+          (refl, (refl, (refl, (refl, (refl, (refl, (refl, tt))))))) refl refl
+          (refl, (refl, (refl, (refl, (refl, (refl, (refl, tt)))))))
           (born_may_stay turning11 (entries_of nodes11) (hashes_of nodes11) (hashes_of nodes11) refl),
     ) refl tt
 
 -- and no swap leaves anything else
-no_swap_loses_the_pinned_ledger : (s' : State) → Swapped (store turning11 nodes11) s' → s'.nodes ≡ finite.from_entries (entries_of nodes11)
+no_swap_loses_the_pinned_ledger : (s' : State) → Swapped (store turning11 nodes11) s'
+    → s'.nodes ≡ finite.from_entries (entries_of nodes11)
 unfolding inner_of header_of
 no_swap_loses_the_pinned_ledger =
     swap_leaves turning11 (entries_of nodes11) (hashes_of nodes11) (entries_of nodes11)
@@ -108,16 +114,23 @@ epoch_1_begins : swapped11 ≡ kept (later only11 pinned []) nodes11 []
 epoch_1_begins = refl
 
 -- the pinned ledger is read
-get_from_the_pinned_ledger : (n : Arc Node Global) → held n.value ≡ leaf10 → Reads (kept (later only11 pinned []) nodes11 []) (command.Get 9 accounts (at 0x10)) (says.Get (gets.Value n)) (root10 ∷ leaf10 ∷ [])
+get_from_the_pinned_ledger : (n : Arc Node Global) → held n.value ≡ leaf10
+    → Reads (kept (later only11 pinned []) nodes11 []) (command.Get 9 accounts (at 0x10)) (says.Get (gets.Value n))
+    (root10 ∷ leaf10 ∷ [])
 unfolding header_of
 get_from_the_pinned_ledger n is = record {
   outcome = gets_from (later only11 pinned []) (entries_of nodes11) [] accounts (at 0x10) (0, 9) (at 0xDE) _ _ refl
-      record { says = sym (ap value_in is); some = λ none. absurd (let e : Some (value (1 ∷ 2 ∷ [])) ≡ None = sym (ap value_in is) ∙ none in cc) };
+      record {
+        says = sym (ap value_in is);
+        some = λ none. absurd
+            (let e : Some (value (1 ∷ 2 ∷ [])) ≡ None = sym (ap value_in is) ∙ none in cc);
+      };
   uses = tt;
   carries = tt;
 }
 
-unview_frees_it : Row (kept (later only11 pinned []) nodes11 []) (command.Unview 9) (says.Unview true) (kept (later only11 [] []) nodes11 [])
+unview_frees_it : Row (kept (later only11 pinned []) nodes11 []) (command.Unview 9) (says.Unview true)
+    (kept (later only11 [] []) nodes11 [])
 unview_frees_it = step (gives refl refl) refl tt
 
 -- a session on ledger 11, without [10]
@@ -127,11 +140,13 @@ session11 = record { base = at 0x9C; accounts = (at 0x10, 1 ∷ 2 ∷ []) ∷ (a
 abbrev session11_cut : Session
 session11_cut = record { base = at 0x9C; accounts = (at 0x11, 5 ∷ []) ∷ []; txs = [] }
 
-edit_of_ledger_11 : Row (kept (later only11 [] []) nodes11 []) (command.Edit 2 (at 0x9C)) (says.Edit edits.Fine) (kept (later only11 [] (((0, 2), session11) ∷ [])) nodes11 [])
+edit_of_ledger_11 : Row (kept (later only11 [] []) nodes11 []) (command.Edit 2 (at 0x9C)) (says.Edit edits.Fine)
+    (kept (later only11 [] (((0, 2), session11) ∷ [])) nodes11 [])
 unfolding walk walk_map inner_of header_of keyed_leaf_of bare_leaf_of
 edit_of_ledger_11 = step (edit_gives (later only11 [] []) (entries_of nodes11) [] (0, 2) (at 0x9C) session11 refl refl) refl tt
 
-del_of_an_item : Row (kept (later only11 [] (((0, 2), session11) ∷ [])) nodes11 []) (command.Del 2 (at 0x10)) (says.Del dels.Fine) (kept (later only11 [] (((0, 2), session11_cut) ∷ [])) nodes11 [])
+del_of_an_item : Row (kept (later only11 [] (((0, 2), session11) ∷ [])) nodes11 []) (command.Del 2 (at 0x10)) (says.Del dels.Fine)
+    (kept (later only11 [] (((0, 2), session11_cut) ∷ [])) nodes11 [])
 del_of_an_item = step (gives refl refl) refl tt
 
 abbrev none : List ℕ
@@ -152,16 +167,20 @@ new12 = header bytes12 ∷ root12 ∷ []
 abbrev to12 : List (Hash × ℕ)
 to12 = (at 0x7E, 12) ∷ only11
 
-close_of_ledger_12 : Row (kept (later only11 [] (((0, 2), session11_cut) ∷ [])) nodes11 []) (command.Close 2 none) (says.Close (close.Closed (at 0x7E))) (kept (later to12 [] []) nodes12 new12)
+close_of_ledger_12 : Row (kept (later only11 [] (((0, 2), session11_cut) ∷ [])) nodes11 []) (command.Close 2 none)
+    (says.Close (close.Closed (at 0x7E))) (kept (later to12 [] []) nodes12 new12)
 close_of_ledger_12 =
-    step (close_gives byte_sum_half (later only11 [] (((0, 2), session11_cut) ∷ [])) (entries_of nodes11) [] session11_cut (0, 2) none bytes12 _ (at 0x7E) _ header12 closing12 refl refl) refl tt
+    step (close_gives byte_sum_half (later only11 [] (((0, 2), session11_cut) ∷ [])) (entries_of nodes11) [] session11_cut (0, 2)
+    none bytes12 _ (at 0x7E) _ header12 closing12 refl refl) refl tt
 
 -- the rotation at ledger 12, the only root
 abbrev turning12 : State
 turning12 = record (later ((at 0x7E, 12) ∷ []) [] []) { floor = 12; turning = Some 12; shaded = at 0x7E ∷ [] }
 
-begin_at_ledger_12 : Row (kept (later to12 [] []) nodes12 new12) command.Begin (says.Begin (begins.Begun 12 12)) (kept turning12 nodes12 new12)
-begin_at_ledger_12 = step (record { says = refl; after = refl }, record { only = λ h kept. kept; all = λ h reached. reached }) refl tt
+begin_at_ledger_12 : Row (kept (later to12 [] []) nodes12 new12) command.Begin (says.Begin (begins.Begun 12 12))
+    (kept turning12 nodes12 new12)
+begin_at_ledger_12 = step (record { says = refl; after = refl }, record { only = λ h kept. kept; all = λ h reached. reached }) refl
+    tt
 
 -- the three forms that stay: the header, the root and the leaf of ledger 12
 abbrev three : List Held
@@ -178,7 +197,8 @@ three_are_reached =
     let l11 : Reached12 (at 0xFD) = reach_kid (at 0xFD) _ _ r12 refl refl refl in
     (h12, (r12, (l11, tt)))
 
-swap_drops_the_old_ledgers : Row (kept turning12 nodes12 new12) command.Swap (says.Swap (swaps.Swapped 2)) (swapped_to turning12 (entries_of three) [])
+swap_drops_the_old_ledgers : Row (kept turning12 nodes12 new12) command.Swap (says.Swap (swaps.Swapped 2))
+    (swapped_to turning12 (entries_of three) [])
 unfolding inner_of header_of
 swap_drops_the_old_ledgers =
     step (
@@ -191,19 +211,24 @@ swap_drops_the_old_ledgers =
 three_forms_stay : (s' : State) → Swapped (kept turning12 nodes12 new12) s' → s'.nodes ≡ finite.from_entries (entries_of three)
 unfolding inner_of header_of
 three_forms_stay =
-    swap_leaves turning12 (entries_of nodes12) (hashes_of new12) (entries_of three) (refl, (refl, (refl, tt))) three_are_reached refl refl refl refl
+    swap_leaves turning12 (entries_of nodes12) (hashes_of new12) (entries_of three) (refl, (refl, (refl, tt))) three_are_reached
+    refl refl refl refl
 
 -- so one that leaves the archive in place, with all that it had, is none
-a_swap_drops_the_archive : (shaded : List Hash) → Swapped (kept turning12 nodes12 new12) (swapped_to turning12 (entries_of nodes12) shaded) → ⊥
+a_swap_drops_the_archive : (shaded : List Hash) → Swapped (kept turning12 nodes12 new12)
+    (swapped_to turning12 (entries_of nodes12) shaded) → ⊥
 unfolding inner_of header_of
 a_swap_drops_the_archive shaded w =
     ⊎_elim (λ e. true≢false (sym e)) (λ e. true≢false (sym e))
-    (swap_may_not_hold turning12 (entries_of nodes12) (hashes_of new12) (entries_of nodes12) shaded (hashes_of three) (at 0x9C) (form_of (header bytes11)) refl refl refl w)
+    (swap_may_not_hold turning12 (entries_of nodes12) (hashes_of new12) (entries_of nodes12) shaded (hashes_of three) (at 0x9C)
+    (form_of (header bytes11)) refl refl refl w)
 
 -- and one that forgets the leaf, which was written before this epoch, is none either
-a_swap_copies_what_is_older : (shaded : List Hash) → Swapped (kept turning12 nodes12 new12) (swapped_to turning12 (entries_of new12) shaded) → ⊥
+a_swap_copies_what_is_older : (shaded : List Hash) → Swapped (kept turning12 nodes12 new12)
+    (swapped_to turning12 (entries_of new12) shaded) → ⊥
 a_swap_copies_what_is_older shaded w =
-    let lost : None ≡ Some (form_of leaf11) = swap_may_not_lose turning12 (entries_of nodes12) (hashes_of new12) (entries_of new12) shaded (at 0xFD) three_are_reached.1.1.0 w in
+    let lost : None ≡ Some (form_of leaf11) = swap_may_not_lose turning12 (entries_of nodes12) (hashes_of new12) (entries_of new12)
+    shaded (at 0xFD) three_are_reached.1.1.0 w in
     absurd cc
 
 -- the end: ledger 12 alone is listed, last and floor are 12, and the epoch is 2

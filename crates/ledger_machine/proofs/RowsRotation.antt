@@ -18,7 +18,8 @@ use Rattle.ledger_machine.specs.declared.replies.Reply.TheVariants as says
 use Rattle.ledger_machine.specs.State.{State, Session, roots, opening, fresh}
 use Rattle.ledger_machine.specs.Closing.{closing_forms}
 use Rattle.ledger_machine.specs.Rotation.{Swapped, Carries}
-use Rattle.ledger_machine.proofs.RowValues.{at, entries_of, hashes_of, forms_in, leaf10, leaf11, inner11, root11, root12, leaf20, root_of_two}
+use Rattle.ledger_machine.proofs.RowValues.{at, entries_of, hashes_of, forms_in, leaf10, leaf11, inner11, root11, root12, leaf20}
+use Rattle.ledger_machine.proofs.RowValues.{root_of_two}
 use Rattle.ledger_machine.proofs.RowValues.{bytes11, bytes12, bytes13, bytes14, nodes12, nodes13, nodes14}
 use Rattle.ledger_machine.proofs.RowSteps.{in_list, store, Row, step, gives}
 use Rattle.ledger_machine.proofs.RowClosing.{header_over, close_gives}
@@ -55,25 +56,32 @@ header14 : header_over byte_sum_half (entries_of nodes13) session13 none ≡ byt
 unfolding form_of_part form_at header_bytes header_of
 header14 = refl
 
-closing13 : closing_forms byte_sum_half session12 bytes13 ≡ forms_in (leaf11 ∷ leaf20 7 ∷ root_of_two (at 0x0E) ∷ header bytes13 ∷ [])
+closing13 : closing_forms byte_sum_half session12 bytes13 ≡ forms_in
+    (leaf11 ∷ leaf20 7 ∷ root_of_two (at 0x0E) ∷ header bytes13 ∷ [])
 unfolding form_of_part form_at forms_of_part
 closing13 = refl
 
-closing14 : closing_forms byte_sum_half session13 bytes14 ≡ forms_in (leaf11 ∷ leaf20 8 ∷ root_of_two (at 0x0F) ∷ header bytes14 ∷ [])
+closing14 : closing_forms byte_sum_half session13 bytes14 ≡ forms_in
+    (leaf11 ∷ leaf20 8 ∷ root_of_two (at 0x0F) ∷ header bytes14 ∷ [])
 unfolding form_of_part form_at forms_of_part
 closing14 = refl
 
 -- ledger 13 is [6F], and ledger 14 is [62]
-close_of_ledger_13 : Row (store (with up_to12 (((0, 3), session12) ∷ [])) nodes12) (command.Close 3 none) (says.Close (close.Closed (at 0x6F))) (store (with up_to13 []) nodes13)
+close_of_ledger_13 : Row (store (with up_to12 (((0, 3), session12) ∷ [])) nodes12) (command.Close 3 none)
+    (says.Close (close.Closed (at 0x6F))) (store (with up_to13 []) nodes13)
 close_of_ledger_13 =
-    step (close_gives byte_sum_half (with up_to12 (((0, 3), session12) ∷ [])) (entries_of nodes12) (hashes_of nodes12) session12 (0, 3) none bytes13 _ (at 0x6F) _ header13 closing13 refl refl) refl tt
+    step (close_gives byte_sum_half (with up_to12 (((0, 3), session12) ∷ [])) (entries_of nodes12) (hashes_of nodes12) session12
+    (0, 3) none bytes13 _ (at 0x6F) _ header13 closing13 refl refl) refl tt
 
-close_of_ledger_14 : Row (store (with up_to13 (((0, 4), session13) ∷ [])) nodes13) (command.Close 4 none) (says.Close (close.Closed (at 0x62))) (store (with up_to14 []) nodes14)
+close_of_ledger_14 : Row (store (with up_to13 (((0, 4), session13) ∷ [])) nodes13) (command.Close 4 none)
+    (says.Close (close.Closed (at 0x62))) (store (with up_to14 []) nodes14)
 close_of_ledger_14 =
-    step (close_gives byte_sum_half (with up_to13 (((0, 4), session13) ∷ [])) (entries_of nodes13) (hashes_of nodes13) session13 (0, 4) none bytes14 _ (at 0x62) _ header14 closing14 refl refl) refl tt
+    step (close_gives byte_sum_half (with up_to13 (((0, 4), session13) ∷ [])) (entries_of nodes13) (hashes_of nodes13) session13
+    (0, 4) none bytes14 _ (at 0x62) _ header14 closing14 refl refl) refl tt
 
 -- at ledger 13 no rotation is due, as 13 is less than 10 + 4
-begin_before_it_is_due : Row (store (with up_to13 []) nodes13) command.Begin (says.Begin begins.NotDue) (store (with up_to13 []) nodes13)
+begin_before_it_is_due : Row (store (with up_to13 []) nodes13) command.Begin (says.Begin begins.NotDue)
+    (store (with up_to13 []) nodes13)
 begin_before_it_is_due = step (gives refl refl, tt) refl tt
 
 -- what the rotation is told to keep: ledgers 11 to 14
@@ -92,7 +100,8 @@ turning = record (opening finite.empty 4) {
 
 -- begin fixes the greatest listed sequence, and shades the roots
 begin_at_ledger_14 : Row (store (with up_to14 []) nodes14) command.Begin (says.Begin (begins.Begun 14 11)) (store turning nodes14)
-begin_at_ledger_14 = step (record { says = refl; after = refl }, record { only = λ h kept. kept; all = λ h reached. reached }) refl tt
+begin_at_ledger_14 = step (record { says = refl; after = refl }, record { only = λ h kept. kept; all = λ h reached. reached }) refl
+    tt
 
 -- a second one is busy
 begin_again : Row (store turning nodes14) command.Begin (says.Begin begins.Busy) (store turning nodes14)
@@ -103,7 +112,8 @@ view_of_an_old_ledger : Row (store turning nodes14) (command.View 1 (at 0xDD)) (
 view_of_an_old_ledger = step (gives refl refl) refl (carries_on _ _ _ refl refl refl)
 
 -- nor is it wanted by its sequence
-want_of_an_old_ledger : Row (store turning nodes14) (command.Want (at 0xDD) 10) (says.Want (wants.BelowFloor 11)) (store turning nodes14)
+want_of_an_old_ledger : Row (store turning nodes14) (command.Want (at 0xDD) 10) (says.Want (wants.BelowFloor 11))
+    (store turning nodes14)
 want_of_an_old_ledger = step (gives refl refl) refl (carries_on _ _ _ refl refl refl)
 
 -- ledger 11 is, and the view pins it
@@ -115,15 +125,18 @@ view_while_turning = step (gives refl refl) refl (carries_on _ _ _ refl refl ref
 
 -- what the roots reach: all but ledger 10's header and root
 abbrev nodes_kept : List Held
-nodes_kept = header bytes14 ∷ root_of_two (at 0x0F) ∷ leaf20 8 ∷ header bytes13 ∷ root_of_two (at 0x0E) ∷ leaf20 7 ∷ header bytes12 ∷ root12
+nodes_kept = header bytes14 ∷ root_of_two (at 0x0F) ∷ leaf20 8 ∷ header bytes13 ∷ root_of_two (at 0x0E) ∷ leaf20 7 ∷ header bytes12
+    ∷ root12
     ∷ header bytes11 ∷ root11 ∷ inner11 ∷ leaf11 ∷ leaf10 ∷ []
 
 abbrev nodes14_but_leaf10 : List Held
-nodes14_but_leaf10 = header bytes14 ∷ root_of_two (at 0x0F) ∷ leaf20 8 ∷ header bytes13 ∷ root_of_two (at 0x0E) ∷ leaf20 7 ∷ header bytes12 ∷ root12
+nodes14_but_leaf10 = header bytes14 ∷ root_of_two (at 0x0F) ∷ leaf20 8 ∷ header bytes13 ∷ root_of_two (at 0x0E) ∷ leaf20 7 ∷ header
+    bytes12 ∷ root12
     ∷ header bytes11 ∷ root11 ∷ inner11 ∷ leaf11 ∷ []
 
 -- a swap may leave exactly that
-swap_to_what_is_reached : Row (store viewed nodes14) command.Swap (says.Swap (swaps.Swapped 1)) (swapped_to viewed (entries_of nodes_kept) [])
+swap_to_what_is_reached : Row (store viewed nodes14) command.Swap (says.Swap (swaps.Swapped 1))
+    (swapped_to viewed (entries_of nodes_kept) [])
 unfolding inner_of header_of
 swap_to_what_is_reached =
     step (
@@ -136,25 +149,29 @@ swap_to_what_is_reached =
     ) refl tt
 
 -- no swap loses the leaf [10], which the view of ledger 11 reaches
-a_swap_loses_no_leaf : (shaded : List Hash) → Swapped (store viewed nodes14) (swapped_to viewed (entries_of nodes14_but_leaf10) shaded) → ⊥
+a_swap_loses_no_leaf : (shaded : List Hash) → Swapped (store viewed nodes14)
+    (swapped_to viewed (entries_of nodes14_but_leaf10) shaded) → ⊥
 unfolding inner_of header_of
 a_swap_loses_no_leaf shaded w =
     let root : Reach (in_list (entries_of nodes14)) (roots viewed) (at 0x9C) = reach_start (roots viewed) (at 0x9C) _ refl refl in
     let above : Reach (in_list (entries_of nodes14)) (roots viewed) (at 0xBF) = reach_kid (at 0xBF) _ _ root refl refl refl in
     let below : Reach (in_list (entries_of nodes14)) (roots viewed) (at 0xDB) = reach_kid (at 0xDB) _ _ above refl refl refl in
     let leaf : Reach (in_list (entries_of nodes14)) (roots viewed) (at 0xFA) = reach_kid (at 0xFA) _ _ below refl refl refl in
-    let lost : None ≡ Some (form_of leaf10) = swap_may_not_lose viewed (entries_of nodes14) (hashes_of nodes14) (entries_of nodes14_but_leaf10) shaded (at 0xFA) leaf w in
+    let lost : None ≡ Some (form_of leaf10) = swap_may_not_lose viewed (entries_of nodes14) (hashes_of nodes14)
+    (entries_of nodes14_but_leaf10) shaded (at 0xFA) leaf w in
     absurd cc
 
 -- after the swap a second one is idle
-swap_of_nothing : Row (swapped_to viewed (entries_of nodes_kept) []) command.Swap (says.Swap swaps.Idle) (swapped_to viewed (entries_of nodes_kept) [])
+swap_of_nothing : Row (swapped_to viewed (entries_of nodes_kept) []) command.Swap (says.Swap swaps.Idle)
+    (swapped_to viewed (entries_of nodes_kept) [])
 swap_of_nothing = step (gives refl refl) refl tt
 
 -- a want of ledger 10 by any sequence, while its header is stored, shades it
 abbrev wanting : List Hash → State
 wanting shaded = record turning { wanted = (at 0xDD, fresh 0) ∷ []; shaded = shaded }
 
-a_want_shades_its_target : Row (store turning nodes14) (command.Want (at 0xDD) 0) (says.Want wants.Opened) (store (wanting (at 0xDD ∷ kept14)) nodes14)
+a_want_shades_its_target : Row (store turning nodes14) (command.Want (at 0xDD) 0) (says.Want wants.Opened)
+    (store (wanting (at 0xDD ∷ kept14)) nodes14)
 a_want_shades_its_target =
     step (record { says = refl; after = refl }) refl
     record {
@@ -168,4 +185,5 @@ a_want_leaves_no_target_unshaded : Carries (store turning nodes14) (store (wanti
 unfolding inner_of header_of
 a_want_leaves_no_target_unshaded w =
     true≢false (sym (reach_within (in_list (entries_of nodes14)) kept14 (hashes_of nodes_kept) refl refl
-    (reach_off (entries_of nodes14) (w.roots_kept (at 0xDD) (reach_on (entries_of nodes14) (reach_start (roots (wanting kept14)) (at 0xDD) _ refl refl))))))
+    (reach_off (entries_of nodes14) (w.roots_kept (at 0xDD) (reach_on (entries_of nodes14)
+    (reach_start (roots (wanting kept14)) (at 0xDD) _ refl refl))))))

@@ -33,7 +33,8 @@ abbrev viewed10 : State
 viewed10 = with (at 0xDD) (((0, 7), at 0xDD) ∷ [])
 
 -- a view of a listed ledger
-view_of_a_listed_ledger : Row (store (with (at 0xDD) []) nodes10) (command.View 7 (at 0xDD)) (says.View views.Fine) (store viewed10 nodes10)
+view_of_a_listed_ledger : Row (store (with (at 0xDD) []) nodes10) (command.View 7 (at 0xDD)) (says.View views.Fine)
+    (store viewed10 nodes10)
 view_of_a_listed_ledger = step (gives refl refl) refl tt
 
 -- a number that the actor uses is in use
@@ -41,11 +42,16 @@ view_number_in_use : Row (store viewed10 nodes10) (command.View 7 (at 0xDD)) (sa
 view_number_in_use = step (gives refl refl) refl tt
 
 -- the item [10], by the root and the leaf
-get_gives_the_value : (n : Arc Node Global) → held n.value ≡ leaf10 → Reads (store viewed10 nodes10) (command.Get 7 accounts (at 0x10)) (says.Get (gets.Value n)) (root10 ∷ leaf10 ∷ [])
+get_gives_the_value : (n : Arc Node Global) → held n.value ≡ leaf10
+    → Reads (store viewed10 nodes10) (command.Get 7 accounts (at 0x10)) (says.Get (gets.Value n)) (root10 ∷ leaf10 ∷ [])
 unfolding header_of
 get_gives_the_value n is = record {
   outcome = gets_from viewed10 (entries_of nodes10) (hashes_of nodes10) accounts (at 0x10) (0, 7) (at 0xDE) _ _ refl
-      record { says = sym (ap value_in is); some = λ none. absurd (let e : Some (value (1 ∷ 2 ∷ [])) ≡ None = sym (ap value_in is) ∙ none in cc) };
+      record {
+        says = sym (ap value_in is);
+        some = λ none. absurd
+            (let e : Some (value (1 ∷ 2 ∷ [])) ≡ None = sym (ap value_in is) ∙ none in cc);
+      };
   uses = tt;
   carries = tt;
 }
@@ -54,7 +60,8 @@ get_gives_the_value n is = record {
 get_of_no_item : Reads (store viewed10 nodes10) (command.Get 7 accounts (at 0x20)) (says.Get gets.Nothing) (root10 ∷ [])
 unfolding header_of
 get_of_no_item = record {
-  outcome = gets_from viewed10 (entries_of nodes10) (hashes_of nodes10) accounts (at 0x20) (0, 7) (at 0xDE) _ _ refl record { says = refl; some = λ none. absurd cc };
+  outcome = gets_from viewed10 (entries_of nodes10) (hashes_of nodes10) accounts (at 0x20) (0, 7) (at 0xDE) _ _ refl record
+      { says = refl; some = λ none. absurd cc };
   uses = tt;
   carries = tt;
 }
@@ -63,13 +70,15 @@ get_of_no_item = record {
 get_in_an_empty_map : Reads (store viewed10 nodes10) (command.Get 7 txs (at 0x10)) (says.Get gets.Nothing) []
 unfolding header_of
 get_in_an_empty_map = record {
-  outcome = gets_from viewed10 (entries_of nodes10) (hashes_of nodes10) txs (at 0x10) (0, 7) zero_hash _ _ refl record { says = refl; some = λ none. absurd cc };
+  outcome = gets_from viewed10 (entries_of nodes10) (hashes_of nodes10) txs (at 0x10) (0, 7) zero_hash _ _ refl record
+      { says = refl; some = λ none. absurd cc };
   uses = tt;
   carries = tt;
 }
 
 -- the number is the actor's own: without a view of that number there is no read
-get_without_a_view : Row (store (with (at 0xDD) (((1, 7), at 0xDD) ∷ [])) nodes10) (command.Get 7 txs (at 0x10)) (says.Get gets.NoView) (store (with (at 0xDD) (((1, 7), at 0xDD) ∷ [])) nodes10)
+get_without_a_view : Row (store (with (at 0xDD) (((1, 7), at 0xDD) ∷ [])) nodes10) (command.Get 7 txs (at 0x10))
+    (says.Get gets.NoView) (store (with (at 0xDD) (((1, 7), at 0xDD) ∷ [])) nodes10)
 get_without_a_view = step (gives refl refl) refl tt
 
 -- the items behind [00], at most two: the root and the leaf say them
@@ -97,7 +106,8 @@ page_lists_the_items leaves are every = record {
   outcome = pages_from viewed10 (entries_of nodes10) (hashes_of nodes10) accounts zero_hash 2 (0, 7) (at 0xDE) _ _ refl record {
     page = page10;
     says = ap (λ (p : Items). Some p) are;
-    own = sym (read_off (λ nodes. after_key zero_hash 2 (items_of byte_sum_half nodes accounts (at 0xDE))) (entries_of nodes10) page10 refl);
+    own = sym (read_off (λ nodes. after_key zero_hash 2 (items_of byte_sum_half nodes accounts (at 0xDE))) (entries_of nodes10)
+        page10 refl);
     stored = λ u used. All-contains IsStored10 (root10 ∷ leaf10 ∷ []) u both_are_stored used;
     every = every;
   };
@@ -125,7 +135,8 @@ abbrev viewed_tx : State
 viewed_tx = with (at 0xD8) (((0, 1), at 0xD8) ∷ [])
 
 -- both maps are searched, the account state first
-both_maps_are_searched : findings byte_sum_half (in_list (entries_of with_roots)) (at 0xD8) ≡ lacks (place.Node accounts (1 ∷ [])) ∷ lacks (place.Node txs (3 ∷ [])) ∷ []
+both_maps_are_searched : findings byte_sum_half (in_list (entries_of with_roots)) (at 0xD8) ≡ lacks (place.Node accounts (1 ∷ []))
+    ∷ lacks (place.Node txs (3 ∷ [])) ∷ []
 unfolding walk walk_map walk_ledger inner_of header_of keyed_leaf_of bare_leaf_of
 both_maps_are_searched = refl
 
@@ -135,11 +146,16 @@ unfolding walk walk_map walk_ledger inner_of header_of keyed_leaf_of bare_leaf_o
 both_maps_are_whole = refl
 
 -- a read in the transaction map
-get_in_the_transaction_map : (n : Arc Node Global) → held n.value ≡ tx_leaf → Reads (store viewed_tx nodes_tx) (command.Get 1 txs (at 0x30)) (says.Get (gets.Value n)) (tx_root ∷ tx_leaf ∷ [])
+get_in_the_transaction_map : (n : Arc Node Global) → held n.value ≡ tx_leaf
+    → Reads (store viewed_tx nodes_tx) (command.Get 1 txs (at 0x30)) (says.Get (gets.Value n)) (tx_root ∷ tx_leaf ∷ [])
 unfolding header_of
 get_in_the_transaction_map n is = record {
   outcome = gets_from viewed_tx (entries_of nodes_tx) (hashes_of nodes_tx) txs (at 0x30) (0, 1) (at 0xFB) _ _ refl
-      record { says = sym (ap value_in is); some = λ none. absurd (let e : Some (value (2 ∷ [])) ≡ None = sym (ap value_in is) ∙ none in cc) };
+      record {
+        says = sym (ap value_in is);
+        some = λ none. absurd
+            (let e : Some (value (2 ∷ [])) ≡ None = sym (ap value_in is) ∙ none in cc);
+      };
   uses = tt;
   carries = tt;
 }
@@ -148,7 +164,8 @@ get_in_the_transaction_map n is = record {
 get_of_no_account : Reads (store viewed_tx nodes_tx) (command.Get 1 accounts (at 0x30)) (says.Get gets.Nothing) (root10 ∷ [])
 unfolding header_of
 get_of_no_account = record {
-  outcome = gets_from viewed_tx (entries_of nodes_tx) (hashes_of nodes_tx) accounts (at 0x30) (0, 1) (at 0xDE) _ _ refl record { says = refl; some = λ none. absurd cc };
+  outcome = gets_from viewed_tx (entries_of nodes_tx) (hashes_of nodes_tx) accounts (at 0x30) (0, 1) (at 0xDE) _ _ refl record
+      { says = refl; some = λ none. absurd cc };
   uses = tt;
   carries = tt;
 }
@@ -157,5 +174,6 @@ get_of_no_account = record {
 unview_ends_the_view : Row (store viewed_tx nodes_tx) (command.Unview 1) (says.Unview true) (store (with (at 0xD8) []) nodes_tx)
 unview_ends_the_view = step (gives refl refl) refl tt
 
-unview_of_no_view : Row (store (with (at 0xD8) []) nodes_tx) (command.Unview 1) (says.Unview false) (store (with (at 0xD8) []) nodes_tx)
+unview_of_no_view : Row (store (with (at 0xD8) []) nodes_tx) (command.Unview 1) (says.Unview false)
+    (store (with (at 0xD8) []) nodes_tx)
 unview_of_no_view = step (gives refl refl) refl tt
