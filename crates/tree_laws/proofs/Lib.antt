@@ -1,4 +1,6 @@
 pub mod Trees
+pub mod Parts
+pub mod Subtrees
 pub mod Shapes
 pub mod Orders
 pub mod Sights

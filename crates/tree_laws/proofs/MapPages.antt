@@ -23,7 +23,7 @@ use Rattle.tree_laws.proofs.Shapes.{below_at, KeepsLeaf, keeps_leaf}
 use Rattle.tree_laws.proofs.Standing.{Here, node_at, empty_at, Leaf, leaf_at, step, at_root}
 use Rattle.tree_laws.proofs.ByteItems.{keys_of_items}
 use Rattle.tree_laws.proofs.Orders.{branch_less}
-use Rattle.tree_laws.proofs.WholeLaw.{filter_none, filter_all, under_up, under_other}
+use Rattle.tree_laws.proofs.Parts.{filter_none, filter_all, under_up, under_other}
 use Rattle.tree_laws.proofs.PageLaw.{page_says}
 
 -- a map's entries that pass a test are a map

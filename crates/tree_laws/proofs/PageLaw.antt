@@ -23,7 +23,7 @@ use Rattle.ledger_spec.specs.Pages.{leaf_entries, said_by, said_at, is_skipped, 
 use Rattle.tree_laws.proofs.Trees.{under_begins}
 use Rattle.tree_laws.proofs.Shapes.{none_is}
 use Rattle.tree_laws.proofs.Orders.{nibbles_cmp}
-use Rattle.tree_laws.proofs.WholeLaw.{filter_none}
+use Rattle.tree_laws.proofs.Parts.{filter_none}
 
 -- the first entries of a join
 take_join : {X : Type 0} (n : ℕ) (xs ys : List X) → take n (xs ++ ys) ≡ take n xs ++ take (n - length (take n xs)) ys

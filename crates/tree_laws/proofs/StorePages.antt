@@ -19,7 +19,8 @@ use Rattle.ledger_spec.proofs.Readings.{sees}
 use Rattle.tree_laws.proofs.Shapes.{KeepsLeaf, keeps_leaf}
 use Rattle.tree_laws.proofs.Orders.{all_append, all_weaker}
 use Rattle.tree_laws.proofs.Sights.{sees_sound}
-use Rattle.tree_laws.proofs.WholeLaw.{under_up, found_join}
+use Rattle.tree_laws.proofs.Parts.{under_up}
+use Rattle.tree_laws.proofs.WholeLaw.{found_join}
 use Rattle.tree_laws.proofs.PageLaw.{Says, page_says}
 
 module _ (half : Half) (nodes : Lookup) (kind : Kind) where

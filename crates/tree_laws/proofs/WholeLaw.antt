@@ -31,50 +31,11 @@ use Rattle.ledger_spec.specs.Commits.{AreOwn, AreByteForms, IsWholeMap, Commits}
 use Rattle.ledger_spec.proofs.Readings.{holds, holds_header}
 use Rattle.ledger_spec.proofs.Growth.{found, met, no_cons, both_nil}
 use Rattle.tree_laws.proofs.Trees.{Sized, under_begins, under_from, kid_hash, concat_map}
+use Rattle.tree_laws.proofs.Parts.{filter_all, filter_none, filter_twice, under_up, under_other}
 use Rattle.tree_laws.proofs.Sights.{Sees, sees_sound}
 use Rattle.tree_laws.proofs.ByteItems.{byte_items}
 use Rattle.tree_laws.proofs.Shapes.{zero_is, KeepsLeaf, keeps_leaf, above_bottom}
 use Rattle.tree_laws.proofs.Orders.{all_append, all_weaker, map_branches}
-
--- a list under a test that lets all through, or nothing
-pub filter_all : (test : Entry → Bool) (xs : Items) → AllByRecursion (λ e. test e ≡ true) xs → filter test xs ≡ xs
-filter_all test [] all = refl
-filter_all test (x ∷ xs) all = cond-true (test x) _ _ all.0 ∙ ap (λ l. x ∷ l) (filter_all test xs all.1)
-
-pub filter_none : (test : Entry → Bool) (xs : Items) → AllByRecursion (λ e. test e ≡ false) xs → filter test xs ≡ []
-filter_none test [] all = refl
-filter_none test (x ∷ xs) all = cond-false (test x) _ _ all.0 ∙ filter_none test xs all.1
-
--- two tests in a row, the second narrower
-pub filter_twice : (wide narrow : Entry → Bool) → ((e : Entry) → narrow e ≡ true → wide e ≡ true) → (xs : Items) → filter narrow (filter wide xs) ≡ filter narrow xs
-filter_twice wide narrow within [] = refl
-filter_twice wide narrow within (x ∷ xs) = by_test (wide x) (narrow x) refl refl (filter_twice wide narrow within xs)
-  where
-    by_test : (w n : Bool) → wide x ≡ w → narrow x ≡ n → filter narrow (filter wide xs) ≡ filter narrow xs → filter narrow (cond w (x ∷ filter wide xs) (filter wide xs)) ≡ cond n (x ∷ filter narrow xs) (filter narrow xs)
-    by_test true true is_w is_n rest = cond-true (narrow x) _ _ is_n ∙ ap (λ l. x ∷ l) rest
-    by_test true false is_w is_n rest = cond-false (narrow x) _ _ is_n ∙ rest
-    by_test false true is_w is_n rest = absurd (false≢true (sym is_w ∙ within x is_n))
-    by_test false false is_w is_n rest = rest
-
--- what lies under a branch lies under the path, and under no other branch
-pub under_up : (path : List ℕ) (b : ℕ) (k : Hash) → lies_under (path ++ b ∷ []) k ≡ true → lies_under path k ≡ true
-under_up path b k under =
-    let front : path ≡ take (length path) (nibbles k) =
-    sym (take-append_seam path (b ∷ [])) ∙ ap (take (length path)) (under_begins (path ++ b ∷ []) k under)
-    ∙ take-take (length path) (length (path ++ b ∷ [])) (nibbles k) (omega (arith, length-append path (b ∷ [])))
-    in
-    under_from path k front
-
-pub under_other : (path : List ℕ) (b c : ℕ) (k : Hash) → (b ≡ c → ⊥) → lies_under (path ++ b ∷ []) k ≡ true → lies_under (path ++ c ∷ []) k ≡ false
-under_other path b c k differ under = by_test (lies_under (path ++ c ∷ []) k) refl
-  where
-    by_test : (t : Bool) → lies_under (path ++ c ∷ []) k ≡ t → lies_under (path ++ c ∷ []) k ≡ false
-    by_test false is = is
-    by_test true is =
-        let sizes : length (path ++ b ∷ []) ≡ length (path ++ c ∷ []) = omega (arith, length-append path (b ∷ []), length-append path (c ∷ [])) in
-        let one : path ++ b ∷ [] ≡ path ++ c ∷ [] = under_begins (path ++ b ∷ []) k under ∙ ap (λ n. take n (nibbles k)) sizes ∙ sym (under_begins (path ++ c ∷ []) k is) in
-        let same : b ≡ c = (same_from_push path path b c one).1 in
-        absurd (differ same)
 
 -- nothing is found in a join where nothing is found in each part
 pub clean_each : {A B F : Type 0} (find : B → Option F) (f : A → List B) (xs : List A) → filter_map find (flat_map f xs) ≡ [] → AllByRecursion (λ x. filter_map find (f x) ≡ []) xs
