@@ -11,7 +11,8 @@ use Rattle.ledger_spec.specs.Header.{state_root_of, tx_root_of}
 use Rattle.ledger_spec.specs.Forms.{header, header_of}
 use Rattle.ledger_spec.specs.Findings.{Sight, missing, broken, sound, Finding, lacks, breaks, finding_at, findings, walk, walk_map}
 use Rattle.ledger_spec.specs.Findings.{walk_ledger, header_sight, header_or_foreign, maps_of}
-use Rattle.missing_walk.specs.Sees.{Seen, is_over, noted, sees, finding_of, found_below, found_in_maps, HasMissing}
+use Rattle.missing_walk.specs.Sees.{Seen, is_over, noted, sees, found_in_maps, HasMissing}
+use Rattle.tree_laws.specs.Walks.{finding_of, found_below}
 use Rattle.missing_walk.proofs.Noting.{sees-append, sees_one, keeps_missing, missing_noted}
 
 maps_found : (half : Half) (nodes : Lookup) (bytes : Bytes)

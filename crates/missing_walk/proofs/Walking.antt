@@ -14,11 +14,12 @@ use Rattle.ledger_spec.specs.Findings.{lacks, breaks, finding_at}
 use Rattle.std.proofs.lemmas.Bool.Decides.{nat_tests}
 use Rattle.ledger_spec.specs.Rules.{fault_of}
 use Rattle.shamap_node.specs.declared.parts.Inner.{Inner}
-use Rattle.missing_walk.specs.Sees.{Seen, is_over, noted, sees, found_below, found_in, is_sound_leaf, LooksAs, HasMissing}
+use Rattle.missing_walk.specs.Sees.{Seen, is_over, noted, sees, is_sound_leaf, LooksAs, HasMissing}
 use Rattle.missing_walk.specs.declared.sight.Sight.{Sight as Look}
 use Rattle.missing_walk.specs.declared.sight.Sight.TheVariants as look
 use Rattle.missing_walk.proofs.Noting.{sees-append, sees_over, sees_one, keeps_missing, missing_noted}
-use Rattle.missing_walk.proofs.Below.{at_place, below_zero, below_end, below_inner, in_more, in_none}
+use Rattle.tree_laws.specs.Walks.{at_place, found_below, found_in}
+use Rattle.tree_laws.proofs.Below.{below_zero, below_end, below_inner, in_more, in_none}
 
 shows : (a b : Look) (sight : Sight) → a ≡ b → LooksAs a sight → LooksAs b sight
 shows a b sight e h = subst (λ x. LooksAs x sight) e h

@@ -11,6 +11,7 @@ use Rattle.ledger_spec.specs.Header.{state_root_of, tx_root_of}
 use Rattle.ledger_spec.specs.Forms.{Held, inner, leaf}
 use Rattle.ledger_spec.specs.Findings.{Sight, missing, broken, sound, Met, walk, walk_map, Finding, lacks, breaks, finding_at}
 use Rattle.ledger_spec.specs.Findings.{missing_of, first_broken}
+use Rattle.tree_laws.specs.Walks.{finding_of}
 use Rattle.missing_walk.specs.declared.Found.{Found}
 use Rattle.missing_walk.specs.declared.sight.Sight.{Sight as Look}
 use Rattle.missing_walk.specs.declared.sight.Sight.TheVariants as look
@@ -55,18 +56,6 @@ HasMissing s = 0 < length s.missing
 abbrev pub Notes : {T E : Type 0} → Result T E → Seen → Seen → List Finding → Type 0
 Notes (Ok x) before after found = after ≡ sees before found
 Notes (Err e) before after found = HasMissing (sees before found)
-
-abbrev pub finding_of : Met → Option Finding
-finding_of m = finding_at m.place m.sight
-
--- the findings at a place and below it
-unfoldable pub found_below : Half → Lookup → Kind → ℕ → Option (List Hash) → List ℕ → Hash → List Finding
-found_below half nodes kind left parent path h = filter_map finding_of (walk half nodes kind left parent path h)
-
--- the findings below the first n branches of an inner node, whose branches have `left` levels below them
-unfoldable pub found_in : Half → Lookup → Kind → ℕ → List Hash → List ℕ → ℕ → List Finding
-found_in half nodes kind left hashes path n =
-    flat_map (λ b. found_below half nodes kind left (Some hashes) (path ++ b ∷ []) (slice_index_or hashes b zero_hash)) (range_with_len 0 n)
 
 -- the result shows the missing places and the broken one of these findings
 pub record IsSeen (found : List Finding) (f : Found) : Type 0 where

@@ -2,7 +2,8 @@
 ghost use Rattle.std.specs.Prelude.{◌-◌, ◌<◌, length};
 ghost use Rattle.std.specs.FinMap as map;
 ghost use Rattle.shamap_node.specs.Nodes.{hashes_above};
-ghost use Rattle.missing_walk.specs.Sees.{shown, Notes, found_below, found_in};
+ghost use Rattle.missing_walk.specs.Sees.{shown, Notes};
+ghost use Rattle.tree_laws.specs.Walks.{found_below, found_in};
 
 use crate::Found;
 use crate::sight::{Sight, look};

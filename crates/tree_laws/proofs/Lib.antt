@@ -1,6 +1,8 @@
 pub mod Trees
 pub mod Parts
 pub mod Subtrees
+pub mod Steps
+pub mod Below
 pub mod Shapes
 pub mod Orders
 pub mod Sights

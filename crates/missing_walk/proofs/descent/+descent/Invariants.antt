@@ -1,6 +1,7 @@
 use Rattle.std.proofs.Common.{◌≡◌, ◌-◌, ◌*◌, ◌+◌, length}
 use Rattle.std.specs.FinMap as map
-use Rattle.missing_walk.specs.Sees.{shown, sees, found_in}
+use Rattle.missing_walk.specs.Sees.{shown, sees}
+use Rattle.tree_laws.specs.Walks.{found_in}
 use Rattle.missing_walk.proofs.descent.+descent.Given as goal
 
 -- twice the levels below, and one more for the loop over the branches, whose kids lie a level lower

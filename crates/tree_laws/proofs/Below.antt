@@ -6,14 +6,12 @@ use Rattle.std.proofs.lemmas.List.Elements.{filter_map-append}
 use Rattle.std.proofs.lemmas.List.{flat_map_more}
 use Rattle.ledger_spec.specs.declared.Kind.{Kind}
 use Rattle.ledger_spec.specs.declared.Place.TheVariants.{Node}
-use Rattle.ledger_spec.specs.Bytes.{Hash, Half, Lookup, is_zero, zero_hash, branches}
+use Rattle.ledger_spec.specs.Bytes.{Bytes, Hash, Half, Lookup, is_zero, zero_hash, branches}
 use Rattle.ledger_spec.specs.Forms.{inner}
 use Rattle.ledger_spec.specs.Rules.{fault_of}
-use Rattle.ledger_spec.specs.Findings.{Sight, sound, Met, sight_of, branches_of, walk, Finding, finding_at}
-use Rattle.missing_walk.specs.Sees.{finding_of, found_below, found_in}
-
-abbrev pub at_place : Half → Lookup → Kind → Option (List Hash) → List ℕ → Hash → Sight
-at_place half nodes kind parent path h = sight_of half (λ n. fault_of n parent kind path) (nodes h)
+use Rattle.ledger_spec.specs.Findings.{Sight, sound, Met, sight_of, branches_of, walk, Finding, finding_at, held_of, item_at}
+use Rattle.tree_laws.specs.Walks.{at_place, finding_of, found_below, found_in}
+use Rattle.tree_laws.proofs.Steps.{met_at, walks_below, walk_empty, walk_bottom, walk_step, seen_any}
 
 -- of the place itself, where its hash isn't zero
 first_met : (z : Bool) (m : Met) (rest : List Met) → z ≡ false → filter_map finding_of (if z then [] else m ∷ rest) ≡ cons_option (finding_of m) (filter_map finding_of rest)
@@ -67,3 +65,38 @@ in_more half nodes kind left hashes path n m e =
 pub in_none : (half : Half) (nodes : Lookup) (kind : Kind) (left : ℕ) (hashes : List Hash) (path : List ℕ) → found_in half nodes kind left hashes path 0 ≡ []
 unfolding found_in
 in_none half nodes kind left hashes path = refl
+
+-- what is found at an inner node and below it doesn't depend on what is above it, nor do the items there
+any_above : {F : Type 0} (find : Met → Option F) → ((m n : Met) → m.place ≡ n.place → m.sight ≡ n.sight → find m ≡ find n)
+    → (half : Half) (nodes : Lookup) (kind : Kind) (left : ℕ) (parent other : Option (List Hash)) (path : List ℕ) (h : Hash) (form : Bytes) (hashes : List Hash)
+    → nodes h ≡ Some form → held_of half form ≡ Some (inner hashes)
+    → filter_map find (walk half nodes kind left parent path h) ≡ filter_map find (walk half nodes kind left other path h)
+any_above find reads half nodes kind left parent other path h form hashes is holds = by left (is_zero h) refl
+  where
+    seen : at_place half nodes kind parent path h ≡ at_place half nodes kind other path h
+    seen = seen_any half nodes kind parent other path h form hashes is holds
+
+    found_here : find (met_at half nodes kind parent path h) ≡ find (met_at half nodes kind other path h)
+    found_here = reads (met_at half nodes kind parent path h) (met_at half nodes kind other path h) refl seen
+
+    by : (left : ℕ) (z : Bool) → is_zero h ≡ z
+        → filter_map find (walk half nodes kind left parent path h) ≡ filter_map find (walk half nodes kind left other path h)
+    by left true z = ap (filter_map find) (walk_empty half nodes kind left parent path h z ∙ sym (walk_empty half nodes kind left other path h z))
+    by zero false z =
+        ap (filter_map find) (walk_bottom half nodes kind parent path h z) ∙ ap (λ o. cons_option o []) found_here
+        ∙ sym (ap (filter_map find) (walk_bottom half nodes kind other path h z))
+    by (suc left) false z =
+        ap (filter_map find) (walk_step half nodes kind left parent path h z)
+        ∙ (λ i. cons_option (found_here i) (filter_map find (branches_of (seen i) (walks_below half nodes kind left path))))
+        ∙ sym (ap (filter_map find) (walk_step half nodes kind left other path h z))
+
+pub found_any : (half : Half) (nodes : Lookup) (kind : Kind) (left : ℕ) (parent other : Option (List Hash)) (path : List ℕ) (h : Hash) (form : Bytes) (hashes : List Hash)
+    → nodes h ≡ Some form → held_of half form ≡ Some (inner hashes)
+    → found_below half nodes kind left parent path h ≡ found_below half nodes kind left other path h
+unfolding found_below
+found_any = any_above finding_of (λ m n place sight. λ i. finding_at (place i) (sight i))
+
+pub items_any : (half : Half) (nodes : Lookup) (kind : Kind) (left : ℕ) (parent other : Option (List Hash)) (path : List ℕ) (h : Hash) (form : Bytes) (hashes : List Hash)
+    → nodes h ≡ Some form → held_of half form ≡ Some (inner hashes)
+    → filter_map (λ m. item_at m.sight) (walk half nodes kind left parent path h) ≡ filter_map (λ m. item_at m.sight) (walk half nodes kind left other path h)
+items_any = any_above (λ m. item_at m.sight) (λ m n place sight. ap item_at sight)
