@@ -10,25 +10,10 @@ use Rattle.nib_path.specs.Paths.{nibbles, lies_under}
 use Rattle.ledger_spec.specs.Bytes.{Bytes, Hash, branches}
 use Rattle.ledger_spec.specs.Maps.{hash_cmp, insert_in, get_in, remove_in}
 use Rattle.ledger_spec.specs.Tree.{Entry}
+pub use Rattle.tree_laws.proofs.Orders.{all_append}
+pub use Rattle.tree_laws.proofs.Joins.{all_flat, all_range, flat_same}
 use Rattle.cow_map.proofs.Orders.{branch_less, branch_greater}
 use Rattle.cow_map.proofs.Entries.{AllCompare, insert_between, get_between, remove_between}
-
-pub all_append : {X : Type 0} (P : X → Type 0) (xs ys : List X) → AllByRecursion P xs → AllByRecursion P ys → AllByRecursion P (xs ++ ys)
-all_append P [] ys a b = b
-all_append P (x ∷ xs) ys a b = (a.0, all_append P xs ys a.1 b)
-
-pub all_flat : {X : Type 0} (P : X → Type 0) (kids : ℕ → List X) (cs : List ℕ) → AllByRecursion (λ c. AllByRecursion P (kids c)) cs
-    → AllByRecursion P (flat_map kids cs)
-all_flat P kids [] h = tt
-all_flat P kids (c ∷ cs) h = all_append P (kids c) (flat_map kids cs) h.0 (all_flat P kids cs h.1)
-
-pub all_range : (P : ℕ → Type 0) (n a : ℕ) → ((c : ℕ) → a ≤ c → c < a + n → P c) → AllByRecursion P (range_with_len a n)
-all_range P zero a h = tt
-all_range P (suc n) a h = (h a (omega arith) (omega arith), all_range P n (a + 1) (λ c low high. h c (omega arith) (omega arith)))
-
-pub flat_same : {X : Type 0} (f g : ℕ → List X) (cs : List ℕ) → AllByRecursion (λ c. f c ≡ g c) cs → flat_map f cs ≡ flat_map g cs
-flat_same f g [] h = refl
-flat_same f g (c ∷ cs) h = λ i. h.0 i ++ flat_same f g cs h.1 i
 
 range_split : (n m a k c : ℕ) → k ≡ n + suc m → c ≡ a + n → range_with_len a k ≡ range_with_len a n ++ c ∷ range_with_len (c + 1) m
 range_split zero m a k c e f =

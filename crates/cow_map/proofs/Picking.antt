@@ -17,9 +17,10 @@ use Rattle.cow_map.specs.Trees.{Found, none, one, fork, lacks, breaks, found_at,
 use Rattle.cow_map.specs.Seals.{Picks, hash_at, form_below, made_of, made_below}
 use Rattle.cow_map.specs.Sealing.{made_at, made_of_map}
 use Rattle.cow_map.proofs.Leading.{body_one, body_fork, body_none, seen_one, seen_fork, seen_none}
+use Rattle.tree_laws.proofs.Subtrees.{inner_above, kid_forms, forms_none, forms_one, forms_fork as forms_crowd}
 use Rattle.cow_map.proofs.Branches.{AllUnder, all_range}
 use Rattle.cow_map.proofs.Standing.{Below, stands_into, stands_under}
-use Rattle.cow_map.proofs.Sealing.{part_kid, part_root, by_index, flat_each, hash_law, one_long, sound_form, own_leaf_kind, joined_links}
+use Rattle.cow_map.proofs.Sealing.{crowded, part_kid, part_root, by_index, flat_each, hash_law, one_long, sound_form, own_leaf_kind, joined_links}
 use Rattle.cow_map.proofs.Adding.{form_leaf, form_inner, made_leaf, made_inner, made_own}
 
 module _ (half : Half) (stored : Lookup) where
@@ -42,34 +43,12 @@ module _ (half : Half) (stored : Lookup) where
   picks_stored : (f : Bytes) → stored (half f) ≡ Some f → Picks half stored [] (f ∷ [])
   picks_stored f is = inr (is, refl)
 
--- the forms of a part
-forms_none : (half : Half) (kind : Kind) (all : List Entry) (left : ℕ) (path : List ℕ) → forms_of_part half kind all left path [] ≡ []
-unfolding forms_of_part
-forms_none half kind all zero path = refl
-forms_none half kind all (suc left) path = refl
-
-forms_one : (half : Half) (kind : Kind) (all : List Entry) (left : ℕ) (path : List ℕ) (e : Entry) → 0 < length path
-    → forms_of_part half kind all left path (e ∷ []) ≡ leaf_form kind e.0 e.1 ∷ []
-unfolding forms_of_part form_of_part
-forms_one half kind all zero path e long = refl
-forms_one half kind all (suc left) [] e long = absurd (omega arith)
-forms_one half kind all (suc left) (n ∷ path) e long = refl
-
--- the form of an inner node of the tree
-abbrev tree_form : Half → Kind → List Entry → ℕ → List ℕ → Bytes
-tree_form half kind all left path =
-    inner_prefix ++ flat_map (λ b. hash_or_zero half (form_of_part half kind all left (path ++ b ∷ []) (part all (path ++ b ∷ []))))
-    branches
-
+-- the forms of a part that an inner node stands above
 forms_fork : (half : Half) (kind : Kind) (all : List Entry) (left : ℕ) (path : List ℕ) (items : List Entry) → fewest path ≤ length items
-    → forms_of_part half kind all (suc left) path items ≡ flat_map
-    (λ b. forms_of_part half kind all left (path ++ b ∷ []) (part all (path ++ b ∷ []))) branches ++ tree_form half kind all left path ∷ []
-unfolding forms_of_part form_of_part
+    → forms_of_part half kind all (suc left) path items ≡ flat_map (kid_forms half kind all left path) branches ++ inner_above half kind all left path ∷ []
 forms_fork half kind all left [] [] enough = absurd (omega arith)
 forms_fork half kind all left (n ∷ path) [] enough = absurd (omega arith)
-forms_fork half kind all left [] (e ∷ others) enough = refl
-forms_fork half kind all left (n ∷ path) (e ∷ []) enough = absurd (omega arith)
-forms_fork half kind all left (n ∷ path) (e ∷ f ∷ others) enough = refl
+forms_fork half kind all left path (e ∷ others) enough = forms_crowd half kind all left path e others (crowded path e others enough)
 
 -- nothing is made of what is left to the source
 none_made : (half : Half) (kind : Kind) (nodes : List Body) (left : ℕ) (hashes : List Hash)
@@ -128,33 +107,34 @@ module _ (half : Half) (size : (x : Bytes) → length (half x) ≡ 32) (stored :
 
   -- the node itself, behind what is below it
   fork_own : (left : ℕ) (path : List ℕ) (link : Link) (links : List Link) → found_at half stored kind nodes path link ≡ fork links
-      → inner_prefix ++ flat_map (hash_at half kind nodes left) links ≡ tree_form half kind all left path
+      → inner_prefix ++ flat_map (hash_at half kind nodes left) links ≡ inner_above half kind all left path
       → (forms : List Bytes) → Picks half stored (flat_map (made_at half kind nodes left) links) forms
-      → Picks half stored (made_at half kind nodes (suc left) link) (forms ++ tree_form half kind all left path ∷ [])
+      → Picks half stored (made_at half kind nodes (suc left) link) (forms ++ inner_above half kind all left path ∷ [])
   fork_own left path Empty links found form_is forms below = absurd (no_fork found)
     where
       no_fork : none ≡ fork links → ⊥
       no_fork e = cc
   fork_own left path (Own i) links found form_is forms below =
       let at = body_fork path (slice_get nodes i) links found in
-      subst (λ ms. Picks half stored ms (forms ++ tree_form half kind all left path ∷ []))
+      subst (λ ms. Picks half stored ms (forms ++ inner_above half kind all left path ∷ []))
       (sym (made_own half kind nodes (suc left) i (inner links) at ∙ made_inner half kind nodes left links
       ∙ ap (λ f. flat_map (made_at half kind nodes left) links ++ f ∷ []) (form_inner half kind nodes left links ∙ form_is)))
-      (picks_append half stored forms (tree_form half kind all left path ∷ []) (flat_map (made_at half kind nodes left) links)
-      (tree_form half kind all left path ∷ []) below (picks_made half stored (tree_form half kind all left path)))
+      (picks_append half stored forms (inner_above half kind all left path ∷ []) (flat_map (made_at half kind nodes left) links)
+      (inner_above half kind all left path ∷ []) below (picks_made half stored (inner_above half kind all left path)))
   fork_own left path (Unloaded h) links found form_is forms below =
       let seen = seen_fork h (sight_of half (λ n. fault_of n None kind path) (stored h)) links found in
       let is = sound_form half size (λ n. fault_of n None kind path) (stored h) (held.inner seen.0) seen.1 in
       let joined = joined_links half size stored proper kind nodes path (form_below half kind nodes left) (hash_at half kind nodes left)
       refl (λ g. refl) seen.0 is.2.0.sizes in
-      let same : is.0 ≡ tree_form half kind all left path =
+      let same : is.0 ≡ inner_above half kind all left path =
       is.2.1 ∙ ap (λ xs. inner_prefix ++ xs) joined ∙ ap (λ ls. inner_prefix ++ flat_map (hash_at half kind nodes left) ls) (sym seen.2)
       ∙ form_is in
       let nothing : flat_map (made_at half kind nodes left) links ≡ [] = ap (flat_map (made_at half kind nodes left)) seen.2
       ∙ none_made half kind nodes left seen.0 in
-      picks_append half stored forms (tree_form half kind all left path ∷ []) [] []
+      picks_append half stored forms (inner_above half kind all left path ∷ []) [] []
       (subst (λ ms. Picks half stored ms forms) nothing below)
-      (picks_stored half stored (tree_form half kind all left path) (held_form h is.0 (tree_form half kind all left path) is.1 same))
+      (picks_stored half stored (inner_above half kind all left path)
+      (held_form h is.0 (inner_above half kind all left path) is.1 same))
 
   -- what the law says a level lower
   abbrev Picked : ℕ → Type 0
@@ -177,7 +157,7 @@ module _ (half : Half) (size : (x : Bytes) → length (half x) ≡ 32) (stored :
       λ b low. hash_law half size stored proper kind nodes all left (path ++ b ∷ []) (slice_index_or links b Empty) (forks.kids b)
       (forks.each b low) (kid_is b low)
       ∙ ap (λ es. hash_or_zero half (form_of_part half kind all left (path ++ b ∷ []) es)) (sym (kid_is b low)) in
-      let form_is : inner_prefix ++ flat_map (hash_at half kind nodes left) links ≡ tree_form half kind all left path =
+      let form_is : inner_prefix ++ flat_map (hash_at half kind nodes left) links ≡ inner_above half kind all left path =
       ap (λ (xs : Bytes). inner_prefix ++ xs) (by_index (hash_at half kind nodes left) Empty links forks.width
       ∙ flat_each (λ b. hash_at half kind nodes left (slice_index_or links b Empty))
       (λ b. hash_or_zero half (form_of_part half kind all left (path ++ b ∷ []) (part all (path ++ b ∷ [])))) kid_hash) in

@@ -18,13 +18,14 @@ use Rattle.ledger_spec.specs.Forms as held
 use Rattle.ledger_spec.specs.Forms.{Held, Form, leaf_form, inner_prefix, hash_or_zero}
 use Rattle.ledger_spec.specs.Rules.{fault_of, same_kind}
 use Rattle.ledger_spec.specs.Findings.{sight_of, judged, seen_as, held_of, sound}
-use Rattle.ledger_spec.specs.Tree.{Entry, part, form_of_part, form_at, root_of}
+use Rattle.ledger_spec.specs.Tree.{Entry, part, is_alone, form_of_part, form_at, root_of}
 use Rattle.cow_map.specs.declared.link.Link.{Link}
 use Rattle.cow_map.specs.declared.link.Link.TheVariants.{Empty, Unloaded, Own}
 use Rattle.cow_map.specs.Bodies.{Body, leaf, inner, CowTree}
 use Rattle.cow_map.specs.Trees.{Found, none, one, fork, lacks, breaks, found_at, found_body, fewest, Forks, Holds, StandsAt, StandsFor}
 use Rattle.cow_map.specs.Trees.{link_to}
 use Rattle.cow_map.specs.Seals.{hash_by, form_below, hash_at}
+use Rattle.tree_laws.proofs.Subtrees.{inner_above, form_none, form_one, form_fork}
 use Rattle.cow_map.proofs.Branches.{AllUnder, flat_split, flat_same, all_range, under_front}
 use Rattle.cow_map.proofs.Standing.{Below, stands_into, stands_under}
 use Rattle.cow_map.proofs.Leading.{body_one, body_fork, body_none, seen_one, seen_fork, seen_none}
@@ -225,28 +226,17 @@ module _ (half : Half) (size : (x : Bytes) → length (half x) ≡ 32) (stored :
       ∙ ap (λ ls. half (inner_prefix ++ flat_map hash ls)) (sym seen.2)
 
 -- the form at a place, by what lies there
-part_none : (half : Half) (kind : Kind) (all : List Entry) (left : ℕ) (path : List ℕ) → form_of_part half kind all left path [] ≡ None
-unfolding form_of_part
-part_none half kind all zero path = refl
-part_none half kind all (suc left) path = refl
-
-part_one : (half : Half) (kind : Kind) (all : List Entry) (left : ℕ) (path : List ℕ) (e : Entry) → 0 < length path
-    → form_of_part half kind all left path (e ∷ []) ≡ Some (leaf_form kind e.0 e.1)
-unfolding form_of_part
-part_one half kind all zero path e long = refl
-part_one half kind all (suc left) [] e long = absurd (omega arith)
-part_one half kind all (suc left) (n ∷ path) e long = refl
+-- enough entries aren't one alone
+pub crowded : (path : List ℕ) (e : Entry) (others : List Entry) → fewest path ≤ length (e ∷ others) → is_alone path others ≡ false
+crowded [] e others enough = refl
+crowded (n ∷ path) e [] enough = absurd (omega arith)
+crowded (n ∷ path) e (f ∷ others) enough = refl
 
 part_fork : (half : Half) (kind : Kind) (all : List Entry) (left : ℕ) (path : List ℕ) (items : List Entry) → fewest path ≤ length items
-    → form_of_part half kind all (suc left) path items ≡ Some
-    (inner_prefix ++ flat_map (λ b. hash_or_zero half (form_of_part half kind all left (path ++ b ∷ []) (part all (path ++ b ∷ []))))
-    branches)
-unfolding form_of_part
+    → form_of_part half kind all (suc left) path items ≡ Some (inner_above half kind all left path)
 part_fork half kind all left [] [] enough = absurd (omega arith)
 part_fork half kind all left (n ∷ path) [] enough = absurd (omega arith)
-part_fork half kind all left [] (e ∷ others) enough = refl
-part_fork half kind all left (n ∷ path) (e ∷ []) enough = absurd (omega arith)
-part_fork half kind all left (n ∷ path) (e ∷ f ∷ others) enough = refl
+part_fork half kind all left path (e ∷ others) enough = form_fork half kind all left path e others (crowded path e others enough)
 
 -- a leaf stands below the root
 long_cond : (a b : Bool) (f g : ShapeFault) (k key : Hash) (v bytes : Bytes)
@@ -301,7 +291,7 @@ module _ (half : Half) (size : (x : Bytes) → length (half x) ≡ 32) (stored :
       → found_at half stored kind nodes path link ≡ none → items ≡ [] → hash_at half kind nodes left link ≡ Sub all left path items
   none_law all left path link items found nothing =
       none_hash half size stored proper kind nodes path (form_below half kind nodes left) link found
-      ∙ sym (ap (hash_or_zero half) (ap (form_of_part half kind all left path) nothing ∙ part_none half kind all left path))
+      ∙ sym (ap (hash_or_zero half) (ap (form_of_part half kind all left path) nothing ∙ form_none half kind all left path))
 
   one_law : (all : List Entry) (left : ℕ) (path : List ℕ) (link : Link) (items : List Entry) (key : Hash) (bytes : Bytes)
       → found_at half stored kind nodes path link ≡ one key bytes → items ≡ (key, bytes) ∷ []
@@ -310,7 +300,7 @@ module _ (half : Half) (size : (x : Bytes) → length (half x) ≡ 32) (stored :
       one_hash half size stored proper kind nodes path (form_below half kind nodes left) (leaf_below left) link key bytes found
       ∙ sym (ap (hash_or_zero half)
       (ap (form_of_part half kind all left path) alone
-      ∙ part_one half kind all left path (key, bytes) (one_long path link key bytes found)))
+      ∙ form_one half kind all left path (key, bytes) (one_long path link key bytes found)))
 
   -- what the law says of links a level lower
   abbrev Law : List Entry → ℕ → Type 0

@@ -3,6 +3,7 @@ pub mod Parts
 pub mod Subtrees
 pub mod Steps
 pub mod Below
+pub mod Joins
 pub mod Meeting
 pub mod Shapes
 pub mod Orders

@@ -11,43 +11,10 @@ use Rattle.ledger_spec.specs.Forms.{Held, inner, leaf, header}
 use Rattle.ledger_spec.specs.Rules.{fault_of}
 use Rattle.ledger_spec.specs.Findings.{Sight, missing, broken, sound, Met, branches_of, walk, walk_map}
 use Rattle.tree_laws.specs.Walks.{at_place, Meets, top, branch}
-use Rattle.tree_laws.proofs.Orders.{all_append, all_weaker}
+use Rattle.tree_laws.proofs.Joins.{all_range, all_flat, in_nothing, in_head, in_one, in_join, join_has, in_range}
 use Rattle.tree_laws.proofs.Shapes.{above_bottom}
 use Rattle.tree_laws.proofs.Sights.{sees_sound}
 use Rattle.tree_laws.proofs.Steps.{met_at, walks_below, walk_empty, walk_bottom, walk_step, walk_inner}
-
-all_range : (P : ℕ → Type 0) (n a : ℕ) → ((c : ℕ) → a ≤ c → c < a + n → P c) → AllByRecursion P (range_with_len a n)
-all_range P zero a h = tt
-all_range P (suc n) a h = (h a (omega arith) (omega arith), all_range P n (a + 1) (λ c low high. h c (omega arith) (omega arith)))
-
-all_flat : {X : Type 0} (P : X → Type 0) (kids : ℕ → List X) (cs : List ℕ) → AllByRecursion (λ c. AllByRecursion P (kids c)) cs
-    → AllByRecursion P (flat_map kids cs)
-all_flat P kids [] h = tt
-all_flat P kids (c ∷ cs) h = all_append P (kids c) (flat_map kids cs) h.0 (all_flat P kids cs h.1)
-
-in_nothing : {X : Type 0} {x : X} → Contains [] x → ⊥
-in_nothing c = let below : c.0 < 0 = c.1 in omega (arith, below)
-
-in_head : {X : Type 0} (x : X) (xs : List X) → Contains (x ∷ xs) x
-in_head x xs = (0, omega arith, refl)
-
-in_one : {X : Type 0} (x y : X) → Contains (x ∷ []) y → x ≡ y
-in_one x y (zero, low, is) = is
-in_one x y (suc n, low, is) = absurd (omega arith)
-
--- in a join, one of the parts has it; and it has what one of the parts has
-in_join : {X : Type 0} (f : ℕ → List X) (bs : List ℕ) (x : X) → Contains (flat_map f bs) x → (b : ℕ) × Contains bs b × Contains (f b) x
-in_join f [] x c = absurd (in_nothing c)
-in_join f (b ∷ bs) x c =
-    ⊎_elim (λ here. (b, in_head b bs, here))
-    (λ later. let rest : (d : ℕ) × Contains bs d × Contains (f d) x = in_join f bs x later in (rest.0, Contains-append_right (b ∷ []) bs rest.0 rest.1, rest.2))
-    (Contains-append_cases (f b) (flat_map f bs) x c)
-
-join_has : {X : Type 0} (f : ℕ → List X) (bs : List ℕ) (b : ℕ) (x : X) → Contains bs b → Contains (f b) x → Contains (flat_map f bs) x
-join_has f [] b x c there = absurd (in_nothing c)
-join_has f (d ∷ bs) b x c there =
-    ⊎_elim (λ same. Contains-append_left (f d) (flat_map f bs) x (subst (λ e. Contains (f e) x) (sym (in_one d b same)) there))
-    (λ later. Contains-append_right (f d) (flat_map f bs) x (join_has f bs b x later there)) (Contains-append_cases (d ∷ []) bs b c)
 
 module _ (half : Half) (nodes : Lookup) (kind : Kind) (root : Hash) where
   -- an entry of the walk is for a place that is met, with what is seen there
@@ -90,14 +57,6 @@ module _ (half : Half) (nodes : Lookup) (kind : Kind) (root : Hash) where
   pub walk_meets : (m : Met) → Contains (walk_map half nodes kind root) m → IsMeeting m
   unfolding walk_map
   walk_meets m c = All-contains IsMeeting (walk half nodes kind 64 None [] root) m (All-from_recursion IsMeeting (walk half nodes kind 64 None [] root) (all_met 64 None [] root (λ some. top some))) c
-
-in_range : (n a b : ℕ) → a ≤ b → b < a + n → Contains (range_with_len a n) b
-in_range zero a b low high = absurd (omega arith)
-in_range (suc n) a b low high = by (a == b) refl (λ more. in_range n (a + 1) b more (omega arith))
-  where
-    by : (t : Bool) → (a == b) ≡ t → (a + 1 ≤ b → Contains (range_with_len (a + 1) n) b) → Contains (range_with_len a (suc n)) b
-    by true e rest = let same : a ≡ b = eqb-true a b e in subst (Contains (range_with_len a (suc n))) same (in_head a (range_with_len (a + 1) n))
-    by false e rest = let other : (a ≡ b) → ⊥ = eqb-false a b e in Contains-append_right (a ∷ []) (range_with_len (a + 1) n) b (rest (omega arith))
 
 same_path : {kind : Kind} (q path : List ℕ) → Node kind q ≡ Node kind path → q ≡ path
 same_path q path e = cc
