@@ -1,5 +1,6 @@
 -- What is found at a place and below it, by what is seen there.
-use Rattle.std.proofs.Common.{◌≡◌, ℕ, zero, suc, ◌+◌, Bool, true, false, if◌then◌else◌, List, [], ◌∷◌, ◌++◌, Option, Some, refl, sym, ap}
+use Rattle.std.proofs.Common.{◌≡◌, ℕ, zero, suc, ◌+◌, Bool, true, false, if◌then◌else◌, List, [], ◌∷◌, ◌++◌}
+use Rattle.std.proofs.Common.{Option, Some, refl, sym, ap}
 use Rattle.std.proofs.Common.{◌∙◌, arith, zero-add}
 use Rattle.std.specs.List.{filter_map, flat_map, cons_option, range_with_len, slice_index_or}
 use Rattle.std.proofs.lemmas.List.Elements.{filter_map-append}
@@ -8,8 +9,7 @@ use Rattle.ledger_spec.specs.declared.Kind.{Kind}
 use Rattle.ledger_spec.specs.declared.Place.TheVariants.{Node}
 use Rattle.ledger_spec.specs.Bytes.{Bytes, Hash, Half, Lookup, is_zero, zero_hash, branches}
 use Rattle.ledger_spec.specs.Forms.{inner}
-use Rattle.ledger_spec.specs.Rules.{fault_of}
-use Rattle.ledger_spec.specs.Findings.{Sight, sound, Met, sight_of, branches_of, walk, Finding, finding_at, held_of, item_at}
+use Rattle.ledger_spec.specs.Findings.{Sight, sound, Met, branches_of, walk, Finding, finding_at, held_of, item_at}
 use Rattle.tree_laws.specs.Walks.{at_place, finding_of, found_below, found_in}
 use Rattle.tree_laws.proofs.Steps.{met_at, walks_below, walk_empty, walk_bottom, walk_step, seen_any}
 

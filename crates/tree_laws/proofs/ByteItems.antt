@@ -1,20 +1,20 @@
 -- The items of a store of bytes are bytes, and so keys of nibbles.
-use Rattle.std.proofs.Common.{◌≡◌, ◌≤◌, ◌<◌, ◌+◌, ◌*◌, ◌==◌, ◌&&◌, ℕ, zero, suc, Bool, true, false, if◌then◌else◌, nat_lt, List, [], ◌∷◌}
-use Rattle.std.proofs.Common.{◌++◌, length, get_or, IsTrue, Option, None, Some, refl, sym, ap, ◌∙◌, subst, arith, filter_map, flat_map}
-use Rattle.std.proofs.lemmas.Bool.{and_parts, and_from, ltb-true}
+use Rattle.std.proofs.Common.{◌≡◌, ◌<◌, ℕ, zero, suc, Bool, true, false, if◌then◌else◌, nat_lt, List, [], ◌∷◌}
+use Rattle.std.proofs.Common.{◌++◌, length, get_or, IsTrue, Option, None, Some, refl, sym, subst, arith, filter_map, flat_map}
+use Rattle.std.proofs.lemmas.Bool.{and_parts, ltb-true}
 use Rattle.std.proofs.lemmas.List.Elements.{filter_map-append}
-use Rattle.std.specs.List.{list_all, slice_index_or, AllByRecursion}
-use Rattle.nib_path.specs.Paths.{nibbles, length-nibbles}
+use Rattle.std.specs.List.{slice_index_or, AllByRecursion}
+use Rattle.nib_path.specs.Paths.{length-nibbles}
 use Rattle.nib_path.proofs.Nibbles.{nibbles-below}
 use Rattle.ledger_spec.specs.declared.Kind.{Kind}
 use Rattle.ledger_spec.specs.declared.Kind.TheVariants.{State, Tx, Set}
 use Rattle.ledger_spec.specs.declared.Place.TheVariants.{Node}
 use Rattle.ledger_spec.specs.Bytes.{Bytes, Hash, Half, Lookup, Items, zero_hash, is_zero, are_bytes, branches}
 use Rattle.ledger_spec.specs.Commits.{AreByteForms}
-use Rattle.ledger_spec.specs.Forms.{Held, inner, leaf, header, Form, IsHeld, leaf_prefix, leaf_form}
+use Rattle.ledger_spec.specs.Forms.{inner, leaf, header, Form, IsHeld, leaf_prefix, leaf_form}
 use Rattle.ledger_spec.specs.Rules.{fault_of}
 use Rattle.ledger_spec.specs.Findings.{Sight, missing, broken, sound, Met, sight_of, branches_of, walk, walk_map, item_at, items_of}
-use Rattle.ledger_spec.specs.Tree.{Entry, IsByteEntry, AreItems}
+use Rattle.ledger_spec.specs.Tree.{Entry, IsByteEntry}
 use Rattle.ledger_spec.specs.Reads.{IsKey}
 use Rattle.ledger_spec.proofs.ByteForms.{bytes_front, bytes_end}
 use Rattle.ledger_spec.proofs.Growth.{met}

@@ -1,5 +1,6 @@
 -- Lists joined over branches: what holds of their elements, and what they have.
-use Rattle.std.proofs.Common.{◌≡◌, ◌≤◌, ◌<◌, ◌+◌, ◌==◌, ⊎_elim, ℕ, zero, suc, Bool, true, false, List, [], ◌∷◌, ◌++◌, refl, sym, subst, arith, Contains}
+use Rattle.std.proofs.Common.{◌≡◌, ◌≤◌, ◌<◌, ◌+◌, ◌==◌, ⊎_elim, ℕ, zero, suc, Bool, true, false, List, []}
+use Rattle.std.proofs.Common.{◌∷◌, ◌++◌, refl, sym, subst, arith, Contains}
 use Rattle.std.specs.List.{flat_map, range_with_len, AllByRecursion}
 use Rattle.std.proofs.lemmas.Bool.{eqb-true, eqb-false}
 use Rattle.std.proofs.lemmas.List.Elements.{Contains-append_left, Contains-append_right, Contains-append_cases}
@@ -33,14 +34,17 @@ in_one x y (zero, low, is) = is
 in_one x y (suc n, low, is) = absurd (omega arith)
 
 -- in a join, one of the parts has it; and it has what one of the parts has
-pub in_join : {X : Type 0} (f : ℕ → List X) (bs : List ℕ) (x : X) → Contains (flat_map f bs) x → (b : ℕ) × Contains bs b × Contains (f b) x
+pub in_join : {X : Type 0} (f : ℕ → List X) (bs : List ℕ) (x : X) → Contains (flat_map f bs) x → (b : ℕ) × Contains bs b
+    × Contains (f b) x
 in_join f [] x c = absurd (in_nothing c)
 in_join f (b ∷ bs) x c =
     ⊎_elim (λ here. (b, in_head b bs, here))
-    (λ later. let rest : (d : ℕ) × Contains bs d × Contains (f d) x = in_join f bs x later in (rest.0, Contains-append_right (b ∷ []) bs rest.0 rest.1, rest.2))
+    (λ later. let rest : (d : ℕ) × Contains bs d × Contains (f d) x = in_join f bs x later in
+    (rest.0, Contains-append_right (b ∷ []) bs rest.0 rest.1, rest.2))
     (Contains-append_cases (f b) (flat_map f bs) x c)
 
-pub join_has : {X : Type 0} (f : ℕ → List X) (bs : List ℕ) (b : ℕ) (x : X) → Contains bs b → Contains (f b) x → Contains (flat_map f bs) x
+pub join_has : {X : Type 0} (f : ℕ → List X) (bs : List ℕ) (b : ℕ) (x : X) → Contains bs b → Contains (f b) x
+    → Contains (flat_map f bs) x
 join_has f [] b x c there = absurd (in_nothing c)
 join_has f (d ∷ bs) b x c there =
     ⊎_elim (λ same. Contains-append_left (f d) (flat_map f bs) x (subst (λ e. Contains (f e) x) (sym (in_one d b same)) there))
@@ -52,5 +56,7 @@ in_range zero a b low high = absurd (omega arith)
 in_range (suc n) a b low high = by (a == b) refl (λ more. in_range n (a + 1) b more (omega arith))
   where
     by : (t : Bool) → (a == b) ≡ t → (a + 1 ≤ b → Contains (range_with_len (a + 1) n) b) → Contains (range_with_len a (suc n)) b
-    by true e rest = let same : a ≡ b = eqb-true a b e in subst (Contains (range_with_len a (suc n))) same (in_head a (range_with_len (a + 1) n))
-    by false e rest = let other : (a ≡ b) → ⊥ = eqb-false a b e in Contains-append_right (a ∷ []) (range_with_len (a + 1) n) b (rest (omega arith))
+    by true e rest = let same : a ≡ b = eqb-true a b e in subst (Contains (range_with_len a (suc n))) same
+        (in_head a (range_with_len (a + 1) n))
+    by false e rest = let other : (a ≡ b) → ⊥ = eqb-false a b e in Contains-append_right (a ∷ []) (range_with_len (a + 1) n) b
+        (rest (omega arith))

@@ -1,5 +1,6 @@
 -- The entries whose keys lie under a path: a part of a part, and a part after an entry came or went.
-use Rattle.std.proofs.Common.{◌≡◌, ◌+◌, ℕ, Bool, true, false, cond, List, [], ◌∷◌, ◌++◌, length, take, refl, sym, ap, ◌∙◌, arith, length-append}
+use Rattle.std.proofs.Common.{◌≡◌, ℕ, Bool, true, false, cond, List, [], ◌∷◌, ◌++◌, length, take, refl, sym, ap}
+use Rattle.std.proofs.Common.{◌∙◌, arith, length-append}
 use Rattle.std.proofs.lemmas.Bool.{cond-true, cond-false, false≢true}
 use Rattle.std.proofs.lemmas.List.{take-take, same_from_push}
 use Rattle.std.proofs.Math.Seq.{take-append_seam}
@@ -53,14 +54,17 @@ under_front path more k under =
 pub under_up : (path : List ℕ) (b : ℕ) (k : Hash) → lies_under (path ++ b ∷ []) k ≡ true → lies_under path k ≡ true
 under_up path b k under = under_front path (b ∷ []) k under
 
-pub under_other : (path : List ℕ) (b c : ℕ) (k : Hash) → (b ≡ c → ⊥) → lies_under (path ++ b ∷ []) k ≡ true → lies_under (path ++ c ∷ []) k ≡ false
+pub under_other : (path : List ℕ) (b c : ℕ) (k : Hash) → (b ≡ c → ⊥) → lies_under (path ++ b ∷ []) k ≡ true
+    → lies_under (path ++ c ∷ []) k ≡ false
 under_other path b c k differ under = by_test (lies_under (path ++ c ∷ []) k) refl
   where
     by_test : (t : Bool) → lies_under (path ++ c ∷ []) k ≡ t → lies_under (path ++ c ∷ []) k ≡ false
     by_test false is = is
     by_test true is =
-        let sizes : length (path ++ b ∷ []) ≡ length (path ++ c ∷ []) = omega (arith, length-append path (b ∷ []), length-append path (c ∷ [])) in
-        let one : path ++ b ∷ [] ≡ path ++ c ∷ [] = under_begins (path ++ b ∷ []) k under ∙ ap (λ n. take n (nibbles k)) sizes ∙ sym (under_begins (path ++ c ∷ []) k is) in
+        let sizes : length (path ++ b ∷ []) ≡ length (path ++ c ∷ []) = omega
+        (arith, length-append path (b ∷ []), length-append path (c ∷ [])) in
+        let one : path ++ b ∷ [] ≡ path ++ c ∷ [] = under_begins (path ++ b ∷ []) k under ∙ ap (λ n. take n (nibbles k)) sizes
+        ∙ sym (under_begins (path ++ c ∷ []) k is) in
         let same : b ≡ c = (same_from_push path path b c one).1 in
         absurd (differ same)
 
@@ -84,7 +88,8 @@ module _ (key : Hash) (bytes : Bytes) where
   pub insert_first : (items : Items) → AllByRecursion (λ (e : Entry). hash_cmp key e.0 ≡ Less) items
       → insert_in hash_cmp items key bytes ≡ (key, bytes) ∷ items
   insert_first [] all = refl
-  insert_first (e ∷ items) all = ap (λ o. match_ordering o ((key, bytes) ∷ e ∷ items) ((e.0, bytes) ∷ items) (e ∷ insert_in hash_cmp items key bytes)) all.0
+  insert_first (e ∷ items) all = ap (λ o. match_ordering o ((key, bytes) ∷ e ∷ items) ((e.0, bytes) ∷ items)
+      (e ∷ insert_in hash_cmp items key bytes)) all.0
 
   module _ (test : Hash → Bool) where
     -- an entry that fails the test is put beside those that pass
@@ -93,7 +98,8 @@ module _ (key : Hash) (bytes : Bytes) where
     insert_failing fails (e ∷ items) = by (hash_cmp key e.0) refl (insert_failing fails items)
       where
         by : (o : Ordering) → hash_cmp key e.0 ≡ o → passing test (insert_in hash_cmp items key bytes) ≡ passing test items
-            → passing test (match_ordering o ((key, bytes) ∷ e ∷ items) ((e.0, bytes) ∷ items) (e ∷ insert_in hash_cmp items key bytes)) ≡ passing test (e ∷ items)
+            → passing test (match_ordering o ((key, bytes) ∷ e ∷ items) ((e.0, bytes) ∷ items)
+            (e ∷ insert_in hash_cmp items key bytes)) ≡ passing test (e ∷ items)
         by Less is rest = cond-false (test key) _ _ fails
         by Equal is rest =
             let here : test e.0 ≡ false = ap test (sym (same_hash key e.0 is)) ∙ fails in
@@ -107,31 +113,39 @@ module _ (key : Hash) (bytes : Bytes) where
     insert_passing passes [] rises = cond-true (test key) _ _ passes
     insert_passing passes (e ∷ items) rises = by (hash_cmp key e.0) refl (insert_passing passes items rises.1)
       where
-        behind : (less : hash_cmp key e.0 ≡ Less) (es : Items) → AllByRecursion (λ k. hash_cmp e.0 k ≡ Less) (keys_of es) → AllByRecursion (λ (f : Entry). hash_cmp key f.0 ≡ Less) es
+        behind : (less : hash_cmp key e.0 ≡ Less) (es : Items) → AllByRecursion (λ k. hash_cmp e.0 k ≡ Less) (keys_of es)
+            → AllByRecursion (λ (f : Entry). hash_cmp key f.0 ≡ Less) es
         behind less [] all = tt
         behind less (f ∷ es) all = (nat_list_cmp_total.trans key e.0 f.0 less all.0, behind less es all.1)
 
-        by : (o : Ordering) → hash_cmp key e.0 ≡ o → passing test (insert_in hash_cmp items key bytes) ≡ insert_in hash_cmp (passing test items) key bytes
-            → passing test (match_ordering o ((key, bytes) ∷ e ∷ items) ((e.0, bytes) ∷ items) (e ∷ insert_in hash_cmp items key bytes))
-              ≡ insert_in hash_cmp (passing test (e ∷ items)) key bytes
+        by : (o : Ordering) → hash_cmp key e.0 ≡ o → passing test (insert_in hash_cmp items key bytes) ≡ insert_in hash_cmp
+            (passing test items) key bytes
+            → passing test (match_ordering o ((key, bytes) ∷ e ∷ items) ((e.0, bytes) ∷ items)
+            (e ∷ insert_in hash_cmp items key bytes))
+            ≡ insert_in hash_cmp (passing test (e ∷ items)) key bytes
         by Less is rest =
             cond-true (test key) _ _ passes
-            ∙ sym (insert_first (passing test (e ∷ items)) (each_in_part (λ (f : Entry). hash_cmp key f.0 ≡ Less) (λ f. test f.0) (e ∷ items) (is, behind is items rises.0)))
+            ∙ sym (insert_first (passing test (e ∷ items)) (each_in_part (λ (f : Entry). hash_cmp key f.0 ≡ Less) (λ f. test f.0)
+            (e ∷ items) (is, behind is items rises.0)))
         by Equal is rest =
             let here : test e.0 ≡ true = ap test (sym (same_hash key e.0 is)) ∙ passes in
             cond-true (test e.0) _ _ here
             ∙ sym (ap (λ l. insert_in hash_cmp l key bytes) (cond-true (test e.0) _ _ here)
-            ∙ ap (λ o. match_ordering o ((key, bytes) ∷ e ∷ passing test items) ((e.0, bytes) ∷ passing test items) (e ∷ insert_in hash_cmp (passing test items) key bytes)) is)
+            ∙ ap (λ o. match_ordering o ((key, bytes) ∷ e ∷ passing test items) ((e.0, bytes) ∷ passing test items)
+            (e ∷ insert_in hash_cmp (passing test items) key bytes)) is)
         by Greater is rest = kept (test e.0)
           where
-            kept : (b : Bool) → cond b (e ∷ passing test (insert_in hash_cmp items key bytes)) (passing test (insert_in hash_cmp items key bytes))
+            kept : (b : Bool) → cond b (e ∷ passing test (insert_in hash_cmp items key bytes))
+                (passing test (insert_in hash_cmp items key bytes))
                 ≡ insert_in hash_cmp (cond b (e ∷ passing test items) (passing test items)) key bytes
             kept true = ap (λ l. e ∷ l) rest
-                ∙ sym (ap (λ o. match_ordering o ((key, bytes) ∷ e ∷ passing test items) ((e.0, bytes) ∷ passing test items) (e ∷ insert_in hash_cmp (passing test items) key bytes)) is)
+                ∙ sym (ap (λ o. match_ordering o ((key, bytes) ∷ e ∷ passing test items) ((e.0, bytes) ∷ passing test items)
+                (e ∷ insert_in hash_cmp (passing test items) key bytes)) is)
             kept false = rest
 
 -- a key that fails the test is taken from beside those that pass
-remove_failing : (test : Hash → Bool) (key : Hash) → test key ≡ false → (items : Items) → passing test (remove_in hash_cmp items key) ≡ passing test items
+remove_failing : (test : Hash → Bool) (key : Hash) → test key ≡ false → (items : Items)
+    → passing test (remove_in hash_cmp items key) ≡ passing test items
 remove_failing test key fails [] = refl
 remove_failing test key fails (e ∷ items) = by (is_at (hash_cmp key) e.0) refl (remove_failing test key fails items)
   where
@@ -146,10 +160,12 @@ remove_passing : (test : Hash → Bool) (key : Hash) → test key ≡ true → (
 remove_passing test key passes [] = refl
 remove_passing test key passes (e ∷ items) = by (is_at (hash_cmp key) e.0) refl (remove_passing test key passes items)
   where
-    by : (b : Bool) → is_at (hash_cmp key) e.0 ≡ b → passing test (remove_in hash_cmp items key) ≡ remove_in hash_cmp (passing test items) key
+    by : (b : Bool) → is_at (hash_cmp key) e.0 ≡ b → passing test (remove_in hash_cmp items key) ≡ remove_in hash_cmp
+        (passing test items) key
         → passing test (cond b items (e ∷ remove_in hash_cmp items key)) ≡ remove_in hash_cmp (passing test (e ∷ items)) key
     by true is rest =
-        sym (ap (λ l. remove_in hash_cmp l key) (cond-true (test e.0) _ _ (ap test (sym (same_key key e.0 is)) ∙ passes)) ∙ cond-true (is_at (hash_cmp key) e.0) _ _ is)
+        sym (ap (λ l. remove_in hash_cmp l key) (cond-true (test e.0) _ _ (ap test (sym (same_key key e.0 is)) ∙ passes))
+        ∙ cond-true (is_at (hash_cmp key) e.0) _ _ is)
     by false is rest = kept (test e.0)
       where
         kept : (b : Bool) → cond b (e ∷ passing test (remove_in hash_cmp items key)) (passing test (remove_in hash_cmp items key))
@@ -163,7 +179,8 @@ module _ (items : Items) (path : List ℕ) (key : Hash) where
       → part (insert_in hash_cmp items key bytes) path ≡ insert_in hash_cmp (part items path) key bytes
   part_insert bytes under rises = insert_passing key bytes (lies_under path) under items rises
 
-  pub part_insert_beside : (bytes : Bytes) → lies_under path key ≡ false → part (insert_in hash_cmp items key bytes) path ≡ part items path
+  pub part_insert_beside : (bytes : Bytes) → lies_under path key ≡ false
+      → part (insert_in hash_cmp items key bytes) path ≡ part items path
   part_insert_beside bytes beside = insert_failing key bytes (lies_under path) beside items
 
   -- and so does a key that is taken

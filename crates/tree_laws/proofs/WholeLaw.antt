@@ -8,11 +8,10 @@ use Rattle.std.proofs.lemmas.List.{append-nil, get_or_past, take-take, same_from
 use Rattle.std.proofs.lemmas.List.Elements.{filter-append, filter_map-append, All-from_recursion, All-get_or}
 use Rattle.std.proofs.lemmas.List.FromFn.{get_or-range_with_len, length-range_with_len, get_or-map-range_with_len}
 use Rattle.std.proofs.lemmas.List.Sums.{length-filter}
-use Rattle.std.proofs.Math.Seq.{take-append_seam}
 use Rattle.std.specs.Option.{option_and_then}
 use Rattle.std.specs.List.{concat, list_any, list_all, slice_index_or, filter, count_by, range_with_len, AllByRecursion}
 use Rattle.std.specs.List.Sorted.{IsStrictlySortedBy}
-use Rattle.nib_path.specs.Paths.{nibbles, lies_under}
+use Rattle.nib_path.specs.Paths.{lies_under}
 use Rattle.ledger_spec.specs.declared.Kind.{Kind}
 use Rattle.ledger_spec.specs.declared.Kind.TheVariants.{State, Tx}
 use Rattle.ledger_spec.specs.declared.Place.TheVariants.{Header, Node}
@@ -20,9 +19,9 @@ use Rattle.ledger_spec.specs.declared.ShapeFault.{ShapeFault}
 use Rattle.ledger_spec.specs.declared.ShapeFault.TheVariants.{Foreign}
 use Rattle.ledger_spec.specs.Maps.{hash_cmp, IsMap}
 use Rattle.ledger_spec.specs.Bytes.{Bytes, Hash, Half, Lookup, Items, zero_hash, is_zero, is_nonzero, branches, IsHalf}
-use Rattle.ledger_spec.specs.Forms.{Held, inner, leaf, header, Form, IsHeld, inner_prefix, leaf_form, hash_or_zero, header_of}
+use Rattle.ledger_spec.specs.Forms.{inner, leaf, header, Form, IsHeld, inner_prefix, leaf_form, hash_or_zero, header_of}
 use Rattle.ledger_spec.specs.Rules.{fault_of, is_lone}
-use Rattle.ledger_spec.specs.Findings.{Sight, missing, broken, sound, Met, sight_of, judged, seen_as, held_of, branches_of, walk}
+use Rattle.ledger_spec.specs.Findings.{Sight, missing, broken, sound, Met, sight_of, branches_of, walk}
 use Rattle.ledger_spec.specs.Findings.{walk_map, walk_ledger, header_or_foreign, header_sight, maps_of, item_at, items_of, Whole}
 use Rattle.ledger_spec.specs.Tree.{Entry, part, form_of_part, form_at}
 use Rattle.ledger_spec.specs.Header.{state_root_of, tx_root_of}
@@ -30,7 +29,7 @@ use Rattle.ledger_spec.specs.Spots.{header_in}
 use Rattle.ledger_spec.specs.Commits.{AreOwn, AreByteForms, IsWholeMap, Commits}
 use Rattle.ledger_spec.proofs.Readings.{holds, holds_header}
 use Rattle.ledger_spec.proofs.Growth.{found, met, no_cons, both_nil}
-use Rattle.tree_laws.proofs.Trees.{Sized, under_begins, under_from, kid_hash, concat_map}
+use Rattle.tree_laws.proofs.Trees.{Sized, kid_hash, concat_map}
 use Rattle.tree_laws.proofs.Parts.{filter_all, filter_none, filter_twice, under_up, under_other}
 use Rattle.tree_laws.proofs.Sights.{Sees, sees_sound}
 use Rattle.tree_laws.proofs.ByteItems.{byte_items}
