@@ -26,9 +26,9 @@ IsOneOf n ns = list_any (λ m. m == n) ns ≡ true
 abbrev pub text_of : CoreView → Bytes
 text_of c = output c.lines c.journal (totals_of c.journal c.state)
 
--- the bytes are refused at a line of this number
+-- the bytes are refused, at some line for some cause
 abbrev pub IsRefusedAt : Bytes → Type 0
-IsRefusedAt bytes = (line : ℕ) × IsRefused (take most_read bytes) line
+IsRefusedAt bytes = (line : ℕ) × (cause : ℕ) × IsRefused (take most_read bytes) line cause
 
 -- the text was written, or a front of it and the sink's count of faults rose
 abbrev pub WroteOrFailed : Option Bytes → Option Bytes → ℕ → ℕ → Bytes → Type 0
@@ -37,7 +37,7 @@ WroteOrFailed old new before now text = Wrote old new text ⊎ (WrotePart old ne
 -- the refused line of these bytes and its cause were written, or a front of that where the sink failed
 abbrev pub NamesLine : Bytes → Option Bytes → Option Bytes → ℕ → ℕ → Type 0
 NamesLine bytes held now before after =
-    (line : ℕ) × IsRefused (take most_read bytes) line × WroteOrFailed held now before after (refused_text line 5)
+    (line : ℕ) × (cause : ℕ) × IsRefused (take most_read bytes) line cause × WroteOrFailed held now before after (refused_text line cause)
 
 -- no two different forms of the script that the bytes are have one hash
 abbrev pub HasNoCollision : Half → Bytes → Type 0

@@ -11,7 +11,7 @@ use Rattle.script_form.specs.Words.{IsBlob}
 err_ok : {X : Type 0} {e : FromHexError} {x : X} → Err e ≡ Ok x → ⊥
 err_ok e = cc
 
-ok_same : {X : Type 0} {x y : X} → ◌≡◌ {A = Result X FromHexError} (Ok x) (Ok y) → x ≡ y
+pub ok_same : {X : Type 0} {x y : X} → ◌≡◌ {A = Result X FromHexError} (Ok x) (Ok y) → x ≡ y
 ok_same e = cc
 
 some_same : {X : Type 0} {x y : X} → Some x ≡ Some y → x ≡ y

@@ -1,5 +1,5 @@
 -- What the words of a line say, given its command's word.
-use Rattle.std.proofs.Common.{◌≡◌, ◌≢◌, ℕ, ◌-◌, ◌≤◌, List, [], ◌∷◌, length, take, drop, map, get_or, Bor, Option, Some, None, refl, sym}
+use Rattle.std.proofs.Common.{◌≡◌, ◌≢◌, ℕ, ◌-◌, ◌≤◌, List, [], ◌∷◌, length, take, drop, map, get_or, Bor, Option, Some, None, refl, sym, subst}
 use Rattle.std.proofs.Common.{◌∙◌, ap, arith}
 use Rattle.std.proofs.lemmas.List.{take_all}
 use Rattle.std.specs.Prelude.{codes, slice_index, Result, Ok, Err, IfOk, IfSome, IfNone, MatchOption}
@@ -9,31 +9,27 @@ use Rattle.ledger_spec.specs.Bytes.{Bytes, Hash}
 use Rattle.ledger_spec.specs.declared.Kind.{Kind}
 use Rattle.ledger_machine.specs.declared.commands.Command.{Command}
 use Rattle.ledger_machine.specs.declared.commands.Command.TheVariants as command
-use Rattle.script_form.specs.Grammar.{AreWords, AreArguments, AreParts}
+use Rattle.script_form.specs.Grammar.{AreArguments, AreParts, CallSays}
 use Rattle.ledger_machine.specs.Scripts.{word_of}
 
 abbrev pub texts : List (Bor Bytes) → List Bytes
 texts words = map (λ w. w.now) words
 
--- the first two words are these, and those behind them
-pub two_words : (words : List (Bor Bytes)) (d e : Bor Bytes) (zero verb : Bytes) → 2 ≤ length words → (get_or words 0 d).now ≡ zero → (get_or words 1 e).now ≡ verb
-    → texts words ≡ zero ∷ verb ∷ texts (take (length words - 2) (drop 2 words))
-two_words [] d e z v le first second = absurd (omega arith)
-two_words (a ∷ []) d e z v le first second = absurd (omega arith)
-two_words (a ∷ b ∷ rest) d e z v le first second = rw (first, second, take_all (length (a ∷ b ∷ rest) - 2) rest (omega arith)) refl
+-- the first word, and those behind it
+pub first_word : (words : List (Bor Bytes)) (d : Bor Bytes) (verb : Bytes) → 1 ≤ length words → (get_or words 0 d).now ≡ verb
+    → texts words ≡ verb ∷ texts (take (length words - 1) (drop 1 words))
+first_word [] d v le first = absurd (omega arith)
+first_word (a ∷ rest) d v le first = rw (first, take_all (length (a ∷ rest) - 1) rest (omega arith)) refl
 
 other_word : (a b : Bytes) → slice_index a 0 ≢ slice_index b 0 → a ≡ b → ⊥
 other_word a b differ same = differ (ap (λ (w : Bytes). slice_index w 0) same)
 
 -- the arguments of the words are those of one command
-says_it : (words args : List Bytes) (verb : Bytes) (c : Command) → words ≡ codes "0" ∷ verb ∷ args → AreWords words c → (verb ≡ word_of c) × AreArguments args c
-says_it words args verb c is says =
-    let both : codes "0" ∷ verb ∷ args ≡ codes "0" ∷ word_of c ∷ says.0 = sym is ∙ says.1 in
-    let rest : args ≡ says.0 = cc in
-    (cc, rw rest says.2)
+says_it : (call args : List Bytes) (verb : Bytes) (c : Command) → call ≡ verb ∷ args → CallSays call c → (verb ≡ word_of c) × AreArguments args c
+says_it call args verb c is says = let P : List Bytes → Type 0 = λ ws. CallSays ws c in subst P is says
 
-pub found_one : (words args : List Bytes) (verb : Bytes) (c : Command) → words ≡ codes "0" ∷ verb ∷ args → word_of c ≡ verb → AreArguments args c → AreWords words c
-found_one words args verb c is word are = (args, rw word is, are)
+pub found_one : (call args : List Bytes) (verb : Bytes) (c : Command) → call ≡ verb ∷ args → word_of c ≡ verb → AreArguments args c → CallSays call c
+found_one call args verb c is word are = let P : List Bytes → Type 0 = λ ws. CallSays ws c in subst P (sym is) (sym word, are)
 
 -- the five words differ in their first letters
 pub differ : (a b : Bytes) → slice_index a 0 ≢ slice_index b 0 → {P : Type 0} → a ≡ b → P
@@ -47,25 +43,25 @@ pub record NoCommand (args : List Bytes) (verb : Bytes) : Type 0 where
   pub node : verb ≡ codes "node" → (p : ℕ) (t : Hash) (kind : Kind) (path : List ℕ) (blob : Bytes) → AreArguments args (command.Node p t kind path blob) → ⊥
   pub check : verb ≡ codes "check" → (t : Hash) → AreArguments args (command.Check t) → ⊥
 
-pub no_command : (words args : List Bytes) (verb : Bytes) → words ≡ codes "0" ∷ verb ∷ args → NoCommand args verb → (c : Command) → AreWords words c → ⊥
-no_command words args verb is none (command.Want t seq) says = let s = says_it words args verb (command.Want t seq) is says in none.want s.0 t seq s.1
-no_command words args verb is none (command.Peer p t) says = let s = says_it words args verb (command.Peer p t) is says in none.peer s.0 p t s.1
-no_command words args verb is none (command.Base p t head state tx) says = let s = says_it words args verb (command.Base p t head state tx) is says in none.base s.0 p t head state tx s.1
-no_command words args verb is none (command.Node p t kind path blob) says = let s = says_it words args verb (command.Node p t kind path blob) is says in none.node s.0 p t kind path blob s.1
-no_command words args verb is none (command.Check t) says = let s = says_it words args verb (command.Check t) is says in none.check s.0 t s.1
-no_command words args verb is none (command.Tick t) says = says.2
-no_command words args verb is none (command.View v t) says = says.2
-no_command words args verb is none (command.Unview v) says = says.2
-no_command words args verb is none (command.Get v kind key) says = says.2
-no_command words args verb is none (command.Page v kind key n) says = says.2
-no_command words args verb is none (command.Edit x t) says = says.2
-no_command words args verb is none (command.Put x item) says = says.2
-no_command words args verb is none (command.Del x key) says = says.2
-no_command words args verb is none (command.Tx x item) says = says.2
-no_command words args verb is none (command.Close x fields) says = says.2
-no_command words args verb is none (command.Abandon x) says = says.2
-no_command words args verb is none command.Begin says = says.2
-no_command words args verb is none command.Swap says = says.2
+pub no_command : (call args : List Bytes) (verb : Bytes) → call ≡ verb ∷ args → NoCommand args verb → (c : Command) → CallSays call c → ⊥
+no_command call args verb is none (command.Want t seq) says = let s = says_it call args verb (command.Want t seq) is says in none.want s.0 t seq s.1
+no_command call args verb is none (command.Peer p t) says = let s = says_it call args verb (command.Peer p t) is says in none.peer s.0 p t s.1
+no_command call args verb is none (command.Base p t head state tx) says = let s = says_it call args verb (command.Base p t head state tx) is says in none.base s.0 p t head state tx s.1
+no_command call args verb is none (command.Node p t kind path blob) says = let s = says_it call args verb (command.Node p t kind path blob) is says in none.node s.0 p t kind path blob s.1
+no_command call args verb is none (command.Check t) says = let s = says_it call args verb (command.Check t) is says in none.check s.0 t s.1
+no_command call args verb is none (command.Tick t) says = (says_it call args verb (command.Tick t) is says).1
+no_command call args verb is none (command.View v t) says = (says_it call args verb (command.View v t) is says).1
+no_command call args verb is none (command.Unview v) says = (says_it call args verb (command.Unview v) is says).1
+no_command call args verb is none (command.Get v kind key) says = (says_it call args verb (command.Get v kind key) is says).1
+no_command call args verb is none (command.Page v kind key n) says = (says_it call args verb (command.Page v kind key n) is says).1
+no_command call args verb is none (command.Edit x t) says = (says_it call args verb (command.Edit x t) is says).1
+no_command call args verb is none (command.Put x item) says = (says_it call args verb (command.Put x item) is says).1
+no_command call args verb is none (command.Del x key) says = (says_it call args verb (command.Del x key) is says).1
+no_command call args verb is none (command.Tx x item) says = (says_it call args verb (command.Tx x item) is says).1
+no_command call args verb is none (command.Close x fields) says = (says_it call args verb (command.Close x fields) is says).1
+no_command call args verb is none (command.Abandon x) says = (says_it call args verb (command.Abandon x) is says).1
+no_command call args verb is none command.Begin says = (says_it call args verb command.Begin is says).1
+no_command call args verb is none command.Swap says = (says_it call args verb command.Swap is says).1
 
 -- where the verb is one of the five, the four others have no command
 pub only_want : (args : List Bytes) → ((t : Hash) (seq : ℕ) → AreArguments args (command.Want t seq) → ⊥) → NoCommand args (codes "want")
@@ -84,13 +80,13 @@ pub only_check : (args : List Bytes) → ((t : Hash) → AreArguments args (comm
 only_check args none = record { want = differ _ _ (λ e. absurd (omega arith)); peer = differ _ _ (λ e. absurd (omega arith)); base = differ _ _ (λ e. absurd (omega arith)); node = differ _ _ (λ e. absurd (omega arith)); check = λ _. none }
 
 -- what one command's reader found, or that it found nothing
-pub found : {Q : Type 0} (words args : List Bytes) (verb : Bytes) (r : Option Command) → words ≡ codes "0" ∷ verb ∷ args → IfSome r (λ c. (word_of c ≡ verb) × AreArguments args c) → IfNone r Q
-    → (Q → (c : Command) → AreWords words c → ⊥) → MatchOption r ((c : Command) → AreWords words c → ⊥) (AreWords words)
+pub found : {Q : Type 0} (words args : List Bytes) (verb : Bytes) (r : Option Command) → words ≡ verb ∷ args → IfSome r (λ c. (word_of c ≡ verb) × AreArguments args c) → IfNone r Q
+    → (Q → (c : Command) → CallSays words c → ⊥) → MatchOption r ((c : Command) → CallSays words c → ⊥) (CallSays words)
 found words args verb None is some none nothing = nothing none
 found words args verb (Some c) is some none nothing = found_one words args verb c is some.0 some.1
 
-pub found_ok : {Q : Type 0} (words args : List Bytes) (verb : Bytes) (r : Result (Option Command) Memory) → words ≡ codes "0" ∷ verb ∷ args → IfOk r (λ f. IfSome f (λ c. (word_of c ≡ verb) × AreArguments args c)) → IfOk r (λ f. IfNone f Q)
-    → (Q → (c : Command) → AreWords words c → ⊥) → IfOk r (λ f. MatchOption f ((c : Command) → AreWords words c → ⊥) (AreWords words))
+pub found_ok : {Q : Type 0} (words args : List Bytes) (verb : Bytes) (r : Result (Option Command) Memory) → words ≡ verb ∷ args → IfOk r (λ f. IfSome f (λ c. (word_of c ≡ verb) × AreArguments args c)) → IfOk r (λ f. IfNone f Q)
+    → (Q → (c : Command) → CallSays words c → ⊥) → IfOk r (λ f. MatchOption f ((c : Command) → CallSays words c → ⊥) (CallSays words))
 found_ok words args verb (Ok f) is some none nothing = found words args verb f is some none nothing
 found_ok words args verb (Err e) is some none nothing = tt
 

@@ -1,6 +1,10 @@
 mod ByteWords
-pub mod Scripts
-pub mod Servable
 pub mod Commands
 pub mod Cuts
 pub mod Numbers
+pub mod Right
+pub mod Said
+pub mod Scripts
+pub mod Servable
+pub mod Shapes
+pub mod Waits

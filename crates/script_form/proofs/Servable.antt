@@ -1,8 +1,9 @@
 -- The lines of a script are lines that a core takes.
-use Rattle.std.proofs.Common.{◌≡◌, ℕ, zero, suc, ◌+◌, ◌<◌, ◌≤◌, List, [], ◌∷◌, length, true, false, cond, Option, None, Some, refl, sym, ◌∙◌, ap, subst}
+use Rattle.std.proofs.Common.{◌≡◌, ◌≢◌, ◌⊎◌, inl, inr, ℕ, zero, suc, ◌+◌, ◌<◌, ◌≤◌, ◌^◌, List, [], ◌∷◌, ◌++◌, length, map, Option, None, Some, refl, sym, ◌∙◌, ap, subst}
 use Rattle.std.proofs.Common.{arith, length-append}
-use Rattle.std.specs.Prelude.{◌==◌}
-use Rattle.std.specs.List.{All}
+use Rattle.std.specs.List.{All, Contains}
+use Rattle.std.proofs.lemmas.List.{map-append}
+use Rattle.std.proofs.lemmas.List.Elements.{All-push, All-weaker, All-contains, All-map, Contains-append_left}
 use Rattle.ledger_spec.specs.Bytes.{Bytes}
 use Rattle.ledger_machine.specs.declared.commands.Command.{Command}
 use Rattle.ledger_machine.specs.declared.commands.Command.TheVariants as command
@@ -11,8 +12,8 @@ use Rattle.ledger_machine.specs.Scripts.{Rises, IfBytes, IsInRange, IsLedgerMap}
 use Rattle.ledger_spec.specs.declared.Kind.{Kind}
 use Rattle.ledger_spec.specs.declared.Kind.TheVariants.{State}
 use Rattle.script_form.specs.Servable.{IsServed, WaitsForEarlier, AreServable}
-use Rattle.script_form.specs.Words.{pieces, onto_first}
-use Rattle.script_form.specs.Grammar.{AreParts, AreArguments, AreLines, IsLine, IsScript}
+use Rattle.script_form.specs.Causes.{call_in}
+use Rattle.script_form.specs.Grammar.{AreParts, AreArguments, CallSays, SaysAfter, WordsSay, Says}
 use Rattle.script_form.proofs.ByteWords.{blob_bytes}
 
 a_state_map : (kind : Kind) → kind ≡ State → IsLedgerMap kind
@@ -64,45 +65,65 @@ served args (command.Abandon x) are = are
 served args command.Begin are = are
 served args command.Swap are = are
 
--- what each line has that one text of a line gives
-all_lines : (P : Line → Type 0) → ((n : ℕ) (text : Bytes) (l : Line) → IsLine n text l → P l) → (n : ℕ) (texts : List Bytes) (lines : List Line) → AreLines n texts lines → All P lines
-all_lines P each n texts [] are k d lt = absurd (omega arith)
-all_lines P each n [] (l ∷ lines) are k d lt = absurd are
-all_lines P each n (t ∷ texts) (l ∷ lines) are zero d lt = each n t l are.0
-all_lines P each n (t ∷ texts) (l ∷ lines) are (suc k) d lt = all_lines P each (n + 1) texts lines are.1 k d (omega arith)
+-- what is known of a line that words say
+pub record Known (earlier : List ℕ) (l : Line) : Type 0 where
+  pub actor : l.actor < 64
+  pub in_range : IsInRange l.command
+  pub served : IsServed l.command
+  pub waits : l.after ≢ 0 → Contains earlier l.after
 
-rises : (m n : ℕ) (texts : List Bytes) (lines : List Line) → n ≡ m + 1 → AreLines n texts lines → Rises m lines
-rises m n texts [] next are = tt
-rises m n [] (l ∷ lines) next are = absurd are
-rises m n (t ∷ texts) (l ∷ lines) next are = (omega (arith, are.0.numbered, next), rises l.number (n + 1) texts lines (omega (arith, are.0.numbered)) are.1)
+call_known : (call : List Bytes) (c : Command) → CallSays call c → IsInRange c × IsServed c
+call_known [] c says = absurd says
+call_known (word ∷ args) c says = (in_range args c says.1, served args c says.1)
 
-same_length : (n : ℕ) (texts : List Bytes) (lines : List Line) → AreLines n texts lines → length lines ≡ length texts
-same_length n [] [] are = refl
-same_length n [] (l ∷ lines) are = absurd are
-same_length n (t ∷ texts) [] are = absurd are
-same_length n (t ∷ texts) (l ∷ lines) are = omega (arith, same_length (n + 1) texts lines are.1)
+pub known : (earlier : List ℕ) (words : List Bytes) (l : Line) → WordsSay earlier words l → Known earlier l
+known earlier [] l says = absurd says
+known earlier (actor ∷ words) l says =
+    let call = call_known (call_in words) l.command says.2 in
+    record {
+      actor = omega (arith, says.0.within);
+      in_range = call.0;
+      served = call.1;
+      waits = λ some. elim says.1 [ inl free ↦ absurd (some free.1) | inr named ↦ named.1.found ];
+    }
 
-onto_length : (x : ℕ) (ps : List Bytes) (n : ℕ) → length ps ≤ n → 0 < n → length (onto_first x ps) ≤ n
-onto_length x [] n le some = omega arith
-onto_length x (p ∷ ps) n le some = le
+rises_more : (m : ℕ) (lines : List Line) (l : Line) → Rises m lines → m < l.number → All (λ x. x.number < l.number) lines → Rises m (lines ++ l ∷ [])
+rises_more m [] l rises more below = (more, tt)
+rises_more m (x ∷ lines) l rises more below = (rises.0, rises_more x.number lines l rises.1 (below 0 x (omega arith)) (λ k d lt. below (suc k) d (omega arith)))
 
-few_pieces : (separator : ℕ) (bytes : Bytes) → length (pieces separator bytes) ≤ length bytes + 1
-few_pieces separator [] = omega arith
-few_pieces separator (x ∷ xs) =
-    let more : length (pieces separator xs) ≤ length xs + 1 = few_pieces separator xs in
-    elim (x == separator) as (λ b. length (cond b ([] ∷ pieces separator xs) (onto_first x (pieces separator xs))) ≤ length (x ∷ xs) + 1) [
-      | true ↦ omega (arith, more)
-      | false ↦ onto_length x (pieces separator xs) (length (x ∷ xs) + 1) (omega (arith, more)) (omega arith)
-    ]
-
-pub are_servable : (bytes : Bytes) (lines : List Line) → IsScript bytes lines → AreServable lines
-are_servable bytes lines s = record {
-  actors_known = all_lines (λ l. l.actor < 64) (λ n text l is. omega (arith, is.actor)) 1 s.texts lines s.are;
-  numbers_rise = rises 0 1 s.texts lines (omega arith) s.are;
-  in_range = all_lines (λ l. IsInRange l.command) (λ n text l is. in_range is.says.0 l.command is.says.2) 1 s.texts lines s.are;
-  served = all_lines (λ l. IsServed l.command) (λ n text l is. served is.says.0 l.command is.says.2) 1 s.texts lines s.are;
-  waiting = all_lines (WaitsForEarlier lines) (λ n text l is waits. absurd (waits is.free)) 1 s.texts lines s.are;
-  few =
-      let one : length (pieces 10 bytes) ≡ length s.texts + 1 = ap length s.cut ∙ length-append s.texts ([] ∷ []) in
-      omega (arith, one, few_pieces 10 bytes, s.few, same_length 1 s.texts lines s.are);
+none_servable : AreServable []
+none_servable = record {
+  actors_known = λ k d lt. absurd (omega arith);
+  numbers_rise = tt;
+  in_range = λ k d lt. absurd (omega arith);
+  served = λ k d lt. absurd (omega arith);
+  waiting = λ k d lt. absurd (omega arith);
+  few = omega arith;
 }
+
+pub nothing_servable : AreServable []
+nothing_servable = none_servable
+
+-- one line more
+pub servable_more : (lines : List Line) (l : Line) → AreServable lines → 0 < l.number → All (λ x. x.number < l.number) lines → length lines + 1 < 2 ^ 32 → Known (map (λ x. x.number) lines) l → AreServable (lines ++ l ∷ [])
+servable_more lines l s some below few k = record {
+  actors_known = All-push (λ x. x.actor < 64) lines l s.actors_known k.actor;
+  numbers_rise = rises_more 0 lines l s.numbers_rise some below;
+  in_range = All-push (λ x. IsInRange x.command) lines l s.in_range k.in_range;
+  served = All-push (λ x. IsServed x.command) lines l s.served k.served;
+  waiting = All-push (WaitsForEarlier (lines ++ l ∷ [])) lines l (All-weaker (WaitsForEarlier lines) (WaitsForEarlier (lines ++ l ∷ [])) wider lines s.waiting) here;
+  few = omega (arith, few, length-append lines (l ∷ []));
+}
+  where
+    more : (n : ℕ) → Contains (map (λ x. x.number) lines) n → Contains (map (λ x. x.number) (lines ++ l ∷ [])) n
+    more n among =
+        subst (λ (ns : List ℕ). Contains ns n) (sym (map-append (λ (x : Line). x.number) lines (l ∷ [])))
+        (Contains-append_left (map (λ x. x.number) lines) (l.number ∷ []) n among)
+
+    wider : (x : Line) → WaitsForEarlier lines x → WaitsForEarlier (lines ++ l ∷ []) x
+    wider x waits some = let w = waits some in (w.0, more x.after w.1)
+
+    here : WaitsForEarlier (lines ++ l ∷ []) l
+    here some =
+        let among = k.waits some in
+        (All-contains (λ n. n < l.number) (map (λ x. x.number) lines) l.after (All-map (λ n. n < l.number) (λ (x : Line). x.number) lines below) among, more l.after among)

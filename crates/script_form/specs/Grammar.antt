@@ -1,17 +1,14 @@
--- The text of a script: command lines of one actor, in the strict form.
-use Rattle.std.specs.Prelude.{◌≡◌, ◌≢◌, ◌⊎◌, ℕ, ◌+◌, ◌<◌, ◌≤◌, List, [], ◌∷◌, ◌++◌, length, codes, Option, None, Some}
-use Rattle.std.specs.List.{flat_map}
+-- The text of a script.
+use Rattle.std.specs.Prelude.{◌≡◌, ◌⊎◌, ℕ, ◌+◌, List, [], ◌∷◌, ◌++◌, length, codes, true, false, Option, None, Some}
 use Rattle.ledger_spec.specs.Bytes.{Bytes}
 use Rattle.ledger_spec.specs.declared.Kind.TheVariants.{State}
 use Rattle.ledger_machine.specs.declared.commands.Command.{Command}
 use Rattle.ledger_machine.specs.declared.commands.Command.TheVariants as command
 use Rattle.ledger_machine.specs.declared.commands.Line.{Line}
 use Rattle.ledger_machine.specs.Scripts.{word_of}
-use Rattle.script_form.specs.Words.{pieces, words_of, IsNumber, IsTarget, IsBlob, IsId}
-
--- the most bytes of a script
-abbrev pub most_bytes : ℕ
-most_bytes = 1048576
+use Rattle.script_form.specs.declared.cause.Cause.{Cause}
+use Rattle.script_form.specs.Words.{lines_of, text_of, words_of, IsNumber, IsTarget, IsBlob, IsId}
+use Rattle.script_form.specs.Causes.{most_bytes, is_skipped, commands_from, waits, call_in, IsEarlier, AreFine, IsFirst, number_of}
 
 -- the most bytes that are read: one more than a script may have
 abbrev pub most_read : ℕ
@@ -39,52 +36,49 @@ AreArguments args (command.Node p t kind path blob) =
 AreArguments args (command.Check t) = (target : Bytes) × (args ≡ target ∷ []) × IsTarget target t
 AreArguments args _ = ⊥
 
--- the words say the command, of actor 0
-abbrev pub AreWords : List Bytes → Command → Type 0
-AreWords words c = (args : List Bytes) × (words ≡ codes "0" ∷ word_of c ∷ args) × AreArguments args c
+-- a command's word and its arguments say the command
+abbrev pub CallSays : List Bytes → Command → Type 0
+CallSays [] c = ⊥
+CallSays (word ∷ args) c = (word ≡ word_of c) × AreArguments args c
 
--- what a line says
-abbrev pub Says : Bytes → Command → Type 0
-Says text c = AreWords (words_of text) c
+-- the words behind the actor name the line that is waited for, or none
+abbrev pub SaysAfter : List ℕ → List Bytes → ℕ → Type 0
+SaysAfter earlier words after =
+    ((waits words ≡ false) × (after ≡ 0)) ⊎ ((waits words ≡ true) × IsEarlier earlier words after)
 
--- the line of this number that the text is
-pub record IsLine (number : ℕ) (text : Bytes) (line : Line) : Type 0 where
-  pub numbered : line.number ≡ number
-  pub actor : line.actor ≡ 0
-  pub free : line.after ≡ 0
-  pub says : Says text line.command
+-- The words of a command line say a line; `earlier` are the numbers of the command lines before it.
+abbrev pub WordsSay : List ℕ → List Bytes → Line → Type 0
+WordsSay earlier [] l = ⊥
+WordsSay earlier (actor ∷ words) l = IsNumber actor 63 l.actor × SaysAfter earlier words l.after × CallSays (call_in words) l.command
 
--- the texts are these lines, numbered from n
-abbrev pub AreLines : ℕ → List Bytes → List Line → Type 0
-AreLines n [] [] = Unit {0}
-AreLines n (text ∷ texts) (line ∷ lines) = IsLine n text line × AreLines (n + 1) texts lines
-AreLines n [] (line ∷ lines) = ⊥
-AreLines n (text ∷ texts) [] = ⊥
+-- the text of line n says this line
+pub record Says (earlier : List ℕ) (n : ℕ) (text : Bytes) (l : Line) : Type 0 where
+  pub numbered : l.number ≡ n
+  pub words : WordsSay earlier (words_of text) l
 
--- the bytes of lines, each ended by a newline
-abbrev pub ended : List Bytes → Bytes
-ended texts = flat_map (λ text. text ++ 10 ∷ []) texts
+-- Behind some lines, further ones say these: each that isn't skipped says one, in order.
+abbrev pub AreLines : List Bytes → List Bytes → List Line → Type 0
+AreLines before [] [] = Unit {0}
+AreLines before [] (l ∷ lines) = ⊥
+AreLines before (line ∷ rest) [] = (is_skipped (words_of (text_of line)) ≡ true) × AreLines (before ++ line ∷ []) rest []
+AreLines before (line ∷ rest) (l ∷ lines) =
+    ((is_skipped (words_of (text_of line)) ≡ true) × AreLines (before ++ line ∷ []) rest (l ∷ lines))
+    ⊎ ((is_skipped (words_of (text_of line)) ≡ false)
+    × Says (commands_from 1 before) (length before + 1) (text_of line) l × AreLines (before ++ line ∷ []) rest lines)
 
--- the bytes are a script of these lines: nothing stands behind the last newline
+-- the bytes are a script of these lines: no line has a cause, and these are the lines that they say
 pub record IsScript (bytes : Bytes) (lines : List Line) : Type 0 where
-  pub texts : List Bytes
-  pub cut : pieces 10 bytes ≡ texts ++ [] ∷ []
-  pub are : AreLines 1 texts lines
-  pub few : length bytes ≤ most_bytes
+  pub fine : AreFine (lines_of bytes)
+  pub says : AreLines [] (lines_of bytes) lines
 
--- why the piece behind some lines is no line of a script: no newline ends it, it says nothing, or it holds the byte after the last that
--- a script may have
-abbrev pub IsBad : List Bytes → Bytes → List Bytes → Type 0
-IsBad before bad after = (after ≡ []) ⊎ (((c : Command) → Says bad c → ⊥) ⊎ (most_bytes < length (ended before) + length bad + 1))
-
--- the first line that is no line of a script has this number: those before it are lines
-pub record IsRefused (bytes : Bytes) (number : ℕ) : Type 0 where
+-- the bytes are refused at line n for this cause: those before it have none, and it is the first that this one has
+pub record IsRefused (bytes : Bytes) (n cause : ℕ) : Type 0 where
   pub before : List Bytes
   pub bad : Bytes
   pub after : List Bytes
-  pub cut : pieces 10 bytes ≡ before ++ bad ∷ after
-  pub stands : bad ∷ after ≢ [] ∷ []
-  pub place : number ≡ length before + 1
-  pub good : (lines : List Line) × AreLines 1 before lines
-  pub room : length (ended before) ≤ most_bytes
-  pub why : IsBad before bad after
+  pub cut : lines_of bytes ≡ before ++ bad ∷ after
+  pub place : n ≡ length before + 1
+  pub good : AreFine before
+  pub why : Cause
+  pub first : IsFirst before bad why
+  pub number : cause ≡ number_of why

@@ -1,6 +1,6 @@
--- The words of a line.
-use Rattle.std.specs.Prelude.{◌≡◌, ◌⊎◌, ℕ, ◌+◌, ◌-◌, ◌*◌, ◌<◌, ◌≤◌, ◌==◌, if◌then◌else◌, List, [], ◌∷◌, length, IsTrue, Ok}
-use Rattle.std.specs.List.{list_all}
+-- The lines of bytes, the words of a line, and what single words say.
+use Rattle.std.specs.Prelude.{◌≡◌, ◌⊎◌, ℕ, ◌+◌, ◌-◌, ◌*◌, ◌<◌, ◌≤◌, ◌==◌, if◌then◌else◌, List, [], ◌∷◌, length, nat_lt, IsTrue, Ok}
+use Rattle.std.specs.List.{list_all, filter}
 use Rattle.std.specs.Char.{is_ascii_digit}
 use Rattle.hex.specs.Hex.{decode_of}
 use Rattle.nib_path.specs.Paths.{IsPath, id_wire}
@@ -17,9 +17,19 @@ abbrev pub pieces : ℕ → Bytes → List Bytes
 pieces separator [] = [] ∷ []
 pieces separator (x ∷ xs) = if x == separator then [] ∷ pieces separator xs else onto_first x (pieces separator xs)
 
--- the words of a text, separated by one space each
+-- the lines of the bytes, each with the newline that ends it; the last one may lack it
+abbrev pub lines_of : Bytes → List Bytes
+lines_of [] = []
+lines_of (x ∷ xs) = if x == 10 then (10 ∷ []) ∷ lines_of xs else onto_first x (lines_of xs)
+
+-- a line's text: what stands before its newline
+abbrev pub text_of : Bytes → Bytes
+text_of [] = []
+text_of (x ∷ xs) = if x == 10 then [] else x ∷ text_of xs
+
+-- the words of a text: what stands between its spaces
 abbrev pub words_of : Bytes → List Bytes
-words_of text = pieces 32 text
+words_of text = filter (λ piece. nat_lt 0 (length piece)) (pieces 32 text)
 
 -- the number of decimal digits behind a number
 abbrev pub decimal_behind : ℕ → Bytes → ℕ
@@ -42,6 +52,11 @@ pub record IsTarget (word : Bytes) (target : Hash) : Type 0 where
 -- bytes: two hexadecimal digits each, at least one byte, or `-` for none
 abbrev pub IsBlob : Bytes → Bytes → Type 0
 IsBlob word bytes = ((word ≡ 45 ∷ []) × (bytes ≡ [])) ⊎ ((0 < length word) × (decode_of word ≡ Ok bytes))
+
+-- 66 hexadecimal digits, of 33 bytes
+pub record IsIdText (word bytes : Bytes) : Type 0 where
+  pub digits : length word ≡ 66
+  pub value : decode_of word ≡ Ok bytes
 
 -- a node ID: 66 hexadecimal digits of its wire form
 pub record IsId (word : Bytes) (path : List ℕ) : Type 0 where

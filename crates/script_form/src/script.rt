@@ -1,11 +1,14 @@
 //! A script read into its lines.
-ghost use Rattle.std.specs.Prelude.{◌≡◌, ◌<◌, ◌≤◌, ◌+◌, ℕ, List, Some, [], length, take, OnOk, IfOk, IfErr, IfSome};
+ghost use Rattle.std.specs.Prelude.{◌≡◌, ◌<◌, ◌≤◌, ◌+◌, ℕ, List, Some, [], length, take, drop, ◌∷◌, OnOk, IfOk, IfErr, IfSome};
 ghost use Rattle.script_form.specs.Servable.{AreServable};
 ghost use Rattle.run_io.specs.Bytes.{TookPart};
 ghost use Rattle.script_form.specs.Grammar.{most_read, IsScript};
+ghost use Rattle.script_form.specs.Words.{text_of, lines_of};
+ghost use Rattle.script_form.specs.Causes.{most_bytes, number_of};
 ghost use Rattle.script_form.specs.Faults.{HasLineCause, HasScriptCause};
 
-use crate::line::command_of;
+use crate::cause::Cause;
+use crate::judging::{LineFault, judge};
 use crate::words::piece_end;
 use half_hash::{Memory, NodeHash};
 use ledger_machine::{Line, Script};
@@ -13,15 +16,14 @@ use run_io::{AllFault, Source, read_all};
 use std::alloc::{AllocError, AllocFailed, Global};
 
 /// The most bytes of a script.
-pub const MOST_BYTES: usize = 1_048_576;
+pub const MOST_BYTES: usize = 67_108_864;
 
 /// Why there is no script.
 #[derive(Clone, Copy, Debug, PartialEq, Eq)]
 pub enum ScriptFault {
     /// The source failed.
     Fault,
-    /// The line of this number is the first that is no line of a script, for the cause of this
-    /// number: 5, the one cause that there is at present.
+    /// The line of this number is the first that has a cause, and its first cause has this number.
     Refused { line: u32, cause: u8 },
     /// Memory was refused.
     Memory,
@@ -49,41 +51,60 @@ impl<T: Drop> From<AllocFailed<T>> for ScriptFault {
     }
 }
 
-/// The lines of a script's bytes, or the first line that is none.
+/// The lines of a script's bytes, or the first line that has a cause.
 fn read_lines(alloc: Global, bytes: &[u8]) -> Result<Vec<Line>, ScriptFault>
     requires { length bytes.now ≤ most_read }
     ensures script { IfOk result (λ lines. IsScript bytes.now lines.items) }
     ensures servable { IfOk result (λ lines. AreServable lines.items) }
+    ensures few { OnOk result (length bytes.now ≤ most_bytes) }
     ensures refused { IfErr result (HasLineCause bytes.now) }
 {
     let mut lines = Vec::new(alloc);
+    let mut earlier: Vec<u32> = Vec::new(alloc);
     let mut rest = bytes;
-    let mut number: u32 = 1;
+    let mut n: u32 = 1;
     while !rest.is_empty() {
-        let end = piece_end(rest, b'\n');
-        if end == rest.len() || bytes.len() - rest.len() + end + 1 > MOST_BYTES {
-            return Err(refused(number));
+        let (text, line) = first_line(rest);
+        if bytes.len() - rest.len() + line > MOST_BYTES {
+            return Err(refused(n, Cause::ScriptTooLong));
         }
-        let (text, behind) = rest.split_at(end);
-        let Some(command) = command_of(alloc, text)? else {
-            return Err(refused(number));
+        let said = match judge(alloc, n, text, &earlier) {
+            Ok(said) => said,
+            Err(LineFault::Cause(cause)) => return Err(refused(n, cause)),
+            Err(LineFault::Memory) => return Err(ScriptFault::Memory),
         };
-        lines.push(Line {
-            number,
-            actor: 0,
-            after: 0,
-            command,
-        })?;
-        rest = behind.split_at(1).1;
-        number += 1;
+        if let Some(line) = said {
+            earlier.push(n)?;
+            lines.push(line)?;
+        }
+        rest = rest.split_at(line).1;
+        n += 1;
     }
     Ok(lines)
 }
 
-fn refused(line: u32) -> ScriptFault
-    ensures { result ≡ ScriptFault.Refused line 5 }
+/// The text of the first line, and how many bytes the line has with its newline.
+fn first_line(bytes: &[u8]) -> (&[u8], usize)
+    requires { 0 < length bytes.now }
+    ensures some { 0 < result.1 }
+    ensures within { result.1 ≤ length bytes.now }
+    ensures text { result.0.now ≡ text_of (take result.1 bytes.now) }
+    ensures cut { lines_of bytes.now ≡ take result.1 bytes.now ∷ lines_of (drop result.1 bytes.now) }
 {
-    ScriptFault::Refused { line, cause: 5 }
+    let end = piece_end(bytes, b'\n');
+    if end == bytes.len() {
+        return (bytes, end);
+    }
+    (bytes.split_at(end).0, end + 1)
+}
+
+fn refused(line: u32, cause: Cause) -> ScriptFault
+    ensures { result ≡ ScriptFault.Refused line (number_of cause) }
+{
+    ScriptFault::Refused {
+        line,
+        cause: cause.number(),
+    }
 }
 
 /// The script of a source, which is read to its end, or to the byte after the last that a script

@@ -1,7 +1,7 @@
 //! The words of a line, and what single words say.
 ghost use Rattle.std.specs.Prelude.{◌≡◌, ◌≢◌, ◌≤◌, ◌<◌, ◌∷◌, ◌^◌, ℕ, List, Ok, length, map, slice_index, IfOk, MatchBool, MatchOption};
 ghost use Rattle.half_hash.specs.Hex.{IsHexOf};
-ghost use Rattle.script_form.specs.Words.{words_of as text_words, IsNumber, IsTarget, IsBlob, IsId, decimal_behind};
+ghost use Rattle.script_form.specs.Words.{words_of as text_words, IsNumber, IsTarget, IsBlob, IsId, IsIdText, decimal_behind};
 
 use half_hash::{Blob, Hash32, Memory};
 use nib_path::NodeId;
@@ -21,7 +21,7 @@ pub(crate) fn piece_end(bytes: &[u8], separator: u8) -> usize
     bytes.len()
 }
 
-/// The words of a text, which are separated by one space each.
+/// The words of a text: what stands between its spaces.
 pub fn words_of(alloc: Global, text: &[u8]) -> Result<Vec<&[u8]>, Memory>
     ensures { IfOk result (λ words. map (λ w. w.now) words.items ≡ text_words text.now) }
 {
@@ -30,7 +30,9 @@ pub fn words_of(alloc: Global, text: &[u8]) -> Result<Vec<&[u8]>, Memory>
     loop {
         let end = piece_end(rest, b' ');
         let (word, behind) = rest.split_at(end);
-        words.push(word)?;
+        if !word.is_empty() {
+            words.push(word)?;
+        }
         if behind.is_empty() {
             return Ok(words);
         }
@@ -84,9 +86,9 @@ pub(crate) fn target_word(word: &[u8]) -> Option<Hash32>
     if hash.is_zero() { None } else { Some(hash) }
 }
 
-/// The node ID of 66 hexadecimal digits, its wire form.
-pub fn id_word(word: &[u8]) -> Option<NodeId>
-    ensures { MatchOption result ((path : List ℕ) → IsId word.now path → ⊥) (IsId word.now) }
+/// The 33 bytes of 66 hexadecimal digits.
+pub(crate) fn id_text(word: &[u8]) -> Option<[u8; 33]>
+    ensures { MatchOption result ((bytes : List ℕ) → IsIdText word.now bytes → ⊥) (IsIdText word.now) }
 {
     if word.len() != 66 {
         return None;
@@ -95,6 +97,14 @@ pub fn id_word(word: &[u8]) -> Option<NodeId>
     if hex::decode_to_slice(word, &mut bytes).is_err() {
         return None;
     }
+    Some(bytes)
+}
+
+/// The node ID of 66 hexadecimal digits, its wire form.
+pub fn id_word(word: &[u8]) -> Option<NodeId>
+    ensures { MatchOption result ((path : List ℕ) → IsId word.now path → ⊥) (IsId word.now) }
+{
+    let bytes = id_text(word)?;
     let Ok(id) = NodeId::from_wire(&bytes) else {
         return None;
     };

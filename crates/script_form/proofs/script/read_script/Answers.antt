@@ -1,13 +1,12 @@
-use Rattle.std.proofs.Common.{List, ℕ, subst}
+use Rattle.std.proofs.Common.{◌≤◌, List, ℕ, length, subst}
 use Rattle.run_io.proofs.Bytes.{took_at_most}
-use Rattle.script_form.specs.Grammar.{IsScript}
+use Rattle.script_form.specs.Causes.{most_bytes}
 use Rattle.script_form.proofs.Scripts.{ended_at}
 use Rattle.script_form.proofs.script.read_script.Goals as goal
 
 pub returns-clause-ended : goal.returns-clause-ended
 returns-clause-ended g c =
-    let P : List ℕ → Type 0 = λ v. IsScript v c.in_ok-lines.lines.items in
-    ended_at _ _ c.in-Ok.bytes.items c.in_ok-lines.lines.items c.in-Ok.ensures.rest c.in-Ok.ensures.read (subst P c.deref.ensures.value c.in_ok-lines.ensures.script)
+    ended_at _ _ c.in-Ok.bytes.items c.in-Ok.ensures.rest c.in-Ok.ensures.read (subst (λ (v : List ℕ). length v ≤ most_bytes) c.deref.ensures.value c.in_ok-lines.ensures.few)
 
 -- all that was read stands in front
 pub returns-clause-taken : goal.returns-clause-taken

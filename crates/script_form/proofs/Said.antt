@@ -1,0 +1,266 @@
+-- A line that says something has no cause, and one without a cause says something.
+use Rattle.std.proofs.Common.{◌≡◌, ◌≢◌, ◌⊎◌, inl, inr, ℕ, zero, suc, ◌+◌, ◌-◌, ◌<◌, ◌≤◌, min, List, [], ◌∷◌, length, take, drop, map, get_or, Bor, Some, Bool, true, false, refl, sym, ◌∙◌, ap, subst, arith}
+use Rattle.std.proofs.lemmas.List.{take_all}
+use Rattle.std.specs.Prelude.{MatchBool, Result, Ok, Err, IfOk}
+use Rattle.half_hash.specs.declared.bytes.Memory.{Memory}
+use Rattle.std.specs.List.{list_all}
+use Rattle.ledger_spec.specs.Bytes.{Bytes}
+use Rattle.ledger_machine.specs.declared.commands.Command.{Command}
+use Rattle.ledger_machine.specs.declared.commands.Line.{Line}
+use Rattle.script_form.specs.declared.cause.Cause.{Cause}
+use Rattle.script_form.specs.declared.cause.Cause.TheVariants as cause
+use Rattle.script_form.specs.declared.judging.TheConstants.{ORDER}
+use Rattle.script_form.specs.Words.{words_of, IsNumber}
+use Rattle.script_form.specs.Commands.{CallHas}
+use Rattle.script_form.specs.Causes.{is_printable, is_skipped, waits, call_in, IsEarlier, WordsHave, CommandHas, TextHas, place_of, most_text, most_commands}
+use Rattle.script_form.specs.Grammar.{CallSays, SaysAfter, WordsSay}
+use Rattle.script_form.specs.Judging.{IsFineText, IsSaid}
+use Rattle.script_form.proofs.Right.{call_fine, call_never, call_must_say}
+
+differ : {X : Type 0} {b : Bool} → b ≡ true → b ≡ false → X
+differ so free = cc
+
+-- words that say a line have no cause
+words_fine : (earlier : List ℕ) (words : List Bytes) (l : Line) → length earlier < most_commands → WordsSay earlier words l → (c : Cause) → WordsHave earlier words c → ⊥
+words_fine earlier [] l few says c has = says
+words_fine earlier (actor ∷ words) l few says cause.NoActor has = has l.actor says.0
+words_fine earlier (actor ∷ words) l few says cause.BadAfter has =
+    elim says.1 [ inl free ↦ differ has.0 free.0 | inr named ↦ has.1 l.after named.1 ]
+words_fine earlier (actor ∷ words) l few says cause.TooManyCommands has = absurd (omega (arith, few, has))
+words_fine earlier (actor ∷ words) l few says c has = call_fine (call_in words) l.command says.2 c has
+
+-- the words behind the actor without a cause can't but name a line, or none
+must_name : (earlier : List ℕ) (words : List Bytes) → ((waits words ≡ true) × ((n : ℕ) → IsEarlier earlier words n → ⊥) → ⊥) → ((after : ℕ) → SaysAfter earlier words after → ⊥) → ⊥
+must_name earlier words free none = at (waits words) refl
+  where
+    at : (b : Bool) → waits words ≡ b → ⊥
+    at true e = free (e, λ n is. none n (inr (e, is)))
+    at false e = none 0 (inl (e, refl))
+
+-- words of a command line without a cause can't but say a line
+words_must_say : (earlier : List ℕ) (words : List Bytes) → is_skipped words ≡ false → ((c : Cause) → WordsHave earlier words c → ⊥) → ((l : Line) → WordsSay earlier words l → ⊥) → ⊥
+words_must_say earlier [] stands free none = differ refl stands
+words_must_say earlier (actor ∷ words) stands free none =
+    free cause.NoActor (λ a is. must_name earlier words (free cause.BadAfter) (λ after named. call_must_say (call_in words) call (λ said says.
+    none (record { number = 0; actor = a; after = after; command = said }) (is, named, says))))
+  where
+    call : (c : Cause) → CallHas (call_in words) c → ⊥
+    call cause.NoActor has = call_never (call_in words) cause.NoActor (λ a w x. x) (λ e. cc) (λ e. cc) has
+    call cause.BadAfter has = call_never (call_in words) cause.BadAfter (λ a w x. x) (λ e. cc) (λ e. cc) has
+    call cause.TooManyCommands has = call_never (call_in words) cause.TooManyCommands (λ a w x. x) (λ e. cc) (λ e. cc) has
+    call c has = free c has
+
+module _ (earlier : List ℕ) (text : Bytes) (plain : list_all is_printable text ≡ true) (short : length text ≤ most_text) where
+  pub skipped_fine : is_skipped (words_of text) ≡ true → IsFineText earlier text
+  skipped_fine skipped cause.ScriptTooLong has = has
+  skipped_fine skipped cause.NotPrintable has = differ plain has
+  skipped_fine skipped cause.LineTooLong has = absurd (omega (arith, short, has))
+  skipped_fine skipped c has = differ skipped has.0
+
+  pub said_fine : (l : Line) → length earlier < most_commands → WordsSay earlier (words_of text) l → IsFineText earlier text
+  said_fine l few says cause.ScriptTooLong has = has
+  said_fine l few says cause.NotPrintable has = differ plain has
+  said_fine l few says cause.LineTooLong has = absurd (omega (arith, short, has))
+  said_fine l few says c has = words_fine earlier (words_of text) l few says c has.1
+
+-- a command line's text that says nothing has a cause
+pub must_say : (earlier : List ℕ) (text : Bytes) → is_skipped (words_of text) ≡ false → ((l : Line) → WordsSay earlier (words_of text) l → ⊥) → IsFineText earlier text → ⊥
+must_say earlier text stands none fine = words_must_say earlier (words_of text) stands each none
+  where
+    no_text : (words : List Bytes) (c : Cause) → (c ≡ cause.ScriptTooLong) ⊎ ((c ≡ cause.NotPrintable) ⊎ (c ≡ cause.LineTooLong)) → WordsHave earlier words c → ⊥
+    no_text [] c one h = h
+    no_text (actor ∷ words) cause.ScriptTooLong one h = call_never (call_in words) cause.ScriptTooLong (λ a w x. x) (λ e. cc) (λ e. cc) h
+    no_text (actor ∷ words) cause.NotPrintable one h = call_never (call_in words) cause.NotPrintable (λ a w x. x) (λ e. cc) (λ e. cc) h
+    no_text (actor ∷ words) cause.LineTooLong one h = call_never (call_in words) cause.LineTooLong (λ a w x. x) (λ e. cc) (λ e. cc) h
+    no_text (actor ∷ words) c one h = elim one [ inl e ↦ cc | inr (inl e) ↦ cc | inr (inr e) ↦ cc ]
+
+    each : (c : Cause) → WordsHave earlier (words_of text) c → ⊥
+    each cause.ScriptTooLong has = no_text (words_of text) cause.ScriptTooLong (inl refl) has
+    each cause.NotPrintable has = no_text (words_of text) cause.NotPrintable (inr (inl refl)) has
+    each cause.LineTooLong has = no_text (words_of text) cause.LineTooLong (inr (inr refl)) has
+    each c has = fine c (stands, has)
+
+-- the other causes of a command line are those of its call
+pub as_call : (earlier : List ℕ) (actor : Bytes) (words : List Bytes) (c : Cause) (b : Bool) → c ≢ cause.NoActor → c ≢ cause.BadAfter → c ≢ cause.TooManyCommands
+    → MatchBool b (CallHas (call_in words) c) (CallHas (call_in words) c → ⊥) → MatchBool b (WordsHave earlier (actor ∷ words) c) (WordsHave earlier (actor ∷ words) c → ⊥)
+as_call earlier actor words cause.NoActor b one two three says = absurd (one refl)
+as_call earlier actor words cause.BadAfter b one two three says = absurd (two refl)
+as_call earlier actor words cause.TooManyCommands b one two three says = absurd (three refl)
+as_call earlier actor words c b one two three says = says
+
+-- a cause of the words is one of the line, which isn't skipped
+pub of_command : (earlier : List ℕ) (words : List Bytes) (c : Cause) (b : Bool) → is_skipped words ≡ false → MatchBool b (WordsHave earlier words c) (WordsHave earlier words c → ⊥)
+    → MatchBool b (CommandHas earlier words c) (CommandHas earlier words c → ⊥)
+of_command earlier words c true stands says = (stands, says)
+of_command earlier words c false stands says = λ has. says has.1
+
+-- where a cause of a text stands in the order
+abbrev pub place_in : Cause → ℕ
+place_in c = min (place_of c) 11 - 1
+
+order_has : (c : Cause) → 0 < place_of c → (d : Cause) → get_or ORDER (place_in c) d ≡ c
+order_has cause.ScriptTooLong some d = absurd (omega arith)
+order_has cause.NotPrintable some d = refl
+order_has cause.LineTooLong some d = refl
+order_has cause.NoActor some d = refl
+order_has cause.BadAfter some d = refl
+order_has cause.UnknownCommand some d = refl
+order_has cause.ArgumentCount some d = refl
+order_has cause.BadNumber some d = refl
+order_has cause.BadHex some d = refl
+order_has cause.BadKindOrId some d = refl
+order_has cause.ZeroTarget some d = refl
+order_has cause.TooManyCommands some d = refl
+
+place_few : (c : Cause) → place_of c ≤ 12
+place_few cause.ScriptTooLong = omega arith
+place_few cause.NotPrintable = omega arith
+place_few cause.LineTooLong = omega arith
+place_few cause.NoActor = omega arith
+place_few cause.BadAfter = omega arith
+place_few cause.UnknownCommand = omega arith
+place_few cause.ArgumentCount = omega arith
+place_few cause.BadNumber = omega arith
+place_few cause.BadHex = omega arith
+place_few cause.BadKindOrId = omega arith
+place_few cause.ZeroTarget = omega arith
+place_few cause.TooManyCommands = omega arith
+
+not_eleven : (c : Cause) → place_of c ≢ 11
+not_eleven cause.ScriptTooLong e = omega (arith, e)
+not_eleven cause.NotPrintable e = omega (arith, e)
+not_eleven cause.LineTooLong e = omega (arith, e)
+not_eleven cause.NoActor e = omega (arith, e)
+not_eleven cause.BadAfter e = omega (arith, e)
+not_eleven cause.UnknownCommand e = omega (arith, e)
+not_eleven cause.ArgumentCount e = omega (arith, e)
+not_eleven cause.BadNumber e = omega (arith, e)
+not_eleven cause.BadHex e = omega (arith, e)
+not_eleven cause.BadKindOrId e = omega (arith, e)
+not_eleven cause.ZeroTarget e = omega (arith, e)
+not_eleven cause.TooManyCommands e = omega (arith, e)
+
+seat_of : (i : ℕ) (x : Cause) → i < 11 → place_in (get_or ORDER i x) ≡ i
+seat_of zero x lt = refl
+seat_of (suc zero) x lt = refl
+seat_of (suc (suc zero)) x lt = refl
+seat_of (suc (suc (suc zero))) x lt = refl
+seat_of (suc (suc (suc (suc zero)))) x lt = refl
+seat_of (suc (suc (suc (suc (suc zero))))) x lt = refl
+seat_of (suc (suc (suc (suc (suc (suc zero)))))) x lt = refl
+seat_of (suc (suc (suc (suc (suc (suc (suc zero))))))) x lt = refl
+seat_of (suc (suc (suc (suc (suc (suc (suc (suc zero)))))))) x lt = refl
+seat_of (suc (suc (suc (suc (suc (suc (suc (suc (suc zero))))))))) x lt = refl
+seat_of (suc (suc (suc (suc (suc (suc (suc (suc (suc (suc zero)))))))))) x lt = refl
+seat_of (suc (suc (suc (suc (suc (suc (suc (suc (suc (suc (suc i))))))))))) x lt = absurd (omega arith)
+
+-- no cause of a text stands before the first that was met
+pub none_before : (earlier : List ℕ) (text : Bytes) (i : ℕ) (x c : Cause) → i < 11 → c ≡ get_or ORDER i x → ((k : ℕ) (d : Cause) → k < i → TextHas earlier text (get_or ORDER k d) → ⊥)
+    → (d : Cause) → place_of d < place_of c → TextHas earlier text d → ⊥
+none_before earlier text i x c lt is none d less has = at d less has
+  where
+    seat : place_in c ≡ i
+    seat = ap place_in is ∙ seat_of i x lt
+
+    met : (d : Cause) → 0 < place_of d → place_of d < place_of c → TextHas earlier text d → ⊥
+    met d some less has =
+        let few : place_in d < i = omega (arith, seat, some, less, place_few c, not_eleven d) in
+        let P : Cause → Type 0 = λ a. TextHas earlier text a in
+        none (place_in d) d few (subst P (sym (order_has d some d)) has)
+
+    at : (d : Cause) → place_of d < place_of c → TextHas earlier text d → ⊥
+    at cause.ScriptTooLong less has = has
+    at cause.NotPrintable less has = met cause.NotPrintable (omega arith) less has
+    at cause.LineTooLong less has = met cause.LineTooLong (omega arith) less has
+    at cause.NoActor less has = met cause.NoActor (omega arith) less has
+    at cause.BadAfter less has = met cause.BadAfter (omega arith) less has
+    at cause.UnknownCommand less has = met cause.UnknownCommand (omega arith) less has
+    at cause.ArgumentCount less has = met cause.ArgumentCount (omega arith) less has
+    at cause.BadNumber less has = met cause.BadNumber (omega arith) less has
+    at cause.BadHex less has = met cause.BadHex (omega arith) less has
+    at cause.BadKindOrId less has = met cause.BadKindOrId (omega arith) less has
+    at cause.ZeroTarget less has = met cause.ZeroTarget (omega arith) less has
+    at cause.TooManyCommands less has = met cause.TooManyCommands (omega arith) less has
+
+-- a text without any of the causes in the order is fine
+pub all_met : (earlier : List ℕ) (text : Bytes) (i : ℕ) → 11 ≤ i → ((k : ℕ) (d : Cause) → k < i → TextHas earlier text (get_or ORDER k d) → ⊥) → IsFineText earlier text
+all_met earlier text i le none d has = at d has
+  where
+    met : (d : Cause) → 0 < place_of d → TextHas earlier text d → ⊥
+    met d some has =
+        let P : Cause → Type 0 = λ a. TextHas earlier text a in
+        none (place_in d) d (omega (arith, le, place_few d)) (subst P (sym (order_has d some d)) has)
+
+    at : (d : Cause) → TextHas earlier text d → ⊥
+    at cause.ScriptTooLong has = has
+    at cause.NotPrintable has = met cause.NotPrintable (omega arith) has
+    at cause.LineTooLong has = met cause.LineTooLong (omega arith) has
+    at cause.NoActor has = met cause.NoActor (omega arith) has
+    at cause.BadAfter has = met cause.BadAfter (omega arith) has
+    at cause.UnknownCommand has = met cause.UnknownCommand (omega arith) has
+    at cause.ArgumentCount has = met cause.ArgumentCount (omega arith) has
+    at cause.BadNumber has = met cause.BadNumber (omega arith) has
+    at cause.BadHex has = met cause.BadHex (omega arith) has
+    at cause.BadKindOrId has = met cause.BadKindOrId (omega arith) has
+    at cause.ZeroTarget has = met cause.ZeroTarget (omega arith) has
+    at cause.TooManyCommands has = met cause.TooManyCommands (omega arith) has
+
+-- the same of the words that were cut
+pub too_many : (earlier : List ℕ) (words : List Bytes) (text : Bytes) → words ≡ words_of text → is_skipped words ≡ false → most_commands ≤ length earlier → TextHas earlier text cause.TooManyCommands
+too_many earlier words text cut stands many =
+    let P : List Bytes → Type 0 = λ w. CommandHas earlier w cause.TooManyCommands in subst P cut (stands, at words stands)
+  where
+    at : (words : List Bytes) → is_skipped words ≡ false → WordsHave earlier words cause.TooManyCommands
+    at [] stands = differ refl stands
+    at (actor ∷ words) stands = many
+
+pub says_line : (earlier : List ℕ) (words : List Bytes) (text : Bytes) (n : ℕ) (l : Line) → list_all is_printable text ≡ true → length text ≤ most_text → length earlier < most_commands
+    → words ≡ words_of text → is_skipped words ≡ false → l.number ≡ n → WordsSay earlier words l → IsFineText earlier text × IsSaid earlier n text (Some l)
+says_line earlier words text n l plain short few cut stands numbered says =
+    let P : List Bytes → Type 0 = λ w. WordsSay earlier w l in
+    let whole = subst P cut says in
+    (said_fine earlier text plain short l few whole, (subst (λ (w : List Bytes). is_skipped w ≡ false) cut stands, record { numbered = numbered; words = whole }))
+
+pub says_nothing : (earlier : List ℕ) (words : List Bytes) (text : Bytes) → words ≡ words_of text → is_skipped words ≡ false → ((l : Line) → WordsSay earlier words l → ⊥) → IsFineText earlier text → ⊥
+says_nothing earlier words text cut stands none =
+    let P : List Bytes → Type 0 = λ w. (l : Line) → WordsSay earlier w l → ⊥ in
+    must_say earlier text (subst (λ (w : List Bytes). is_skipped w ≡ false) cut stands) (subst P cut none)
+
+-- without a name for the line that is waited for the words say none
+pub no_name : (earlier : List ℕ) (words : List (Bor Bytes)) (l : Line) → 1 ≤ length words
+    → ((after : ℕ) → SaysAfter earlier (map (λ w. w.now) (take (length words - 1) (drop 1 words))) after → ⊥) → WordsSay earlier (map (λ w. w.now) words) l → ⊥
+no_name earlier [] l le none says = says
+no_name earlier (actor ∷ words) l le none says =
+    let P : List (Bor Bytes) → Type 0 = λ w. SaysAfter earlier (map (λ w. w.now) w) l.after in
+    none l.after (subst P (sym (take_all (length (actor ∷ words) - 1) words (omega arith))) says.1)
+
+-- a cause of the words that is one of the parts behind the actor
+pub behind_actor : (words : List (Bor Bytes)) (P : List Bytes → Type 0) (Q : List Bytes → Type 0) → 1 ≤ length words → ((actor : Bytes) (behind : List Bytes) → P behind → Q (actor ∷ behind))
+    → P (map (λ w. w.now) (take (length words - 1) (drop 1 words))) → Q (map (λ w. w.now) words)
+behind_actor [] P Q le each p = absurd (omega arith)
+behind_actor (actor ∷ words) P Q le each p =
+    let R : List (Bor Bytes) → Type 0 = λ w. P (map (λ w. w.now) w) in
+    each actor.now (map (λ w. w.now) words) (subst R (take_all (length (actor ∷ words) - 1) words (omega arith)) p)
+
+abbrev NamesNone : List ℕ → List Bytes → Type 0
+NamesNone earlier behind = (waits behind ≡ true) × ((n : ℕ) → IsEarlier earlier behind n → ⊥)
+
+pub bad_after : (earlier : List ℕ) (words : List (Bor Bytes)) (c : Cause) (b : Bool) → 1 ≤ length words → is_skipped (map (λ w. w.now) words) ≡ false → c ≡ cause.BadAfter
+    → MatchBool b (NamesNone earlier (map (λ w. w.now) (take (length words - 1) (drop 1 words)))) (NamesNone earlier (map (λ w. w.now) (take (length words - 1) (drop 1 words))) → ⊥)
+    → MatchBool b (CommandHas earlier (map (λ w. w.now) words) c) (CommandHas earlier (map (λ w. w.now) words) c → ⊥)
+bad_after earlier [] c b le stands is says = absurd (omega arith)
+bad_after earlier (actor ∷ words) c b le stands is says =
+    let R : List (Bor Bytes) → Type 0 = λ w. MatchBool b (NamesNone earlier (map (λ w. w.now) w)) (NamesNone earlier (map (λ w. w.now) w) → ⊥) in
+    let S : Cause → Type 0 = λ a. MatchBool b (CommandHas earlier (map (λ w. w.now) (actor ∷ words)) a) (CommandHas earlier (map (λ w. w.now) (actor ∷ words)) a → ⊥) in
+    subst S (sym is) (of_command earlier (map (λ w. w.now) (actor ∷ words)) cause.BadAfter b stands (subst R (take_all (length (actor ∷ words) - 1) words (omega arith)) says))
+
+pub other_cause : (earlier : List ℕ) (words : List (Bor Bytes)) (c : Cause) (call : List Bytes) (r : Result Bool Memory) → 1 ≤ length words → is_skipped (map (λ w. w.now) words) ≡ false
+    → c ≢ cause.NoActor → c ≢ cause.BadAfter → c ≢ cause.TooManyCommands → call ≡ call_in (map (λ w. w.now) (take (length words - 1) (drop 1 words)))
+    → IfOk r (λ found. MatchBool found (CallHas call c) (CallHas call c → ⊥))
+    → IfOk r (λ found. MatchBool found (CommandHas earlier (map (λ w. w.now) words) c) (CommandHas earlier (map (λ w. w.now) words) c → ⊥))
+other_cause earlier [] c call r le stands one two three is says = absurd (omega arith)
+other_cause earlier (actor ∷ words) c call (Err e) le stands one two three is says = tt
+other_cause earlier (actor ∷ words) c call (Ok b) le stands one two three is says =
+    let R : List Bytes → Type 0 = λ w. MatchBool b (CallHas w c) (CallHas w c → ⊥) in
+    let whole : call ≡ call_in (map (λ w. w.now) words) = is ∙ ap (λ (w : List (Bor Bytes)). call_in (map (λ w. w.now) w)) (take_all (length (actor ∷ words) - 1) words (omega arith)) in
+    of_command earlier (map (λ w. w.now) (actor ∷ words)) c b stands (as_call earlier actor.now (map (λ w. w.now) words) c b one two three (subst R whole says))

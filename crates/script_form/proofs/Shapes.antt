@@ -1,0 +1,75 @@
+-- The forms of the commands, and the causes that their arguments have.
+use Rattle.std.proofs.Common.{◌≡◌, ◌≢◌, ℕ, zero, suc, ◌<◌, List, [], ◌∷◌, length, get_or, refl, sym, ◌∙◌, ap, subst, arith, Bool, true, false}
+use Rattle.std.specs.Prelude.{slice_index, codes, if◌then◌else◌, ◌==◌, not, Option, None, Some, is_some, MatchBool, MatchOption}
+use Rattle.ledger_spec.specs.Bytes.{Bytes}
+use Rattle.script_form.specs.declared.forms.Form.{Form}
+use Rattle.script_form.specs.declared.forms.Form.TheVariants as form
+use Rattle.script_form.specs.declared.forms.TheConstants.{FORMS}
+use Rattle.script_form.specs.declared.forms.Argument.TheVariants as argument
+use Rattle.script_form.specs.declared.cause.Cause.{Cause}
+use Rattle.script_form.specs.declared.cause.Cause.TheVariants as cause
+use Rattle.script_form.specs.Words.{IsBlob}
+use Rattle.script_form.specs.Commands.{word_in, arguments_in, IsWrong}
+
+-- where a form stands among all
+abbrev pub index_of : Form → ℕ
+index_of form.Want = 0
+index_of form.Peer = 1
+index_of form.Base = 2
+index_of form.BaseState = 3
+index_of form.Node = 4
+index_of form.Check = 5
+
+pub stands_there : (f d : Form) → get_or FORMS (index_of f) d ≡ f
+stands_there form.Want d = refl
+stands_there form.Peer d = refl
+stands_there form.Base d = refl
+stands_there form.BaseState d = refl
+stands_there form.Node d = refl
+stands_there form.Check d = refl
+
+pub index_below : (f : Form) → index_of f < 6
+index_below form.Want = omega arith
+index_below form.Peer = omega arith
+index_below form.Base = omega arith
+index_below form.BaseState = omega arith
+index_below form.Node = omega arith
+index_below form.Check = omega arith
+
+-- what holds of each form in its place holds of all
+pub all_forms : (P : Form → Type 0) → ((k : ℕ) (d : Form) → k < 6 → P (get_or FORMS k d)) → (f : Form) → P f
+all_forms P each f = subst P (stands_there f f) (each (index_of f) f (index_below f))
+
+-- the form of a first byte and a number of arguments
+abbrev form_by : ℕ → ℕ → Form
+form_by first count =
+    if first == 119 then form.Want else if first == 112 then form.Peer else if first == 110 then form.Node else if first == 99 then form.Check
+    else if count == 3 then form.Base else form.BaseState
+
+by_form : (f : Form) → form_by (slice_index (word_in f) 0) (length (arguments_in f)) ≡ f
+by_form form.Want = refl
+by_form form.Peer = refl
+by_form form.Base = refl
+by_form form.BaseState = refl
+by_form form.Node = refl
+by_form form.Check = refl
+
+-- there is one form of a word and a number of arguments
+pub one_form : (f g : Form) → word_in f ≡ word_in g → length (arguments_in f) ≡ length (arguments_in g) → f ≡ g
+one_form f g word count =
+    sym (by_form f) ∙ ap (λ (w : Bytes). form_by (slice_index w 0) (length (arguments_in f))) word
+    ∙ ap (λ (n : ℕ). form_by (slice_index (word_in g) 0) n) count ∙ by_form g
+
+-- a word that is no bytes is wrong in their place
+pub blob_tells : (c : Cause) (word : Bytes) (r : Option Bytes) (b : Bool) → c ≡ cause.BadHex → is_some r ≡ not b → MatchOption r ((bytes : Bytes) → IsBlob word bytes → ⊥) (IsBlob word)
+    → MatchBool b (IsWrong c argument.Blob word) (IsWrong c argument.Blob word → ⊥)
+blob_tells c word r b is tells found =
+    let S : Cause → Type 0 = λ a. MatchBool b (IsWrong a argument.Blob word) (IsWrong a argument.Blob word → ⊥) in
+    subst S (sym is) (at r b tells found)
+  where
+    at : (r : Option Bytes) (b : Bool) → is_some r ≡ not b → MatchOption r ((bytes : Bytes) → IsBlob word bytes → ⊥) (IsBlob word)
+        → MatchBool b (IsWrong cause.BadHex argument.Blob word) (IsWrong cause.BadHex argument.Blob word → ⊥)
+    at None true tells found = found
+    at None false tells found = cc
+    at (Some x) true tells found = cc
+    at (Some x) false tells found = λ wrong. wrong x found

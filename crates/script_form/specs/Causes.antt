@@ -1,0 +1,112 @@
+-- Why a line is refused, given the lines before it.
+use Rattle.std.specs.Prelude.{◌≡◌, ◌≢◌, ℕ, ◌+◌, ◌<◌, ◌≤◌, ◌==◌, ◌&&◌, nat_le, if◌then◌else◌, Bool, true, false, List, [], ◌∷◌, ◌++◌}
+use Rattle.std.specs.Prelude.{length, drop, slice_get, codes, Option, Some, flat_map}
+use Rattle.std.specs.List.{list_all, Contains}
+use Rattle.ledger_spec.specs.Bytes.{Bytes, same_bytes}
+use Rattle.script_form.specs.declared.cause.Cause.{Cause}
+use Rattle.script_form.specs.declared.cause.Cause.TheVariants as cause
+use Rattle.script_form.specs.Words.{lines_of, text_of, words_of, IsNumber}
+use Rattle.script_form.specs.Commands.{CallHas}
+
+-- the most bytes of a script, of a line's text, and the most command lines
+abbrev pub most_bytes : ℕ
+most_bytes = 67108864
+
+abbrev pub most_text : ℕ
+most_text = 2200000
+
+abbrev pub most_commands : ℕ
+most_commands = 200000
+
+-- the number of a cause
+abbrev pub number_of : Cause → ℕ
+number_of cause.ScriptTooLong = 12
+number_of cause.NotPrintable = 1
+number_of cause.LineTooLong = 2
+number_of cause.NoActor = 3
+number_of cause.BadAfter = 4
+number_of cause.UnknownCommand = 5
+number_of cause.ArgumentCount = 6
+number_of cause.BadNumber = 7
+number_of cause.BadHex = 8
+number_of cause.BadKindOrId = 9
+number_of cause.ZeroTarget = 10
+number_of cause.TooManyCommands = 12
+
+-- a cause's place in the order of the tests: by its number, but the line with the first byte too many is refused before its other tests
+abbrev pub place_of : Cause → ℕ
+place_of cause.ScriptTooLong = 0
+place_of c = number_of c
+
+-- the byte is printable: 20 to 7E
+abbrev pub is_printable : ℕ → Bool
+is_printable b = nat_le 32 b && nat_le b 126
+
+-- the line of these words says nothing: it has none, or it is a comment, whose first word begins with `#`
+abbrev pub is_skipped : List Bytes → Bool
+is_skipped [] = true
+is_skipped ([] ∷ words) = false
+is_skipped ((x ∷ word) ∷ words) = x == 35
+
+-- the numbers of the command lines among lines that are numbered from n
+abbrev pub commands_from : ℕ → List Bytes → List ℕ
+commands_from n [] = []
+commands_from n (line ∷ lines) =
+    if is_skipped (words_of (text_of line)) then commands_from (n + 1) lines else n ∷ commands_from (n + 1) lines
+
+-- behind the actor stands `after`
+abbrev pub waits : List Bytes → Bool
+waits [] = false
+waits (word ∷ words) = same_bytes word (codes "after")
+
+-- the command's word and its arguments, of the words behind the actor
+abbrev pub call_in : List Bytes → List Bytes
+call_in words = if waits words then drop 2 words else words
+
+-- the word behind `after` is the number of an earlier command line
+pub record IsEarlier (earlier : List ℕ) (words : List Bytes) (n : ℕ) : Type 0 where
+  pub word : Bytes
+  pub stands : slice_get words 1 ≡ Some word
+  pub number : IsNumber word 4294967295 n
+  pub found : Contains earlier n
+
+-- The cause stands at the words of a command line; `earlier` are the numbers of the command lines before it.
+abbrev pub WordsHave : List ℕ → List Bytes → Cause → Type 0
+WordsHave earlier [] c = ⊥
+WordsHave earlier (actor ∷ words) cause.NoActor = (n : ℕ) → IsNumber actor 63 n → ⊥
+WordsHave earlier (actor ∷ words) cause.BadAfter = (waits words ≡ true) × ((n : ℕ) → IsEarlier earlier words n → ⊥)
+WordsHave earlier (actor ∷ words) cause.TooManyCommands = most_commands ≤ length earlier
+WordsHave earlier (actor ∷ words) c = CallHas (call_in words) c
+
+-- the cause stands at the words of a line, which isn't skipped
+abbrev pub CommandHas : List ℕ → List Bytes → Cause → Type 0
+CommandHas earlier words c = (is_skipped words ≡ false) × WordsHave earlier words c
+
+-- the cause stands at a line's text
+abbrev pub TextHas : List ℕ → Bytes → Cause → Type 0
+TextHas earlier text cause.ScriptTooLong = ⊥
+TextHas earlier text cause.NotPrintable = list_all is_printable text ≡ false
+TextHas earlier text cause.LineTooLong = most_text < length text
+TextHas earlier text c = CommandHas earlier (words_of text) c
+
+-- the bytes of some lines
+abbrev pub size_of : List Bytes → ℕ
+size_of lines = length (flat_map (λ line. line) lines)
+
+-- the cause stands at a line behind these
+abbrev pub Has : List Bytes → Bytes → Cause → Type 0
+Has before line cause.ScriptTooLong = most_bytes < size_of before + length line
+Has before line c = TextHas (commands_from 1 before) (text_of line) c
+
+-- the line behind these has no cause
+abbrev pub IsFine : List Bytes → Bytes → Type 0
+IsFine before line = (c : Cause) → Has before line c → ⊥
+
+-- the first of the causes of the line behind these
+pub record IsFirst (before : List Bytes) (line : Bytes) (c : Cause) : Type 0 where
+  pub has : Has before line c
+  pub none_before : (d : Cause) → place_of d < place_of c → Has before line d → ⊥
+
+-- each line is fine behind those before it
+abbrev pub AreFine : List Bytes → Type 0
+AreFine lines = (before : List Bytes) (line : Bytes) (after : List Bytes) → lines ≡ before ++ line ∷ after → IsFine before line

@@ -1,0 +1,211 @@
+//! The forms of the commands that are read, and what stands behind their words.
+ghost use Rattle.std.specs.Prelude.{◌≡◌, ◌≢◌, ℕ, List, map, length, MatchBool, MatchOption, IfOk};
+ghost use Rattle.script_form.specs.declared.forms.Form.{Form};
+ghost use Rattle.script_form.specs.Commands.{word_in, arguments_in, IsWrong, HasWrong};
+
+use crate::cause::Cause;
+use crate::words::{blob_word, hash_word, id_text, id_word, is_text, number};
+use half_hash::Memory;
+use std::alloc::Global;
+
+/// What an argument is.
+#[derive(Clone, Copy, Debug, PartialEq, Eq)]
+pub enum Argument {
+    /// A number, at most this one.
+    Number(u64),
+    /// A target: a hash that isn't zero.
+    Target,
+    /// The kind of a map.
+    Kind,
+    /// A node ID.
+    Id,
+    /// Bytes.
+    Blob,
+}
+
+/// A form of a command: `base` has one for each number of its arguments.
+#[derive(Clone, Copy, Debug, PartialEq, Eq)]
+pub enum Form {
+    Want,
+    Peer,
+    Base,
+    BaseState,
+    Node,
+    Check,
+}
+
+/// All forms.
+const FORMS: [Form; 6] = [
+    Form::Want,
+    Form::Peer,
+    Form::Base,
+    Form::BaseState,
+    Form::Node,
+    Form::Check,
+];
+
+const WANT: [Argument; 2] = [Argument::Target, Argument::Number(4_294_967_295)];
+
+const PEER: [Argument; 2] = [Argument::Number(65_535), Argument::Target];
+
+const BASE: [Argument; 3] = [Argument::Number(65_535), Argument::Target, Argument::Blob];
+
+const BASE_STATE: [Argument; 4] = [
+    Argument::Number(65_535),
+    Argument::Target,
+    Argument::Blob,
+    Argument::Blob,
+];
+
+const NODE: [Argument; 5] = [
+    Argument::Number(65_535),
+    Argument::Target,
+    Argument::Kind,
+    Argument::Id,
+    Argument::Blob,
+];
+
+const CHECK: [Argument; 1] = [Argument::Target];
+
+impl Form {
+    /// Whether this is the form's command word.
+    fn has_word(self, word: &[u8]) -> bool
+        ensures { MatchBool result (word.now ≡ word_in self) (word.now ≢ word_in self) }
+    {
+        match self {
+            Form::Want => is_text(word, b"want"),
+            Form::Peer => is_text(word, b"peer"),
+            Form::Base => is_text(word, b"base"),
+            Form::BaseState => is_text(word, b"base"),
+            Form::Node => is_text(word, b"node"),
+            Form::Check => is_text(word, b"check"),
+        }
+    }
+
+    /// The form's arguments, in order.
+    pub(crate) fn arguments(self) -> &'static [Argument]
+        ensures { result.now ≡ arguments_in self }
+    {
+        match self {
+            Form::Want => &WANT,
+            Form::Peer => &PEER,
+            Form::Base => &BASE,
+            Form::BaseState => &BASE_STATE,
+            Form::Node => &NODE,
+            Form::Check => &CHECK,
+        }
+    }
+}
+
+/// Whether this is a command's word.
+pub(crate) fn is_command(word: &[u8]) -> bool
+    ensures { MatchBool result (((f : Form) → word.now ≢ word_in f) → ⊥) ((f : Form) → word.now ≢ word_in f) }
+{
+    for form in &FORMS {
+        if form.has_word(word) {
+            return true;
+        }
+    }
+    false
+}
+
+/// The form of a command's word with so many arguments.
+pub(crate) fn form_of(word: &[u8], count: usize) -> Option<Form>
+    ensures { MatchOption result ((f : Form) → word.now ≡ word_in f → count ≢ length (arguments_in f))
+        (λ f. (word.now ≡ word_in f) × (count ≡ length (arguments_in f))) }
+{
+    for form in &FORMS {
+        if form.has_word(word) && form.arguments().len() == count {
+            return Some(*form);
+        }
+    }
+    None
+}
+
+/// Whether a word is wrong in the place of one of the arguments, for this cause.
+pub(crate) fn has_wrong(
+    alloc: Global,
+    cause: Cause,
+    arguments: &[Argument],
+    words: &[&[u8]],
+) -> Result<bool, Memory>
+    ensures { IfOk result (λ found.
+        MatchBool found (HasWrong cause arguments.now (map (λ w. w.now) words.now)) (HasWrong cause arguments.now (map (λ w. w.now) words.now) → ⊥)) }
+{
+    let [argument, arguments @ ..] = arguments else {
+        return Ok(false);
+    };
+    let [word, words @ ..] = words else {
+        return Ok(false);
+    };
+    if is_wrong(alloc, cause, argument, word)? {
+        return Ok(true);
+    }
+    has_wrong(alloc, cause, arguments, words)
+}
+
+/// Whether a word is wrong in the place of the argument, for this cause.
+fn is_wrong(alloc: Global, cause: Cause, argument: &Argument, word: &[u8]) -> Result<bool, Memory>
+    ensures { IfOk result (λ found. MatchBool found (IsWrong cause argument.now word.now) (IsWrong cause argument.now word.now → ⊥)) }
+{
+    match *argument {
+        Argument::Number(most) => Ok(number_is_wrong(cause, most, word)),
+        Argument::Target => Ok(target_is_wrong(cause, word)),
+        Argument::Kind => Ok(kind_is_wrong(cause, word)),
+        Argument::Id => Ok(id_is_wrong(cause, word)),
+        Argument::Blob => blob_is_wrong(alloc, cause, word),
+    }
+}
+
+fn number_is_wrong(cause: Cause, most: u64, word: &[u8]) -> bool
+    ensures { MatchBool result (IsWrong cause (Argument.Number most) word.now) (IsWrong cause (Argument.Number most) word.now → ⊥) }
+{
+    match cause {
+        Cause::BadNumber => number(word, most).is_none(),
+        _ => false,
+    }
+}
+
+fn target_is_wrong(cause: Cause, word: &[u8]) -> bool
+    ensures { MatchBool result (IsWrong cause Argument.Target word.now) (IsWrong cause Argument.Target word.now → ⊥) }
+{
+    match cause {
+        Cause::BadHex => hash_word(word).is_none(),
+        Cause::ZeroTarget => match hash_word(word) {
+            Some(hash) => hash.is_zero(),
+            None => false,
+        },
+        _ => false,
+    }
+}
+
+fn kind_is_wrong(cause: Cause, word: &[u8]) -> bool
+    ensures { MatchBool result (IsWrong cause Argument.Kind word.now) (IsWrong cause Argument.Kind word.now → ⊥) }
+{
+    match cause {
+        Cause::BadKindOrId => !is_text(word, b"state"),
+        _ => false,
+    }
+}
+
+fn id_is_wrong(cause: Cause, word: &[u8]) -> bool
+    ensures { MatchBool result (IsWrong cause Argument.Id word.now) (IsWrong cause Argument.Id word.now → ⊥) }
+{
+    match cause {
+        Cause::BadHex => id_text(word).is_none(),
+        Cause::BadKindOrId => id_word(word).is_none(),
+        _ => false,
+    }
+}
+
+fn blob_is_wrong(alloc: Global, cause: Cause, word: &[u8]) -> Result<bool, Memory>
+    ensures { IfOk result (λ found. MatchBool found (IsWrong cause Argument.Blob word.now) (IsWrong cause Argument.Blob word.now → ⊥)) }
+{
+    match cause {
+        Cause::BadHex => {
+            let bytes = blob_word(alloc, word)?;
+            Ok(bytes.is_none())
+        }
+        _ => Ok(false),
+    }
+}

@@ -1,0 +1,210 @@
+//! A line judged: it is skipped, says a command, or has a first cause.
+ghost use Rattle.std.specs.Prelude.{◌≡◌, ℕ, List, map, false, true, length, Some, None, IfOk, IfErr, MatchBool, MatchOption};
+ghost use Rattle.std.specs.List.{list_all};
+ghost use Rattle.std.specs.List.Sorted.{IsNonDecreasing};
+ghost use Rattle.ledger_machine.specs.declared.commands.Line.{Line};
+ghost use Rattle.script_form.specs.declared.cause.Cause.{Cause};
+ghost use Rattle.script_form.specs.Words.{words_of as text_words};
+ghost use Rattle.script_form.specs.Causes.{is_printable as byte_is_printable, is_skipped as are_skipped, TextHas, CommandHas};
+ghost use Rattle.script_form.specs.Commands.{CallHas};
+ghost use Rattle.script_form.specs.Judging.{IsFineText, IsFirstOfText, IsSaid, HasTextCause, IsVerdict};
+
+use crate::cause::Cause;
+use crate::forms::{form_of, has_wrong, is_command};
+use crate::line::{call_of, line_of, names_no_line};
+use crate::words::{number, words_of};
+use half_hash::Memory;
+use ledger_machine::Line;
+use std::alloc::Global;
+
+/// The most bytes of a line before its newline.
+pub const MOST_TEXT: usize = 2_200_000;
+
+/// The most command lines of a script.
+pub const MOST_COMMANDS: usize = 200_000;
+
+/// The causes that a line's text may have, in the order in which they are tried.
+const ORDER: [Cause; 11] = [
+    Cause::NotPrintable,
+    Cause::LineTooLong,
+    Cause::NoActor,
+    Cause::BadAfter,
+    Cause::UnknownCommand,
+    Cause::ArgumentCount,
+    Cause::BadNumber,
+    Cause::BadHex,
+    Cause::BadKindOrId,
+    Cause::ZeroTarget,
+    Cause::TooManyCommands,
+];
+
+/// Why a line says nothing.
+#[derive(Clone, Copy, Debug, PartialEq, Eq)]
+pub enum LineFault {
+    /// It is refused.
+    Cause(Cause),
+    /// Memory was refused.
+    Memory,
+}
+
+impl From<Memory> for LineFault {
+    ghost use Rattle.std.specs.Prelude.{◌≡◌};
+    ghost use Rattle.script_form.specs.declared.judging.LineFault.TheVariants as fault;
+
+    ghost from_gives = { λ _ e. e ≡ fault.Memory };
+
+    fn from(_: Memory) -> Self {
+        LineFault::Memory
+    }
+}
+
+/// What the text of line `n` says, behind command lines of these numbers: nothing where it is
+/// skipped, else its line; or the first cause for which it is refused.
+pub fn judge(alloc: Global, n: u32, text: &[u8], earlier: &[u32]) -> Result<Option<Line>, LineFault>
+    requires { IsNonDecreasing earlier.now }
+    ensures said { IfOk result (IsSaid earlier.now n text.now) }
+    ensures fine { IfOk result (λ _. IsFineText earlier.now text.now) }
+    ensures cause { IfErr result (HasTextCause earlier.now text.now) }
+{
+    let words = words_of(alloc, text)?;
+    match said(alloc, n, text, &words, earlier)? {
+        Verdict::Skipped => Ok(None),
+        Verdict::Line(line) => Ok(Some(line)),
+        Verdict::Refused => Err(LineFault::Cause(first_cause(alloc, text, &words, earlier)?)),
+    }
+}
+
+/// What becomes of a line.
+#[derive(Drop)]
+enum Verdict {
+    Skipped,
+    Line(Line),
+    Refused,
+}
+
+/// What becomes of a line, whose words these are.
+fn said(
+    alloc: Global,
+    n: u32,
+    text: &[u8],
+    words: &[&[u8]],
+    earlier: &[u32],
+) -> Result<Verdict, Memory>
+    requires rises { IsNonDecreasing earlier.now }
+    requires words { map (λ w. w.now) words.now ≡ text_words text.now }
+    ensures { IfOk result (IsVerdict earlier.now n text.now) }
+{
+    if !is_printable(text) || text.len() > MOST_TEXT {
+        return Ok(Verdict::Refused);
+    }
+    if is_skipped(words) {
+        return Ok(Verdict::Skipped);
+    }
+    if earlier.len() >= MOST_COMMANDS {
+        return Ok(Verdict::Refused);
+    }
+    match line_of(alloc, n, words, earlier)? {
+        Some(line) => Ok(Verdict::Line(line)),
+        None => Ok(Verdict::Refused),
+    }
+}
+
+/// Whether all bytes are printable.
+fn is_printable(text: &[u8]) -> bool
+    ensures { result ≡ list_all byte_is_printable text.now }
+{
+    text.iter().all(|byte| (32..=126).contains(byte))
+}
+
+/// Whether the words are skipped: there are none, or the first begins with `#`.
+fn is_skipped(words: &[&[u8]]) -> bool
+    ensures { result ≡ are_skipped (map (λ w. w.now) words.now) }
+{
+    match words {
+        [[first, ..], ..] => *first == b'#',
+        [] => true,
+        _ => false,
+    }
+}
+
+/// The first cause of a text that has one.
+fn first_cause(
+    alloc: Global,
+    text: &[u8],
+    words: &[&[u8]],
+    earlier: &[u32],
+) -> Result<Cause, Memory>
+    requires rises { IsNonDecreasing earlier.now }
+    requires words { map (λ w. w.now) words.now ≡ text_words text.now }
+    requires bad { IsFineText earlier.now text.now → ⊥ }
+    ensures { IfOk result (IsFirstOfText earlier.now text.now) }
+{
+    for cause in &ORDER {
+        if text_has(alloc, *cause, text, words, earlier)? {
+            return Ok(*cause);
+        }
+    }
+    unreachable!()
+}
+
+/// Whether a text has this cause.
+fn text_has(
+    alloc: Global,
+    cause: Cause,
+    text: &[u8],
+    words: &[&[u8]],
+    earlier: &[u32],
+) -> Result<bool, Memory>
+    requires rises { IsNonDecreasing earlier.now }
+    requires words { map (λ w. w.now) words.now ≡ text_words text.now }
+    ensures { IfOk result (λ found. MatchBool found (TextHas earlier.now text.now cause) (TextHas earlier.now text.now cause → ⊥)) }
+{
+    match cause {
+        Cause::ScriptTooLong => Ok(false),
+        Cause::NotPrintable => Ok(!is_printable(text)),
+        Cause::LineTooLong => Ok(text.len() > MOST_TEXT),
+        _ => command_has(alloc, cause, words, earlier),
+    }
+}
+
+/// Whether these words are those of a command line that has this cause.
+fn command_has(
+    alloc: Global,
+    cause: Cause,
+    words: &[&[u8]],
+    earlier: &[u32],
+) -> Result<bool, Memory>
+    requires { IsNonDecreasing earlier.now }
+    ensures { IfOk result (λ found. MatchBool found (CommandHas earlier.now (map (λ w. w.now) words.now) cause)
+        (CommandHas earlier.now (map (λ w. w.now) words.now) cause → ⊥)) }
+{
+    if is_skipped(words) {
+        return Ok(false);
+    }
+    let [actor, behind @ ..] = words else {
+        return Ok(false);
+    };
+    match cause {
+        Cause::NoActor => Ok(number(actor, 63).is_none()),
+        Cause::BadAfter => Ok(names_no_line(behind, earlier)),
+        Cause::TooManyCommands => Ok(earlier.len() >= MOST_COMMANDS),
+        _ => call_has(alloc, cause, call_of(behind)),
+    }
+}
+
+/// Whether a command's word and its arguments have this cause.
+fn call_has(alloc: Global, cause: Cause, call: &[&[u8]]) -> Result<bool, Memory>
+    ensures { IfOk result (λ found. MatchBool found (CallHas (map (λ w. w.now) call.now) cause) (CallHas (map (λ w. w.now) call.now) cause → ⊥)) }
+{
+    let [word, arguments @ ..] = call else {
+        return Ok(cause == Cause::UnknownCommand);
+    };
+    match cause {
+        Cause::UnknownCommand => Ok(!is_command(word)),
+        Cause::ArgumentCount => Ok(form_of(word, arguments.len()).is_none()),
+        _ => match form_of(word, arguments.len()) {
+            Some(form) => has_wrong(alloc, cause, form.arguments(), arguments),
+            None => Ok(false),
+        },
+    }
+}
