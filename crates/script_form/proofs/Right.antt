@@ -1,7 +1,7 @@
 -- A call that says a command has no cause, and one without a cause says one.
 use Rattle.std.proofs.Common.{◌≡◌, ◌≢◌, ◌⊎◌, inl, inr, ℕ, List, [], ◌∷◌, length, Bool, true, false, Option, None, Some, refl, sym, ◌∙◌, ap, subst, arith}
 use Rattle.std.specs.Prelude.{codes, Ok}
-use Rattle.nib_path.specs.Paths.{wire_of}
+use Rattle.nib_path.specs.Paths.{id_wire}
 use Rattle.half_hash.specs.Hex.{IsHexOf}
 use Rattle.ledger_spec.specs.Bytes.{Bytes, Hash, is_zero}
 use Rattle.ledger_spec.specs.declared.Kind.TheVariants.{State}
@@ -39,7 +39,7 @@ same_hash word a b is also = ok_same (sym is.value ∙ also.value)
 not_wrong : (c : Cause) (a : Argument) (word : Bytes) → IsRight a word → IsWrong c a word → ⊥
 not_wrong cause.BadNumber (argument.Number most) word right wrong = wrong right.0 right.1
 not_wrong cause.BadHex argument.Target word right wrong = wrong right.0 right.1.digits
-not_wrong cause.BadHex argument.Id word right wrong = wrong (wire_of right.0) (record { digits = right.1.digits; value = right.1.value })
+not_wrong cause.BadHex argument.Id word right wrong = wrong (id_wire right.0) (record { digits = right.1.digits; value = right.1.value })
 not_wrong cause.BadHex argument.Blob word right wrong = wrong right.0 right.1
 not_wrong cause.BadKindOrId argument.Kind word right wrong = wrong right
 not_wrong cause.BadKindOrId argument.Id word right wrong = wrong right.0 right.1
