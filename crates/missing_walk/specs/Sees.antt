@@ -1,15 +1,14 @@
 -- What a search keeps while it runs, and how a finding changes it.
 use Rattle.std.specs.Prelude.{◌≡◌, ℕ, ◌<◌, ◌||◌, Bool, true, false, is_some, nat_le, if◌then◌else◌, List, [], ◌∷◌, ◌++◌, length, Option}
 use Rattle.std.specs.Prelude.{None, Some, Result, Ok, Err}
-use Rattle.std.specs.List.{filter_map, flat_map, range_with_len, slice_index_or}
-use Rattle.ledger_spec.specs.declared.Kind.{Kind}
+use Rattle.std.specs.List.{filter_map}
 use Rattle.ledger_spec.specs.declared.Place.{Place}
 use Rattle.ledger_spec.specs.declared.ShapeFault.{ShapeFault}
 use Rattle.ledger_spec.specs.declared.Kind.TheVariants.{State, Tx}
-use Rattle.ledger_spec.specs.Bytes.{Bytes, Hash, Half, Lookup, zero_hash}
+use Rattle.ledger_spec.specs.Bytes.{Bytes, Half, Lookup}
 use Rattle.ledger_spec.specs.Header.{state_root_of, tx_root_of}
 use Rattle.ledger_spec.specs.Forms.{Held, inner, leaf}
-use Rattle.ledger_spec.specs.Findings.{Sight, missing, broken, sound, Met, walk, walk_map, Finding, lacks, breaks, finding_at}
+use Rattle.ledger_spec.specs.Findings.{Sight, missing, broken, sound, walk_map, Finding, lacks, breaks}
 use Rattle.ledger_spec.specs.Findings.{missing_of, first_broken}
 use Rattle.tree_laws.specs.Walks.{finding_of}
 use Rattle.missing_walk.specs.declared.Found.{Found}
