@@ -17,12 +17,12 @@ type Case = (
 const CASES: [Case; 12] = [
     (&["replay"], "", 0, 0, 0, NOTHING),
     (&["replay"], SHORT, 0, 0, 0, ANSWERED),
-    (&["replay"], "0 want 11 7\n", 0, 0, 3, "refused 1 5\n"),
-    (&["replay"], UNKNOWN, 0, 0, 3, "refused 2 5\n"),
-    (&["replay"], TWO_SPACES, 0, 0, 3, "refused 2 5\n"),
-    (&["replay"], OTHER_ACTOR, 0, 0, 3, "refused 2 5\n"),
-    (&["replay"], UNENDED, 0, 0, 3, "refused 2 5\n"),
-    (&["replay"], ZERO, 0, 0, 3, "refused 1 5\n"),
+    (&["replay"], "0 want 11 7\n", 0, 0, 3, "refused 1 8\n"),
+    (&["replay"], "0 bogin\n", 0, 0, 3, "refused 1 5\n"),
+    (&["replay"], SPACES, 0, 0, 0, TWO_ANSWERS),
+    (&["replay"], OTHER_ACTOR, 0, 0, 3, "refused 2 3\n"),
+    (&["replay"], UNENDED, 0, 0, 0, TWO_ANSWERS),
+    (&["replay"], ZERO, 0, 0, 3, "refused 1 10\n"),
     (&["replay"], SHORT, 1, 0, 4, ""),
     (&["replay"], "", 0, 1, 5, ""),
     (
@@ -51,19 +51,19 @@ const SHORT: &str =
 const ANSWERED: &str =
     "1 0 want opened\n2 0 check nopeer\n3 0 peer added\n4 0 peer known\n5 0 peer added\n6 0 check need 3 header\n7 0 check waiting 1\n8 0 want open\n9 0 peer notopen\n10 0 check notopen\nend complete 0 closed 0 listed 0 floor 0 last - epoch 0\n";
 
-const UNKNOWN: &str =
-    "0 want 1111111111111111111111111111111111111111111111111111111111111111 7\n0 wont 1111111111111111111111111111111111111111111111111111111111111111 7\n";
+const TWO_ANSWERS: &str =
+    "1 0 want opened\n2 0 check nopeer\nend complete 0 closed 0 listed 0 floor 0 last - epoch 0\n";
 
-const TWO_SPACES: &str =
-    "0 want 1111111111111111111111111111111111111111111111111111111111111111 7\n0  check 1111111111111111111111111111111111111111111111111111111111111111\n";
+const SPACES: &str =
+    " 0 want   1111111111111111111111111111111111111111111111111111111111111111 7 \n0  check 1111111111111111111111111111111111111111111111111111111111111111\n";
 
 const OTHER_ACTOR: &str =
-    "0 want 1111111111111111111111111111111111111111111111111111111111111111 7\n1 check 1111111111111111111111111111111111111111111111111111111111111111\n0 check 1111111111111111111111111111111111111111111111111111111111111111\n";
+    "0 want 1111111111111111111111111111111111111111111111111111111111111111 7\n64 check 1111111111111111111111111111111111111111111111111111111111111111\n0 check 1111111111111111111111111111111111111111111111111111111111111111\n";
 
 const UNENDED: &str =
     "0 want 1111111111111111111111111111111111111111111111111111111111111111 7\n0 check 1111111111111111111111111111111111111111111111111111111111111111";
 
-const ZERO: &str = "0 check 0000000000000000000000000000000000000000000000000000000000000000\n";
+const ZERO: &str = "0 want 0000000000000000000000000000000000000000000000000000000000000000 1\n";
 
 #[test]
 fn scripts_and_their_ends(rt: HostRuntime) -> Result<(), Fail> {
@@ -83,35 +83,6 @@ fn scripts_and_their_ends(rt: HostRuntime) -> Result<(), Fail> {
         );
         assert_eq!(rt; ended.status, *status);
         assert_eq!(rt; sink.held(), printed.as_bytes());
-    }
-    Ok(())
-}
-
-/// As many lines as fit in the most bytes of a script, and one byte more or none.
-#[test]
-fn the_most_bytes_of_a_script(rt: HostRuntime) -> Result<(), Fail> {
-    let alloc = rt.alloc();
-    let line = "0 check 1111111111111111111111111111111111111111111111111111111111111111\n";
-    for (count, status) in [(14364_usize, 0_u8), (14365, 3)] {
-        let mut bytes = Vec::new(alloc);
-        for _ in 0..count {
-            bytes.extend_from_slice(line.as_bytes())?;
-        }
-        let mut source = MemSource::new(bytes, 65_536, Vec::new(alloc));
-        let mut sink = MemSink::new(alloc, 1 << 20, Vec::new(alloc))?;
-        let ended = ledger_run(
-            &rt,
-            alloc,
-            &["replay"],
-            TinyHash,
-            &mut source,
-            &mut sink,
-            &OpenGate,
-        );
-        assert_eq!(rt; ended.status, status);
-        if status == 3 {
-            assert_eq!(rt; sink.held(), b"refused 14365 5\n".as_slice());
-        }
     }
     Ok(())
 }

@@ -8,7 +8,7 @@ use Rattle.hex.specs.Hex.{hex_digit_value, digit_or_error, value_at, pair_value,
 use Rattle.ledger_spec.specs.Bytes.{Bytes, are_bytes}
 use Rattle.script_form.specs.Words.{IsBlob}
 
-err_ok : {X : Type 0} {e : FromHexError} {x : X} → Err e ≡ Ok x → ⊥
+pub err_ok : {X : Type 0} {e : FromHexError} {x : X} → Err e ≡ Ok x → ⊥
 err_ok e = cc
 
 pub ok_same : {X : Type 0} {x y : X} → ◌≡◌ {A = Result X FromHexError} (Ok x) (Ok y) → x ≡ y
@@ -32,7 +32,7 @@ digit_small low high less c v rest fits later e = by (nat_le low c && nat_le c h
         omega arith
     by false is e = later e
 
-value_small : (c v : ℕ) → hex_digit_value c ≡ Some v → v < 16
+pub value_small : (c v : ℕ) → hex_digit_value c ≡ Some v → v < 16
 value_small c v e =
     digit_small 65 70 55 c v _ (omega arith)
     (λ e. digit_small 97 102 87 c v _ (omega arith) (λ e. digit_small 48 57 48 c v None (omega arith) (λ e. absurd (none_some e)) e) e) e

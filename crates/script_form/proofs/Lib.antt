@@ -2,6 +2,7 @@ mod ByteWords
 pub mod Commands
 pub mod Cuts
 pub mod Numbers
+pub mod Pairs
 pub mod Right
 pub mod Said
 pub mod Scripts

@@ -2,10 +2,13 @@
 #![tactic(auto)]
 
 mod cause;
+mod digits;
 mod forms;
 mod judging;
 mod line;
 mod script;
+#[cfg(test)]
+mod tests;
 mod words;
 
 pub use cause::Cause;

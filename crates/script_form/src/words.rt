@@ -3,6 +3,7 @@ ghost use Rattle.std.specs.Prelude.{◌≡◌, ◌≢◌, ◌≤◌, ◌<◌, �
 ghost use Rattle.half_hash.specs.Hex.{IsHexOf};
 ghost use Rattle.script_form.specs.Words.{words_of as text_words, IsNumber, IsTarget, IsBlob, IsId, IsIdText, decimal_behind};
 
+use crate::digits::decode;
 use half_hash::{Blob, Hash32, Memory};
 use nib_path::NodeId;
 use std::alloc::Global;
@@ -122,9 +123,8 @@ pub fn blob_word(alloc: Global, word: &[u8]) -> Result<Option<Blob>, Memory>
     if word.is_empty() {
         return Ok(None);
     }
-    match hex::decode(alloc, word) {
-        Ok(bytes) => Ok(Some(Blob::new(bytes))),
-        Err(hex::FromHexError::OutOfMemory) => Err(Memory),
-        Err(_) => Ok(None),
+    match decode(alloc, word)? {
+        Some(bytes) => Ok(Some(Blob::new(bytes))),
+        None => Ok(None),
     }
 }
