@@ -123,6 +123,7 @@ served_acquires (command.Peer p t) served = tt
 served_acquires (command.Base p t head state tx) served = tt
 served_acquires (command.Node p t kind path blob) served = tt
 served_acquires (command.Check t) served = tt
+served_acquires (command.Tick t) served = tt
 served_acquires _ served = absurd served
 
 module _ (half : Half) (lines : List Line) (cursors : List ℕ) (journal : List Entry) (capacity interval : ℕ) (told : Bool) (opened now : ℕ) (s : State) (k : CoreKeeps half lines cursors journal capacity interval told opened now s) where
