@@ -124,8 +124,9 @@ fn walk_maps<H: NodeHash>(
         (found_in_maps H.half (map.get nodes.now) (header_bytes (fields header.now))) }
 {
     let root = NodeId::root();
-    walk::<H>(alloc, nodes, Kind::State, None, &root, &header.state_root, found)?;
-    walk::<H>(alloc, nodes, Kind::Tx, None, &root, &header.tx_root, found)?;
+    let (state, tx) = (&header.state_root, &header.tx_root);
+    walk::<H>(alloc, nodes, Kind::State, None, &root, state, found)?;
+    walk::<H>(alloc, nodes, Kind::Tx, None, &root, tx, found)?;
     Ok(())
 }
 
@@ -251,7 +252,11 @@ mod tests {
         let below = inner(0, 16, 1);
         let found = found_in(alloc, &[(0xDD, &head), (0x24, &root), (0xF4, &below)])?;
         assert_eq!(rt; found.missing.len(), 256);
-        let last = found.missing.as_slice().last().and_then(|place| spot(place));
+        let last = found
+            .missing
+            .as_slice()
+            .last()
+            .and_then(|place| spot(place));
         assert_eq!(rt; last, Some((Kind::State, 2, 0xFF)));
         Ok(())
     }

@@ -109,7 +109,7 @@ module _ (half : Half) (sized : (x : Bytes) → length (half x) ≡ 32) (front w
       let own : IsInner (map (hash_at (chunks_in (length front / 33) front)) branches) = record {
         count = length-map branches (hash_at (chunks_in (length front / 33) front));
         sizes = sizes_map (hash_at (chunks_in (length front / 33) front)) branches
-        (hash_by_chunks (λ h. length h ≡ 32) (chunks_in (length front / 33) front) sizes refl);
+            (hash_by_chunks (λ h. length h ≡ 32) (chunks_in (length front / 33) front) sizes refl);
         some = c.parts.some;
       } in
       let are : AreChunksOf (map (hash_at (chunks_in (length front / 33) front)) branches) (chunks_in (length front / 33) front) = record {

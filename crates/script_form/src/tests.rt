@@ -59,7 +59,10 @@ fn scripts(rt: HostRuntime) -> Result<(), Fail> {
         match read_script::<TinyHash, MemSource>(alloc, &mut source) {
             Ok(script) => {
                 for line in &script.lines {
-                    text.push_str(&format!(in alloc; "{} {} {};", line.number, line.actor, line.after)?)?;
+                    text.push_str(&format!(in alloc;
+                        "{} {} {};",
+                        line.number, line.actor, line.after
+                    )?)?;
                 }
             }
             Err(ScriptFault::Refused { line, cause }) => {

@@ -104,12 +104,7 @@ pub fn encode_form(alloc: Global, node: &Node) -> Result<Blob, Memory>
 {
     match node {
         Node::Inner(inner) => joined(alloc, Prefix::Min, &body_of(inner), &[]),
-        Node::Leaf(leaf) => joined(
-            alloc,
-            leaf.kind.prefix(),
-            leaf.item.data(),
-            key_part(leaf),
-        ),
+        Node::Leaf(leaf) => joined(alloc, leaf.kind.prefix(), leaf.item.data(), key_part(leaf)),
     }
 }
 
