@@ -5,6 +5,7 @@ ghost use Rattle.script_form.specs.Words.{words_of as text_words, IsNumber, IsTa
 
 use crate::digits::decode;
 use half_hash::{Blob, Hash32, Memory};
+use memchr::memchr;
 use nib_path::NodeId;
 use std::alloc::Global;
 
@@ -14,12 +15,10 @@ pub(crate) fn piece_end(bytes: &[u8], separator: u8) -> usize
     ensures before { (k : ℕ) → k < result → slice_index bytes.now k ≢ separator }
     ensures at { result < length bytes.now → slice_index bytes.now result ≡ separator }
 {
-    for (i, b) in bytes.iter().enumerate() {
-        if *b == separator {
-            return i;
-        }
+    match memchr(separator, bytes) {
+        Some(at) => at,
+        None => bytes.len(),
     }
-    bytes.len()
 }
 
 /// The words of a text: what stands between its spaces.
