@@ -1,42 +1,41 @@
 //! Bytes from hexadecimal digits.
-ghost use Rattle.std.specs.Prelude.{◌≡◌, ◌*◌, ℕ, List, Ok, length, IfOk, MatchBool, MatchOption};
-ghost use Rattle.hex.specs.Hex.{hex_digit_value, decode_pairs, decode_of};
+ghost use Rattle.std.specs.Prelude.{◌≡◌, ◌*◌, ℕ, List, Ok, length, ◌<◌, IfOk, IfSome, MatchBool, MatchOption};
+ghost use Rattle.hex.specs.Hex.{hex_digit_value, is_hex_digit, decode_pairs, decode_of};
 
 use half_hash::Memory;
 use std::alloc::Global;
 
-/// What `digit` answers for a byte that is no digit.
-const NO_DIGIT: u8 = 255;
-
-/// The value of a hexadecimal digit, or `NO_DIGIT`. It is chosen without a jump.
-fn digit(byte: u8) -> u8
-    ensures { MatchOption (hex_digit_value byte) (result ≡ 255) (λ value. result ≡ value) }
+/// Whether a byte is a hexadecimal digit, told without a jump.
+fn is_digit(byte: u8) -> bool
+    ensures { result ≡ is_hex_digit byte }
 {
-    if byte.is_ascii_digit() {
-        byte - b'0'
-    } else if byte >= b'A' && byte <= b'F' {
-        byte - 55
-    } else if byte >= b'a' && byte <= b'f' {
-        byte - 87
-    } else {
-        NO_DIGIT
-    }
+    let is_number = (byte >= b'0') & (byte <= b'9');
+    let is_upper = (byte >= b'A') & (byte <= b'F');
+    let is_lower = (byte >= b'a') & (byte <= b'f');
+    is_number | is_upper | is_lower
 }
 
-/// Writes the bytes of two digits each, and says whether all are digits.
+/// The value of a hexadecimal digit: letters have a bit more in their high half.
+fn value(digit: u8) -> u8
+    ensures value { IfSome (hex_digit_value digit) (λ v. result ≡ v) }
+    ensures small { result < 16 }
+{
+    (digit % 16 + 9 * (digit / 64)) % 16
+}
+
+/// Writes the bytes of two digits each, and says whether all are digits. No pair waits for the one before it.
 fn decode_into(word: &[u8], out: &mut [u8]) -> bool
     requires { length word.now ≡ 2 * length out.old }
     ensures { MatchBool result (decode_pairs 0 word.now ≡ Ok out.new) ((bytes : List ℕ) → decode_pairs 0 word.now ≡ Ok bytes → ⊥) }
 {
+    let mut good = true;
     for i in 0..out.len() {
-        let high = digit(word[2 * i]);
-        let low = digit(word[2 * i + 1]);
-        if high > 15 || low > 15 {
-            return false;
-        }
-        out[i] = high * 16 + low;
+        let high = word[2 * i];
+        let low = word[2 * i + 1];
+        good = good & is_digit(high) & is_digit(low);
+        out[i] = value(high) * 16 + value(low);
     }
-    true
+    good
 }
 
 /// The bytes of two digits each.

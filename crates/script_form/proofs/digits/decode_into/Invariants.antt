@@ -1,7 +1,5 @@
-use Rattle.std.proofs.Common.{◌≡◌, ◌*◌, take, drop}
-use Rattle.hex.specs.Hex.{decode_pairs}
-use Rattle.hex.proofs.Pairs.{prepend}
+use Rattle.script_form.proofs.Pairs.{Decodes}
 use Rattle.script_form.proofs.digits.decode_into.Given as goal
 
 abbrev pub invariant-loop-i : goal.invariant-loop-i
-invariant-loop-i l = decode_pairs 0 l.word ≡ prepend (take l.i l.out) (decode_pairs (2 * l.i) (drop (2 * l.i) l.word))
+invariant-loop-i l = Decodes l.good l.word l.out l.i
