@@ -109,11 +109,15 @@ fn said(
     }
 }
 
-/// Whether all bytes are printable.
+/// Whether all bytes are printable. No byte waits for the one before it.
 fn is_printable(text: &[u8]) -> bool
     ensures { result ≡ list_all byte_is_printable text.now }
 {
-    text.iter().all(|byte| (32..=126).contains(byte))
+    let mut all = true;
+    for byte in text {
+        all = all & ((*byte >= 32) & (*byte <= 126));
+    }
+    all
 }
 
 /// Whether the words are skipped: there are none, or the first begins with `#`.
