@@ -1,6 +1,6 @@
 -- What the words of a line say, given its command's word.
 use Rattle.std.proofs.Common.{◌≡◌, ◌≢◌, ℕ, ◌-◌, ◌≤◌, List, [], ◌∷◌, length, take, drop, map, get_or, Bor, Option, Some, None, refl, sym, subst}
-use Rattle.std.proofs.Common.{◌∙◌, ap, arith}
+use Rattle.std.proofs.Common.{ap, arith}
 use Rattle.std.proofs.lemmas.List.{take_all}
 use Rattle.std.specs.Prelude.{codes, slice_index, Result, Ok, Err, IfOk, IfSome, IfNone, MatchOption}
 use Rattle.half_hash.specs.declared.bytes.Memory.{Memory}

@@ -1,19 +1,18 @@
 -- A line that says something has no cause, and one without a cause says something.
-use Rattle.std.proofs.Common.{◌≡◌, ◌≢◌, ◌⊎◌, inl, inr, ℕ, zero, suc, ◌+◌, ◌-◌, ◌<◌, ◌≤◌, min, List, [], ◌∷◌, length, take, drop, map, get_or, Bor, Some, Bool, true, false, refl, sym, ◌∙◌, ap, subst, arith}
+use Rattle.std.proofs.Common.{◌≡◌, ◌≢◌, ◌⊎◌, inl, inr, ℕ, zero, suc, ◌-◌, ◌<◌, ◌≤◌, min, List, [], ◌∷◌, length, take, drop, map, get_or, Bor, Some, Bool, true, false, refl, sym, ◌∙◌, ap, subst, arith}
 use Rattle.std.proofs.lemmas.List.{take_all}
 use Rattle.std.specs.Prelude.{MatchBool, Result, Ok, Err, IfOk}
 use Rattle.half_hash.specs.declared.bytes.Memory.{Memory}
 use Rattle.std.specs.List.{list_all}
 use Rattle.ledger_spec.specs.Bytes.{Bytes}
-use Rattle.ledger_machine.specs.declared.commands.Command.{Command}
 use Rattle.ledger_machine.specs.declared.commands.Line.{Line}
 use Rattle.script_form.specs.declared.cause.Cause.{Cause}
 use Rattle.script_form.specs.declared.cause.Cause.TheVariants as cause
 use Rattle.script_form.specs.declared.judging.TheConstants.{ORDER}
-use Rattle.script_form.specs.Words.{words_of, IsNumber}
+use Rattle.script_form.specs.Words.{words_of}
 use Rattle.script_form.specs.Commands.{CallHas}
 use Rattle.script_form.specs.Causes.{is_printable, is_skipped, waits, call_in, IsEarlier, WordsHave, CommandHas, TextHas, place_of, most_text, most_commands}
-use Rattle.script_form.specs.Grammar.{CallSays, SaysAfter, WordsSay}
+use Rattle.script_form.specs.Grammar.{SaysAfter, WordsSay}
 use Rattle.script_form.specs.Judging.{IsFineText, IsSaid}
 use Rattle.script_form.proofs.Right.{call_fine, call_never, call_must_say}
 

@@ -1,6 +1,6 @@
 -- How the reading of lines goes on.
-use Rattle.std.proofs.Common.{◌≡◌, ◌≢◌, ◌⊎◌, ℕ, zero, suc, Option, Some, None, ◌+◌, ◌-◌, ◌<◌, ◌≤◌, ◌^◌, List, [], ◌∷◌, ◌++◌, length, map, take, drop}
-use Rattle.std.proofs.Common.{get_or, inl, inr, refl, sym, ◌∙◌, ap, subst, arith, append_assoc, length-append, true, false, Bool, if◌then◌else◌, cond}
+use Rattle.std.proofs.Common.{◌≡◌, ◌⊎◌, ℕ, Option, Some, None, ◌+◌, ◌-◌, ◌<◌, ◌≤◌, List, [], ◌∷◌, ◌++◌, length, map, take, drop}
+use Rattle.std.proofs.Common.{get_or, inl, inr, refl, sym, ◌∙◌, ap, subst, arith, append_assoc, length-append, true, false, cond}
 use Rattle.std.specs.Prelude.{flat_map}
 use Rattle.std.specs.List.{All}
 use Rattle.std.specs.List.Sorted.{IsNonDecreasing}
@@ -16,7 +16,7 @@ use Rattle.script_form.specs.declared.cause.Cause.{Cause}
 use Rattle.script_form.specs.declared.cause.Cause.TheVariants as cause
 use Rattle.script_form.specs.Servable.{AreServable}
 use Rattle.script_form.specs.Words.{lines_of, text_of, words_of}
-use Rattle.script_form.specs.Causes.{most_bytes, is_skipped, commands_from, size_of, TextHas, Has, IsFine, IsFirst, AreFine, place_of, number_of}
+use Rattle.script_form.specs.Causes.{most_bytes, is_skipped, commands_from, size_of, TextHas, Has, IsFine, AreFine, number_of}
 use Rattle.script_form.specs.Grammar.{Says, AreLines, IsScript, IsRefused}
 use Rattle.script_form.specs.Judging.{IsFineText, IsFirstOfText}
 use Rattle.script_form.proofs.Servable.{Known, known, nothing_servable, servable_more}

@@ -1,5 +1,5 @@
 -- The lines of a script are lines that a core takes.
-use Rattle.std.proofs.Common.{◌≡◌, ◌≢◌, ◌⊎◌, inl, inr, ℕ, zero, suc, ◌+◌, ◌<◌, ◌≤◌, ◌^◌, List, [], ◌∷◌, ◌++◌, length, map, Option, None, Some, refl, sym, ◌∙◌, ap, subst}
+use Rattle.std.proofs.Common.{◌≡◌, ◌≢◌, inl, inr, ℕ, suc, ◌+◌, ◌<◌, ◌^◌, List, [], ◌∷◌, ◌++◌, length, map, Option, None, Some, sym, subst}
 use Rattle.std.proofs.Common.{arith, length-append}
 use Rattle.std.specs.List.{All, Contains}
 use Rattle.std.proofs.lemmas.List.{map-append}
@@ -13,7 +13,7 @@ use Rattle.ledger_spec.specs.declared.Kind.{Kind}
 use Rattle.ledger_spec.specs.declared.Kind.TheVariants.{State}
 use Rattle.script_form.specs.Servable.{IsServed, WaitsForEarlier, AreServable}
 use Rattle.script_form.specs.Causes.{call_in}
-use Rattle.script_form.specs.Grammar.{AreParts, AreArguments, CallSays, SaysAfter, WordsSay, Says}
+use Rattle.script_form.specs.Grammar.{AreParts, AreArguments, CallSays, WordsSay}
 use Rattle.script_form.proofs.ByteWords.{blob_bytes}
 
 a_state_map : (kind : Kind) → kind ≡ State → IsLedgerMap kind
@@ -91,8 +91,8 @@ rises_more : (m : ℕ) (lines : List Line) (l : Line) → Rises m lines → m < 
 rises_more m [] l rises more below = (more, tt)
 rises_more m (x ∷ lines) l rises more below = (rises.0, rises_more x.number lines l rises.1 (below 0 x (omega arith)) (λ k d lt. below (suc k) d (omega arith)))
 
-none_servable : AreServable []
-none_servable = record {
+pub nothing_servable : AreServable []
+nothing_servable = record {
   actors_known = λ k d lt. absurd (omega arith);
   numbers_rise = tt;
   in_range = λ k d lt. absurd (omega arith);
@@ -100,9 +100,6 @@ none_servable = record {
   waiting = λ k d lt. absurd (omega arith);
   few = omega arith;
 }
-
-pub nothing_servable : AreServable []
-nothing_servable = none_servable
 
 -- one line more
 pub servable_more : (lines : List Line) (l : Line) → AreServable lines → 0 < l.number → All (λ x. x.number < l.number) lines → length lines + 1 < 2 ^ 32 → Known (map (λ x. x.number) lines) l → AreServable (lines ++ l ∷ [])

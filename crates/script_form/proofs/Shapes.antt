@@ -1,44 +1,14 @@
 -- The forms of the commands, and the causes that their arguments have.
-use Rattle.std.proofs.Common.{◌≡◌, ◌≢◌, ℕ, zero, suc, ◌<◌, List, [], ◌∷◌, length, get_or, refl, sym, ◌∙◌, ap, subst, arith, Bool, true, false}
-use Rattle.std.specs.Prelude.{slice_index, codes, if◌then◌else◌, ◌==◌, not, Option, None, Some, is_some, MatchBool, MatchOption}
+use Rattle.std.proofs.Common.{◌≡◌, ℕ, length, refl, sym, ◌∙◌, ap, subst, Bool, true, false}
+use Rattle.std.specs.Prelude.{slice_index, if◌then◌else◌, ◌==◌, not, Option, None, Some, is_some, MatchBool, MatchOption}
 use Rattle.ledger_spec.specs.Bytes.{Bytes}
 use Rattle.script_form.specs.declared.forms.Form.{Form}
 use Rattle.script_form.specs.declared.forms.Form.TheVariants as form
-use Rattle.script_form.specs.declared.forms.TheConstants.{FORMS}
 use Rattle.script_form.specs.declared.forms.Argument.TheVariants as argument
 use Rattle.script_form.specs.declared.cause.Cause.{Cause}
 use Rattle.script_form.specs.declared.cause.Cause.TheVariants as cause
 use Rattle.script_form.specs.Words.{IsBlob}
 use Rattle.script_form.specs.Commands.{word_in, arguments_in, IsWrong}
-
--- where a form stands among all
-abbrev pub index_of : Form → ℕ
-index_of form.Want = 0
-index_of form.Peer = 1
-index_of form.Base = 2
-index_of form.BaseState = 3
-index_of form.Node = 4
-index_of form.Check = 5
-
-pub stands_there : (f d : Form) → get_or FORMS (index_of f) d ≡ f
-stands_there form.Want d = refl
-stands_there form.Peer d = refl
-stands_there form.Base d = refl
-stands_there form.BaseState d = refl
-stands_there form.Node d = refl
-stands_there form.Check d = refl
-
-pub index_below : (f : Form) → index_of f < 6
-index_below form.Want = omega arith
-index_below form.Peer = omega arith
-index_below form.Base = omega arith
-index_below form.BaseState = omega arith
-index_below form.Node = omega arith
-index_below form.Check = omega arith
-
--- what holds of each form in its place holds of all
-pub all_forms : (P : Form → Type 0) → ((k : ℕ) (d : Form) → k < 6 → P (get_or FORMS k d)) → (f : Form) → P f
-all_forms P each f = subst P (stands_there f f) (each (index_of f) f (index_below f))
 
 -- the form of a first byte and a number of arguments
 abbrev form_by : ℕ → ℕ → Form

@@ -1,11 +1,11 @@
 -- Why a line is refused, given the lines before it.
-use Rattle.std.specs.Prelude.{◌≡◌, ◌≢◌, ℕ, ◌+◌, ◌<◌, ◌≤◌, ◌==◌, ◌&&◌, nat_le, if◌then◌else◌, Bool, true, false, List, [], ◌∷◌, ◌++◌}
-use Rattle.std.specs.Prelude.{length, drop, slice_get, codes, Option, Some, flat_map}
+use Rattle.std.specs.Prelude.{◌≡◌, ℕ, ◌+◌, ◌<◌, ◌≤◌, ◌==◌, ◌&&◌, nat_le, if◌then◌else◌, Bool, true, false, List, [], ◌∷◌, ◌++◌}
+use Rattle.std.specs.Prelude.{length, drop, slice_get, codes, Some, flat_map}
 use Rattle.std.specs.List.{list_all, Contains}
 use Rattle.ledger_spec.specs.Bytes.{Bytes, same_bytes}
 use Rattle.script_form.specs.declared.cause.Cause.{Cause}
 use Rattle.script_form.specs.declared.cause.Cause.TheVariants as cause
-use Rattle.script_form.specs.Words.{lines_of, text_of, words_of, IsNumber}
+use Rattle.script_form.specs.Words.{text_of, words_of, IsNumber}
 use Rattle.script_form.specs.Commands.{CallHas}
 
 -- the most bytes of a script, of a line's text, and the most command lines

@@ -1,5 +1,5 @@
 -- The commands that are read: their words, and what stands behind them.
-use Rattle.std.specs.Prelude.{◌≡◌, ◌≢◌, ◌⊎◌, ℕ, ◌+◌, List, [], ◌∷◌, length, codes, IsTrue}
+use Rattle.std.specs.Prelude.{◌≡◌, ◌≢◌, ◌⊎◌, ℕ, List, [], ◌∷◌, length, codes, IsTrue}
 use Rattle.ledger_spec.specs.Bytes.{Bytes, Hash, is_zero}
 use Rattle.half_hash.specs.Hex.{IsHexOf}
 use Rattle.script_form.specs.declared.forms.Argument.{Argument}

@@ -1,4 +1,4 @@
-use Rattle.std.proofs.Common.{get_or, ◌*◌, ◌+◌, refl, arith}
+use Rattle.std.proofs.Common.{refl, arith}
 use Rattle.hex.proofs.Pairs.{decode_start}
 use Rattle.script_form.proofs.Pairs.{decodes_more, decodes_all}
 use Rattle.script_form.proofs.digits.decode_into.Goals as goal

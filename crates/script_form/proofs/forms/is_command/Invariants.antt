@@ -1,7 +1,7 @@
-use Rattle.std.proofs.Common.{◌≡◌, ◌≢◌, ℕ, ◌<◌, length, get_or}
+use Rattle.std.proofs.Common.{◌≢◌, ℕ, ◌<◌, get_or}
 use Rattle.script_form.specs.declared.forms.Form.{Form}
 use Rattle.script_form.specs.declared.forms.TheConstants.{FORMS}
-use Rattle.script_form.specs.Commands.{word_in, arguments_in}
+use Rattle.script_form.specs.Commands.{word_in}
 use Rattle.script_form.proofs.forms.is_command.Given as goal
 
 abbrev pub invariant-loop-form : goal.invariant-loop-form

@@ -1,4 +1,4 @@
-use Rattle.std.proofs.Common.{sym, ◌∙◌, arith}
+use Rattle.std.proofs.Common.{sym, ◌∙◌}
 use Rattle.script_form.specs.declared.cause.Cause.TheVariants as cause
 use Rattle.script_form.proofs.Said.{too_many, says_line, says_nothing}
 use Rattle.script_form.proofs.judging.said.Goals as goal

@@ -1,6 +1,5 @@
-use Rattle.std.proofs.Common.{◌≡◌, ◌<◌, ℕ, List, length, take, drop, sym, ◌∙◌, ap, arith}
+use Rattle.std.proofs.Common.{◌<◌, length, sym, ◌∙◌, arith}
 use Rattle.std.proofs.lemmas.List.{take_all, drop_all}
-use Rattle.script_form.specs.Words.{lines_of}
 use Rattle.script_form.proofs.Cuts.{line_at, text_at, line_end, text_end}
 use Rattle.script_form.proofs.script.first_line.Goals as goal
 

@@ -1,8 +1,7 @@
-use Rattle.std.proofs.Common.{◌≡◌, ◌+◌, ◌<◌, ◌≤◌, ℕ, List, length, refl, sym, subst, arith}
-use Rattle.std.proofs.lemmas.Bool.Decides.{nat_tests}
+use Rattle.std.proofs.Common.{◌+◌, ◌≤◌, ℕ, List, length, subst}
 use Rattle.script_form.specs.Causes.{most_bytes}
 use Rattle.script_form.specs.Judging.{IsFineText, IsSaid}
-use Rattle.script_form.proofs.Scripts.{reads_start, reads_skip, reads_line, reads_end, within_size, refused_text, refused_size}
+use Rattle.script_form.proofs.Scripts.{reads_start, reads_skip, reads_line, refused_size}
 use Rattle.script_form.proofs.script.read_lines.Goals as goal
 use Rattle.script_form.proofs.script.read_lines.Goals.{in-Some+in_ok-push+in_ok-push-2, in_default}
 
