@@ -31,7 +31,7 @@ says_it call args verb c is says = let P : List Bytes → Type 0 = λ ws. CallSa
 pub found_one : (call args : List Bytes) (verb : Bytes) (c : Command) → call ≡ verb ∷ args → word_of c ≡ verb → AreArguments args c → CallSays call c
 found_one call args verb c is word are = let P : List Bytes → Type 0 = λ ws. CallSays ws c in subst P (sym is) (sym word, are)
 
--- the five words differ in their first letters
+-- the words differ in their first letters
 pub differ : (a b : Bytes) → slice_index a 0 ≢ slice_index b 0 → {P : Type 0} → a ≡ b → P
 differ a b apart same = absurd (other_word a b apart same)
 
@@ -42,6 +42,7 @@ pub record NoCommand (args : List Bytes) (verb : Bytes) : Type 0 where
   pub base : verb ≡ codes "base" → (p : ℕ) (t : Hash) (head : Bytes) (state tx : Option Bytes) → AreArguments args (command.Base p t head state tx) → ⊥
   pub node : verb ≡ codes "node" → (p : ℕ) (t : Hash) (kind : Kind) (path : List ℕ) (blob : Bytes) → AreArguments args (command.Node p t kind path blob) → ⊥
   pub check : verb ≡ codes "check" → (t : Hash) → AreArguments args (command.Check t) → ⊥
+  pub tick : verb ≡ codes "tick" → (t : Hash) → AreArguments args (command.Tick t) → ⊥
 
 pub no_command : (call args : List Bytes) (verb : Bytes) → call ≡ verb ∷ args → NoCommand args verb → (c : Command) → CallSays call c → ⊥
 no_command call args verb is none (command.Want t seq) says = let s = says_it call args verb (command.Want t seq) is says in none.want s.0 t seq s.1
@@ -49,7 +50,7 @@ no_command call args verb is none (command.Peer p t) says = let s = says_it call
 no_command call args verb is none (command.Base p t head state tx) says = let s = says_it call args verb (command.Base p t head state tx) is says in none.base s.0 p t head state tx s.1
 no_command call args verb is none (command.Node p t kind path blob) says = let s = says_it call args verb (command.Node p t kind path blob) is says in none.node s.0 p t kind path blob s.1
 no_command call args verb is none (command.Check t) says = let s = says_it call args verb (command.Check t) is says in none.check s.0 t s.1
-no_command call args verb is none (command.Tick t) says = (says_it call args verb (command.Tick t) is says).1
+no_command call args verb is none (command.Tick t) says = let s = says_it call args verb (command.Tick t) is says in none.tick s.0 t s.1
 no_command call args verb is none (command.View v t) says = (says_it call args verb (command.View v t) is says).1
 no_command call args verb is none (command.Unview v) says = (says_it call args verb (command.Unview v) is says).1
 no_command call args verb is none (command.Get v kind key) says = (says_it call args verb (command.Get v kind key) is says).1
@@ -63,21 +64,24 @@ no_command call args verb is none (command.Abandon x) says = (says_it call args 
 no_command call args verb is none command.Begin says = (says_it call args verb command.Begin is says).1
 no_command call args verb is none command.Swap says = (says_it call args verb command.Swap is says).1
 
--- where the verb is one of the five, the four others have no command
+-- where the verb is one of these, the others have no command
 pub only_want : (args : List Bytes) → ((t : Hash) (seq : ℕ) → AreArguments args (command.Want t seq) → ⊥) → NoCommand args (codes "want")
-only_want args none = record { want = λ _. none; peer = differ _ _ (λ e. absurd (omega arith)); base = differ _ _ (λ e. absurd (omega arith)); node = differ _ _ (λ e. absurd (omega arith)); check = differ _ _ (λ e. absurd (omega arith)) }
+only_want args none = record { want = λ _. none; peer = differ _ _ (λ e. absurd (omega arith)); base = differ _ _ (λ e. absurd (omega arith)); node = differ _ _ (λ e. absurd (omega arith)); check = differ _ _ (λ e. absurd (omega arith)); tick = differ _ _ (λ e. absurd (omega arith)) }
 
 pub only_peer : (args : List Bytes) → ((p : ℕ) (t : Hash) → AreArguments args (command.Peer p t) → ⊥) → NoCommand args (codes "peer")
-only_peer args none = record { want = differ _ _ (λ e. absurd (omega arith)); peer = λ _. none; base = differ _ _ (λ e. absurd (omega arith)); node = differ _ _ (λ e. absurd (omega arith)); check = differ _ _ (λ e. absurd (omega arith)) }
+only_peer args none = record { want = differ _ _ (λ e. absurd (omega arith)); peer = λ _. none; base = differ _ _ (λ e. absurd (omega arith)); node = differ _ _ (λ e. absurd (omega arith)); check = differ _ _ (λ e. absurd (omega arith)); tick = differ _ _ (λ e. absurd (omega arith)) }
 
 pub only_base : (args : List Bytes) → ((p : ℕ) (t : Hash) (head : Bytes) (state tx : Option Bytes) → AreArguments args (command.Base p t head state tx) → ⊥) → NoCommand args (codes "base")
-only_base args none = record { want = differ _ _ (λ e. absurd (omega arith)); peer = differ _ _ (λ e. absurd (omega arith)); base = λ _. none; node = differ _ _ (λ e. absurd (omega arith)); check = differ _ _ (λ e. absurd (omega arith)) }
+only_base args none = record { want = differ _ _ (λ e. absurd (omega arith)); peer = differ _ _ (λ e. absurd (omega arith)); base = λ _. none; node = differ _ _ (λ e. absurd (omega arith)); check = differ _ _ (λ e. absurd (omega arith)); tick = differ _ _ (λ e. absurd (omega arith)) }
 
 pub only_node : (args : List Bytes) → ((p : ℕ) (t : Hash) (kind : Kind) (path : List ℕ) (blob : Bytes) → AreArguments args (command.Node p t kind path blob) → ⊥) → NoCommand args (codes "node")
-only_node args none = record { want = differ _ _ (λ e. absurd (omega arith)); peer = differ _ _ (λ e. absurd (omega arith)); base = differ _ _ (λ e. absurd (omega arith)); node = λ _. none; check = differ _ _ (λ e. absurd (omega arith)) }
+only_node args none = record { want = differ _ _ (λ e. absurd (omega arith)); peer = differ _ _ (λ e. absurd (omega arith)); base = differ _ _ (λ e. absurd (omega arith)); node = λ _. none; check = differ _ _ (λ e. absurd (omega arith)); tick = differ _ _ (λ e. absurd (omega arith)) }
 
 pub only_check : (args : List Bytes) → ((t : Hash) → AreArguments args (command.Check t) → ⊥) → NoCommand args (codes "check")
-only_check args none = record { want = differ _ _ (λ e. absurd (omega arith)); peer = differ _ _ (λ e. absurd (omega arith)); base = differ _ _ (λ e. absurd (omega arith)); node = differ _ _ (λ e. absurd (omega arith)); check = λ _. none }
+only_check args none = record { want = differ _ _ (λ e. absurd (omega arith)); peer = differ _ _ (λ e. absurd (omega arith)); base = differ _ _ (λ e. absurd (omega arith)); node = differ _ _ (λ e. absurd (omega arith)); check = λ _. none; tick = differ _ _ (λ e. absurd (omega arith)) }
+
+pub only_tick : (args : List Bytes) → ((t : Hash) → AreArguments args (command.Tick t) → ⊥) → NoCommand args (codes "tick")
+only_tick args none = record { want = differ _ _ (λ e. absurd (omega arith)); peer = differ _ _ (λ e. absurd (omega arith)); base = differ _ _ (λ e. absurd (omega arith)); node = differ _ _ (λ e. absurd (omega arith)); check = differ _ _ (λ e. absurd (omega arith)); tick = λ _. none }
 
 -- what one command's reader found, or that it found nothing
 pub found : {Q : Type 0} (words args : List Bytes) (verb : Bytes) (r : Option Command) → words ≡ verb ∷ args → IfSome r (λ c. (word_of c ≡ verb) × AreArguments args c) → IfNone r Q

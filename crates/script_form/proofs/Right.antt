@@ -103,12 +103,14 @@ form_says form.Node (n ∷ t ∷ k ∷ i ∷ b ∷ []) right =
       (n, t, i, b, kind, right.0.1, right.1.0.1, refl, right.1.1.1.0.1, right.1.1.1.1.0.1),
     )
 form_says form.Check (t ∷ []) right = (command.Check right.0.0, refl, (t, refl, right.0.1))
+form_says form.Tick (t ∷ []) right = (command.Tick right.0.0, refl, (t, refl, right.0.1))
 form_says form.Want args right = absurd (omega (arith, right_count (arguments_in form.Want) args right))
 form_says form.Peer args right = absurd (omega (arith, right_count (arguments_in form.Peer) args right))
 form_says form.Base args right = absurd (omega (arith, right_count (arguments_in form.Base) args right))
 form_says form.BaseState args right = absurd (omega (arith, right_count (arguments_in form.BaseState) args right))
 form_says form.Node args right = absurd (omega (arith, right_count (arguments_in form.Node) args right))
 form_says form.Check args right = absurd (omega (arith, right_count (arguments_in form.Check) args right))
+form_says form.Tick args right = absurd (omega (arith, right_count (arguments_in form.Tick) args right))
 
 base_said : (n t h : Bytes) (parts : List Bytes) (p : ℕ) (target : Hash) (head : Bytes) (state tx : Option Bytes) → IsNumber n 65535 p → IsTarget t target → IsBlob h head → AreParts parts state tx
     → (f : Form) × (codes "base" ≡ word_in f) × AreRight (arguments_in f) (n ∷ t ∷ h ∷ parts)
@@ -126,6 +128,7 @@ form_said args (command.Base p t head state tx) are =
 form_said args (command.Node p t kind path blob) are =
     (form.Node, refl, subst (AreRight (arguments_in form.Node)) (sym are.4) ((p, are.5), ((t, are.6), (refl, ((path, are.8), ((blob, are.9), tt))))))
 form_said args (command.Check t) are = (form.Check, refl, subst (AreRight (arguments_in form.Check)) (sym are.1) ((t, are.2), tt))
+form_said args (command.Tick t) are = (form.Tick, refl, subst (AreRight (arguments_in form.Tick)) (sym are.1) ((t, are.2), tt))
 form_said args _ are = absurd are
 
 other_form : (f g : Form) (word : Bytes) (args : List Bytes) (c : Cause) → word ≡ word_in f → AreRight (arguments_in f) args → word ≡ word_in g → length args ≡ length (arguments_in g) → HasWrong c (arguments_in g) args → ⊥

@@ -14,7 +14,7 @@ use Rattle.script_form.specs.Commands.{word_in, arguments_in, IsWrong}
 abbrev form_by : ℕ → ℕ → Form
 form_by first count =
     if first == 119 then form.Want else if first == 112 then form.Peer else if first == 110 then form.Node else if first == 99 then form.Check
-    else if count == 3 then form.Base else form.BaseState
+    else if first == 116 then form.Tick else if count == 3 then form.Base else form.BaseState
 
 by_form : (f : Form) → form_by (slice_index (word_in f) 0) (length (arguments_in f)) ≡ f
 by_form form.Want = refl
@@ -23,6 +23,7 @@ by_form form.Base = refl
 by_form form.BaseState = refl
 by_form form.Node = refl
 by_form form.Check = refl
+by_form form.Tick = refl
 
 -- there is one form of a word and a number of arguments
 pub one_form : (f g : Form) → word_in f ≡ word_in g → length (arguments_in f) ≡ length (arguments_in g) → f ≡ g

@@ -18,8 +18,9 @@ word_in form.Base = codes "base"
 word_in form.BaseState = codes "base"
 word_in form.Node = codes "node"
 word_in form.Check = codes "check"
+word_in form.Tick = codes "tick"
 
--- a form's arguments, in order: T and SEQ; P and T; P, T and HEADER, and STATE where it is given; P, T, KIND, ID and BLOB; T
+-- a form's arguments, in order: T and SEQ; P and T; P, T and HEADER, and STATE where it is given; P, T, KIND, ID and BLOB; T; T
 abbrev pub arguments_in : Form → List Argument
 arguments_in form.Want = argument.Target ∷ argument.Number 4294967295 ∷ []
 arguments_in form.Peer = argument.Number 65535 ∷ argument.Target ∷ []
@@ -27,6 +28,7 @@ arguments_in form.Base = argument.Number 65535 ∷ argument.Target ∷ argument.
 arguments_in form.BaseState = argument.Number 65535 ∷ argument.Target ∷ argument.Blob ∷ argument.Blob ∷ []
 arguments_in form.Node = argument.Number 65535 ∷ argument.Target ∷ argument.Kind ∷ argument.Id ∷ argument.Blob ∷ []
 arguments_in form.Check = argument.Target ∷ []
+arguments_in form.Tick = argument.Target ∷ []
 
 -- a word in an argument's place is wrong for this cause
 abbrev pub IsWrong : Cause → Argument → Bytes → Type 0

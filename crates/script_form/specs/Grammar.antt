@@ -21,7 +21,7 @@ AreParts (word ∷ []) (Some state) None = IsBlob word state
 AreParts _ _ _ = ⊥
 
 -- The words behind the command's word say its arguments. The commands that are read at present are `want`, `peer`, `base` without a
--- transaction root, `node` of the state map, and `check`.
+-- transaction root, `node` of the state map, `check` and `tick`.
 abbrev pub AreArguments : List Bytes → Command → Type 0
 AreArguments args (command.Want t seq) =
     (target : Bytes) × (number : Bytes) × (args ≡ target ∷ number ∷ []) × IsTarget target t × IsNumber number 4294967295 seq
@@ -34,6 +34,7 @@ AreArguments args (command.Node p t kind path blob) =
     (number : Bytes) × (target : Bytes) × (id : Bytes) × (word : Bytes) × (args ≡ number ∷ target ∷ codes "state" ∷ id ∷ word ∷ [])
     × IsNumber number 65535 p × IsTarget target t × (kind ≡ State) × IsId id path × IsBlob word blob
 AreArguments args (command.Check t) = (target : Bytes) × (args ≡ target ∷ []) × IsTarget target t
+AreArguments args (command.Tick t) = (target : Bytes) × (args ≡ target ∷ []) × IsTarget target t
 AreArguments args _ = ⊥
 
 -- a command's word and its arguments say the command

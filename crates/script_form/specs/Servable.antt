@@ -13,6 +13,7 @@ IsServed (command.Peer p t) = Unit {0}
 IsServed (command.Base p t head state tx) = Unit {0}
 IsServed (command.Node p t kind path blob) = Unit {0}
 IsServed (command.Check t) = Unit {0}
+IsServed (command.Tick t) = Unit {0}
 IsServed _ = ⊥
 
 -- the line waits for none, or for an earlier one

@@ -32,16 +32,18 @@ pub enum Form {
     BaseState,
     Node,
     Check,
+    Tick,
 }
 
 /// All forms.
-const FORMS: [Form; 6] = [
+const FORMS: [Form; 7] = [
     Form::Want,
     Form::Peer,
     Form::Base,
     Form::BaseState,
     Form::Node,
     Form::Check,
+    Form::Tick,
 ];
 
 const WANT: [Argument; 2] = [Argument::Target, Argument::Number(4_294_967_295)];
@@ -67,6 +69,8 @@ const NODE: [Argument; 5] = [
 
 const CHECK: [Argument; 1] = [Argument::Target];
 
+const TICK: [Argument; 1] = [Argument::Target];
+
 impl Form {
     /// Whether this is the form's command word.
     fn has_word(self, word: &[u8]) -> bool
@@ -79,6 +83,7 @@ impl Form {
             Form::BaseState => is_text(word, b"base"),
             Form::Node => is_text(word, b"node"),
             Form::Check => is_text(word, b"check"),
+            Form::Tick => is_text(word, b"tick"),
         }
     }
 
@@ -93,6 +98,7 @@ impl Form {
             Form::BaseState => &BASE_STATE,
             Form::Node => &NODE,
             Form::Check => &CHECK,
+            Form::Tick => &TICK,
         }
     }
 }

@@ -145,6 +145,9 @@ fn command_of(alloc: Global, call: &[&[u8]]) -> Result<Option<Command>, Memory>
     if is_text(verb, b"check") {
         return Ok(check_of(arguments));
     }
+    if is_text(verb, b"tick") {
+        return Ok(tick_of(arguments));
+    }
     Ok(None)
 }
 
@@ -187,6 +190,17 @@ fn check_of(arguments: &[&[u8]]) -> Option<Command>
     };
     let target = target_word(target)?;
     Some(Command::Check { target })
+}
+
+fn tick_of(arguments: &[&[u8]]) -> Option<Command>
+    ensures some { IfSome result (λ c. (word_of c ≡ codes "tick") × AreArguments (map (λ w. w.now) arguments.now) c) }
+    ensures none { IfNone result ((t : List ℕ) → AreArguments (map (λ w. w.now) arguments.now) (Command.Tick t) → ⊥) }
+{
+    let [target] = arguments else {
+        return None;
+    };
+    let target = target_word(target)?;
+    Some(Command::Tick { target })
 }
 
 fn base_of(alloc: Global, arguments: &[&[u8]]) -> Result<Option<Command>, Memory>

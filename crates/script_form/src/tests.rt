@@ -46,7 +46,7 @@ const READ: [(&str, &str); 32] = [
     ("0 node 1 Z state T00 -", "refused 1 9"),
     ("0 node 1 Z state I -", "refused 1 10"),
     ("0 want Z 1", "refused 1 10"),
-    ("0 check T~0 bogin~0 want Z 1", "refused 2 5"),
+    ("0 tick T~0 tick Z~0 bogin", "refused 2 10"),
 ];
 
 #[test]
