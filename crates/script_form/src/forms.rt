@@ -135,8 +135,8 @@ pub(crate) fn has_wrong(
     arguments: &[Argument],
     words: &[&[u8]],
 ) -> Result<bool, Memory>
-    ensures { IfOk result (λ found.
-        MatchBool found (HasWrong cause arguments.now (map (λ w. w.now) words.now)) (HasWrong cause arguments.now (map (λ w. w.now) words.now) → ⊥)) }
+    ensures { IfOk result (λ found. MatchBool found (HasWrong cause arguments.now (map (λ w. w.now) words.now))
+        (HasWrong cause arguments.now (map (λ w. w.now) words.now) → ⊥)) }
 {
     let [argument, arguments @ ..] = arguments else {
         return Ok(false);

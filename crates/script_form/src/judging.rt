@@ -198,7 +198,8 @@ fn command_has(
 
 /// Whether a command's word and its arguments have this cause.
 fn call_has(alloc: Global, cause: Cause, call: &[&[u8]]) -> Result<bool, Memory>
-    ensures { IfOk result (λ found. MatchBool found (CallHas (map (λ w. w.now) call.now) cause) (CallHas (map (λ w. w.now) call.now) cause → ⊥)) }
+    ensures { IfOk result (λ found. MatchBool found (CallHas (map (λ w. w.now) call.now) cause)
+        (CallHas (map (λ w. w.now) call.now) cause → ⊥)) }
 {
     let [word, arguments @ ..] = call else {
         return Ok(cause == Cause::UnknownCommand);

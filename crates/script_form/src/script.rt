@@ -64,8 +64,8 @@ fn read_lines(alloc: Global, bytes: &[u8]) -> Result<Vec<Line>, ScriptFault>
     let mut rest = bytes;
     let mut n: u32 = 1;
     while !rest.is_empty() {
-        let (text, line) = first_line(rest);
-        if bytes.len() - rest.len() + line > MOST_BYTES {
+        let (text, size) = first_line(rest);
+        if bytes.len() - rest.len() + size > MOST_BYTES {
             return Err(refused(n, Cause::ScriptTooLong));
         }
         let said = match judge(alloc, n, text, &earlier) {
@@ -77,7 +77,7 @@ fn read_lines(alloc: Global, bytes: &[u8]) -> Result<Vec<Line>, ScriptFault>
             earlier.push(n)?;
             lines.push(line)?;
         }
-        rest = rest.split_at(line).1;
+        rest = rest.split_at(size).1;
         n += 1;
     }
     Ok(lines)
