@@ -70,7 +70,8 @@ pub record IsEarlier (earlier : List ℕ) (words : List Bytes) (n : ℕ) : Type 
   pub number : IsNumber word 4294967295 n
   pub found : Contains earlier n
 
--- The cause stands at the words of a command line; `earlier` are the numbers of the command lines before it.
+-- The cause stands at the words of a command line; `earlier` are the numbers of the command lines before it. A line whose first word is
+-- `store` will be a record: until records are read it has no actor.
 abbrev pub WordsHave : List ℕ → List Bytes → Cause → Type 0
 WordsHave earlier [] c = ⊥
 WordsHave earlier (actor ∷ words) cause.NoActor = (n : ℕ) → IsNumber actor 63 n → ⊥

@@ -1,5 +1,5 @@
 //! Scripts that are read, and scripts that are refused.
-use crate::{ScriptFault, number, read_script};
+use crate::{ScriptFault, blob_word, number, read_script, words_of};
 use half_hash::TinyHash;
 use run_io::MemSource;
 use std::alloc::Global;
@@ -92,8 +92,20 @@ fn expand(alloc: Global, short: &str) -> Result<Vec<u8>, Fail> {
 }
 
 #[test]
-fn numbers(rt: HostRuntime) {
+fn single_words(rt: HostRuntime) -> Result<(), Fail> {
+    let alloc = rt.alloc();
     assert_eq!(rt; number(b"007", 7), Some(7));
     assert_eq!(rt; number(b"+7", 7), None);
     assert_eq!(rt; number(b"8", 7), None);
+    let none = blob_word(alloc, b"-")?.ok_or("-")?;
+    assert_eq!(rt; none.bytes(), b"".as_slice());
+    let two = blob_word(alloc, b"0aF1")?.ok_or("0aF1")?;
+    assert_eq!(rt; two.bytes(), b"\x0A\xF1".as_slice());
+    assert!(rt; blob_word(alloc, b"0")?.is_none());
+    assert!(rt; blob_word(alloc, b"0g")?.is_none());
+    let words = words_of(alloc, b" a  bc ")?;
+    assert_eq!(rt; words.len(), 2);
+    assert_eq!(rt; words[0], b"a".as_slice());
+    assert_eq!(rt; words[1], b"bc".as_slice());
+    Ok(())
 }
