@@ -1,15 +1,13 @@
 -- Tables whose keys rise stay such tables as entries come, change and go.
-use Rattle.std.proofs.Common.{◌≡◌, ◌<◌, ℕ, suc, length, arith, Bool, true, false, cond, List, [], ◌∷◌, Option, None, Some, refl, sym, ap, ◌∙◌, subst}
+use Rattle.std.proofs.Common.{◌≡◌, suc, arith, Bool, true, false, cond, List, [], ◌∷◌, None, Some, refl, sym, ap, ◌∙◌, subst}
 use Rattle.std.specs.List.{All, AllByRecursion}
 use Rattle.std.specs.List.Sorted.{IsStrictlySortedBy}
 use Rattle.std.specs.Map.{keys_of, values_of, lookup, remove_entry, set_value}
-use Rattle.std.specs.BTreeMap.{insert_entry, is_at}
 use Rattle.std.specs.Cmp.{IsTotalOrder}
 use Rattle.std.specs.Ordering.{match_ordering, ordering_reverse, nat_cmp}
 use Rattle.std.specs.declared.cmp.Ordering.{Ordering}
 use Rattle.std.specs.declared.cmp.Ordering.TheVariants.{Less, Equal, Greater}
 use Rattle.std.proofs.lemmas.Map.{keys-set_value}
-use Rattle.std.proofs.lemmas.Map.Views.{All-values-set_value, All-values-insert_entry, All-map-remove_entry}
 use Rattle.ledger_spec.specs.declared.Kind.TheVariants as kinds
 use Rattle.ledger_spec.specs.Maps.{ForHash, ForActor, hash_cmp, numbered_cmp, IsMap, insert_in}
 use Rattle.ledger_spec.specs.Bytes.{Half}

@@ -5,7 +5,7 @@ use Rattle.std.specs.Prelude.{slice_index}
 use Rattle.std.specs.List.{flat_map, list_any, AllPairs, AllByRecursion}
 use Rattle.std.proofs.lemmas.Bool.{eqb-false, lt-ltb, ltb-true, ne_eqb, not-true}
 use Rattle.std.proofs.lemmas.Bool.{or_from, or_parts}
-use Rattle.std.proofs.lemmas.List.{append_assoc, drop_at, get_or_at, nil_from_length, take-append-drop, take_at, take_more, length-take-le}
+use Rattle.std.proofs.lemmas.List.{append_assoc, drop_at, get_or_at, nil_from_length, take-append-drop, take_at, take_more}
 use Rattle.std.proofs.lemmas.List.Kept.{AllPairs-cons}
 use Rattle.ledger_spec.specs.Bytes.{Bytes, Hash, is_zero}
 use Rattle.ledger_spec.specs.Wire.{Chunk, IsChunk, chunk_bytes, chunks_in, chunk_cause}

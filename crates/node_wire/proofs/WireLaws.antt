@@ -1,16 +1,15 @@
 -- Bytes are a wire form of the node that is read of them, and of no other; what is written of a node is read as it.
 use Rattle.std.proofs.Common.{◌≡◌, ◌≢◌, ◌⊎◌, inl, inr, ◌+◌, ◌-◌, ◌*◌, ◌/◌, ◌%◌, ◌==◌, not, ℕ, Bool, true, false, if◌then◌else◌}
 use Rattle.std.proofs.Common.{List, [], ◌∷◌, ◌++◌}
-use Rattle.std.proofs.Common.{length, take, drop, map, nat_lt, IsTrue, Some, Result, Ok, Err, IfOk, IfErr}
+use Rattle.std.proofs.Common.{length, take, drop, map, nat_lt, IsTrue, Result, Ok, Err, IfOk, IfErr}
 use Rattle.std.proofs.Common.{MatchResult, refl, sym, ap, ◌∙◌, subst}
 use Rattle.std.proofs.Common.{arith, length-drop}
 use Rattle.std.specs.Prelude.{slice_index}
-use Rattle.std.specs.Option.{option_map_or}
-use Rattle.std.specs.List.{concat, count_by, find, flat_map, list_all, AllByRecursion}
-use Rattle.std.proofs.lemmas.Bool.{and_from, cond-false, eq-eqb, eqb-true, false≢true}
+use Rattle.std.specs.List.{concat, count_by, flat_map}
+use Rattle.std.proofs.lemmas.Bool.{cond-false, eq-eqb, eqb-true, false≢true}
 use Rattle.std.proofs.lemmas.List.{length-map, take_all, take-append-drop}
 use Rattle.std.proofs.lemmas.List.FromFn.{fill_by_all, get_or-map-range_with_len}
-use Rattle.std.proofs.lemmas.Nat.{div-add-mod', div-mul-add, mod-mul-add}
+use Rattle.std.proofs.lemmas.Nat.{div-mul-add, mod-mul-add}
 use Rattle.ledger_spec.specs.declared.Kind.TheVariants.{State, Tx, Set}
 use Rattle.ledger_spec.specs.Bytes.{Bytes, Hash, Half, branches, hashes_of, is_nonzero, zero_hash}
 use Rattle.ledger_spec.specs.Forms.{Held, inner, leaf, header, IsHeld, IsInner, IsItem, leaf_form}

@@ -38,7 +38,7 @@ use Rattle.ledger_spec.specs.declared.Kind.{Kind}
 use Rattle.node_offer.specs.declared.store.OfferFault.{OfferFault}
 use Rattle.node_offer.specs.declared.store.OfferFault.TheVariants as fault
 use Rattle.node_offer.specs.Stored.{HasClash}
-use Rattle.store_core.specs.Refusals.{IsClashReply, IsAsked, HasSomeParts, HasTwoParts, refusal_of, asked_reply}
+use Rattle.store_core.specs.Refusals.{IsClashReply, IsAsked, HasSomeParts, refusal_of, asked_reply}
 use Rattle.ledger_machine.specs.Want.{want_reply, after_want}
 use Rattle.ledger_machine.specs.Peer.{peer_reply, after_peer}
 use Rattle.ledger_machine.specs.Check.{check_given, check_reply, form_verdict, search_reply, missing_reply, ask_reply, need_or_wait}

@@ -1,5 +1,5 @@
-use Rattle.std.proofs.Common.{◌≡◌, ℕ, ◌<◌, Bool, true, false, IsTrue, Option, Some, None, List, [], drop, sym, refl, subst, arith}
-use Rattle.std.specs.Prelude.{MatchOption, is_some, slice_index}
+use Rattle.std.proofs.Common.{◌≡◌, ℕ, ◌<◌, Bool, true, false, IsTrue, Option, Some, None, sym, refl, arith}
+use Rattle.std.specs.Prelude.{MatchOption, is_some}
 use mathlib.Core.Bool.{not}
 use Rattle.std.proofs.lemmas.Bool.{false≢true}
 use Rattle.store_core.proofs.Journals.{kept_done, kept_past, kept_undone, moved, moved_end}

@@ -3,7 +3,6 @@ use Rattle.std.proofs.Common.{refl}
 use Rattle.ledger_laws.proofs.Completeness.{retained_stored, run_exact}
 use Rattle.ledger_laws.proofs.Collisions.{clash_collides}
 use Rattle.ledger_laws.proofs.Receipts.{all_stay}
-use Rattle.ledger_laws.proofs.SoundSteps.{line_at}
 use Rattle.store_core.proofs.Journals.{kept_few, kept_projects, kept_acquires, none_failed}
 use Rattle.store_core.proofs.store.Core.journal.Goals as goal
 
