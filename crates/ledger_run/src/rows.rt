@@ -10,7 +10,7 @@ use std::test::Fail;
 
 /// A script, the status, and the journal, in short: `[xx]` is the byte xx and 31 zero bytes, `_` is 32
 /// zero bytes, `@` the header of ledger 10, and `#` the root of its state map.
-const ROWS: [(&str, u8, &str); 11] = [
+const ROWS: [(&str, u8, &str); 12] = [
     (WHOLE, 0, WHOLE_SAYS),
     (COMPRESSED, 0, COMPRESSED_SAYS),
     (VIEWED, 3, "refused 9 5\n"),
@@ -22,6 +22,7 @@ const ROWS: [(&str, u8, &str); 11] = [
     (BROKEN, 0, BROKEN_SAYS),
     (KINDS, 0, KINDS_SAYS),
     (TICKS, 0, TICKS_SAYS),
+    (WAITING, 0, WAITING_SAYS),
 ];
 
 const WHOLE: &str = "0 want [DD] 10
@@ -329,6 +330,24 @@ const TICKS_SAYS: &str = "1 0 tick notopen
 16 0 tick notopen
 17 0 want opened
 end complete 0 closed 0 listed 0 floor 0 last - epoch 0
+";
+
+/// Three actors, each line waiting for what it needs, so that the journal has one order.
+const WAITING: &str = "0 want [DD] 10
+0 peer 5 [DD]
+1 after 2 base 5 [DD] @ [FA]0103
+1 node 5 [DD] state [10]01 0102[10]01
+0 after 4 check [DD]
+2 after 5 want [DD] 10
+";
+
+const WAITING_SAYS: &str = "1 0 want opened
+2 0 peer added
+3 1 base good / good
+4 1 node good
+5 0 check complete
+6 2 want listed
+end complete 1 closed 0 listed 1 floor 0 last 10 epoch 0
 ";
 
 #[test]
