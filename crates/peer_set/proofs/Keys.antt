@@ -5,9 +5,9 @@ use Rattle.std.proofs.lemmas.Bool.{and_parts, and_from}
 use Rattle.std.proofs.lemmas.Bool.Decides.{same_from_decides}
 use Rattle.std.proofs.lemmas.List.{take_at, drop_at}
 use Rattle.std.proofs.lemmas.Slice.Eq.{bytes_eq-Decides}
-use Rattle.nib_path.specs.Paths.{IsPath, wire_of}
+use Rattle.nib_path.specs.Paths.{IsPath, id_wire}
 use Rattle.nib_path.specs.Wire.{read_wire_id}
-use Rattle.nib_path.proofs.Reading.{length-wire_of, read_wire_id-wire_of}
+use Rattle.nib_path.proofs.Reading.{length-id_wire, read_wire_id-id_wire}
 use Rattle.ledger_spec.specs.declared.Kind.{Kind}
 use Rattle.ledger_spec.specs.declared.Kind.TheVariants.{State, Tx, Set}
 use Rattle.ledger_spec.specs.declared.Place.{Place}
@@ -59,10 +59,10 @@ places_equiv = record {
 
 -- ---- keys
 last_of : (kind : Kind) (path : List ℕ) → IsPath path → drop 33 (key_of (Node kind path)) ≡ kind_number kind ∷ []
-last_of kind path is = drop_at (wire_of path) (kind_number kind ∷ []) 33 (length-wire_of path is)
+last_of kind path is = drop_at (id_wire path) (kind_number kind ∷ []) 33 (length-id_wire path is)
 
-wire_in : (kind : Kind) (path : List ℕ) → IsPath path → take 33 (key_of (Node kind path)) ≡ wire_of path
-wire_in kind path is = take_at (wire_of path) (kind_number kind ∷ []) 33 (length-wire_of path is)
+wire_in : (kind : Kind) (path : List ℕ) → IsPath path → take 33 (key_of (Node kind path)) ≡ id_wire path
+wire_in kind path is = take_at (id_wire path) (kind_number kind ∷ []) 33 (length-id_wire path is)
 
 no_header : (kind : Kind) (z : ℕ) → z ≡ 0 → z ≡ kind_number kind → ⊥
 no_header State z n e = omega (arith, n, e)
@@ -80,9 +80,9 @@ number_exact Tx Set e = absurd (omega (arith, e))
 number_exact Set State e = absurd (omega (arith, e))
 number_exact Set Tx e = absurd (omega (arith, e))
 
-wire_exact : (p q : List ℕ) → IsPath p → IsPath q → wire_of p ≡ wire_of q → p ≡ q
+wire_exact : (p q : List ℕ) → IsPath p → IsPath q → id_wire p ≡ id_wire q → p ≡ q
 wire_exact p q h k e =
-    let read = sym (read_wire_id-wire_of p h) ∙ ap read_wire_id e ∙ read_wire_id-wire_of q k in
+    let read = sym (read_wire_id-id_wire p h) ∙ ap read_wire_id e ∙ read_wire_id-id_wire q k in
     cc
 
 pub key_exact : (p q : Place) → IsPlace p → IsPlace q → key_of p ≡ key_of q → p ≡ q

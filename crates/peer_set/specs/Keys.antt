@@ -1,6 +1,6 @@
 -- Places as bytes.
 use Rattle.std.specs.Prelude.{ℕ, [], ◌∷◌, ◌++◌, replicate}
-use Rattle.nib_path.specs.Paths.{IsPath, wire_of}
+use Rattle.nib_path.specs.Paths.{IsPath, id_wire}
 use Rattle.ledger_spec.specs.declared.Kind.{Kind}
 use Rattle.ledger_spec.specs.declared.Kind.TheVariants.{State, Tx, Set}
 use Rattle.ledger_spec.specs.declared.Place.{Place}
@@ -16,7 +16,7 @@ kind_number Set = 3
 -- the wire form of the node's ID and the number of its kind, or zeros
 abbrev pub key_of : Place → Bytes
 key_of Header = replicate 34 0
-key_of (Node kind path) = wire_of path ++ kind_number kind ∷ []
+key_of (Node kind path) = id_wire path ++ kind_number kind ∷ []
 
 -- a node's path is one in a map of 256-bit keys
 abbrev pub IsPlace : Place → Type 0
