@@ -1,5 +1,5 @@
 -- A change of what one branch of sixteen holds.
-use Rattle.std.proofs.Common.{◌≡◌, ◌≢◌, ℕ, zero, suc, ◌+◌, ◌-◌, ◌<◌, ◌≤◌, ◌==◌, true, false, if◌then◌else◌, List, [], ◌∷◌, ◌++◌, refl}
+use Rattle.std.proofs.Common.{◌≡◌, ◌≢◌, ℕ, zero, suc, ◌+◌, ◌-◌, ◌<◌, ◌==◌, true, false, if◌then◌else◌, List, [], ◌∷◌, ◌++◌, refl}
 use Rattle.std.proofs.Common.{sym, ap, ◌∙◌, arith, append_assoc, IsTrue, nat_eq, cond, ◌&&◌}
 use Rattle.std.specs.List.{flat_map, range_with_len, AllByRecursion, starts_with}
 use Rattle.std.specs.declared.cmp.Ordering.TheVariants.{Less, Greater}

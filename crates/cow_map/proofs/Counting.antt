@@ -19,7 +19,7 @@ CountsTo links n (only.One c) = (c < n) × (slice_index_or links c Empty ≢ Emp
 CountsTo links n only.Many = ⊥
 
 -- how many links lead anywhere
-pub links_in : List Link → ℕ
+unfoldable pub links_in : List Link → ℕ
 links_in [] = 0
 links_in (l ∷ ls) = cond (is_link l) (1 + links_in ls) (links_in ls)
 

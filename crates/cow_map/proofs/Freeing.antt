@@ -30,7 +30,7 @@ use Rattle.cow_map.specs.Laws.{IsFree}
 
 module _ (half : Half) (stored : Lookup) (kind : Kind) (nodes : List Body) (key : Hash) where
   -- the only link isn't a leaf's
-  abbrev Fine : Bool → List ℕ → List Entry → Type 0
+  abbrev pub Fine : Bool → List ℕ → List Entry → Type 0
   Fine false path items = Unit {0}
   Fine true path items = (length path ≤ 1) ⊎ (length items ≢ 1)
 
@@ -45,7 +45,7 @@ module _ (half : Half) (stored : Lookup) (kind : Kind) (nodes : List Body) (key 
   lone_stays true path k v items alone (inr other) = absurd (other (ap length alone))
 
   -- the branch towards the key
-  kid_fine : (left : ℕ) (path : List ℕ) (links : List Link) (items : List Entry)
+  pub kid_fine : (left : ℕ) (path : List ℕ) (links : List Link) (items : List Entry)
       (forks : Forks (Below half stored kind nodes (suc left) path) path links items) (b : ℕ) → b < 16
       → Fine (is_only links) (path ++ b ∷ []) (forks.kids b)
   kid_fine left path links items forks b low = by (is_only links) refl

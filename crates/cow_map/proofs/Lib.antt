@@ -26,3 +26,4 @@ pub mod Freeing
 pub mod Gathered
 pub mod Shifting
 pub mod Needing
+pub mod Wholes

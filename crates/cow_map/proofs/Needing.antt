@@ -201,12 +201,12 @@ module _ (half : Half) (stored : Lookup) (kind : Kind) (nodes : List Body) where
         ]
 
   -- what a link that stands for something leaves to the source is held there
-  abbrev IsHeldLeft : ℕ → Type 0
+  abbrev pub IsHeldLeft : ℕ → Type 0
   IsHeldLeft left =
       (path : List ℕ) (link : Link) (items : List Entry) → StandsAt half stored kind nodes left path link items
       → (h : Hash) → Contains (unloaded_at nodes left link) h → Stored stored h
 
-  forked : (left : ℕ) (path : List ℕ) (i : ℕ) (items : List Entry) (links : List Link) (t : Bool) → (length path == 64) ≡ t
+  pub forked : (left : ℕ) (path : List ℕ) (i : ℕ) (items : List Entry) (links : List Link) (t : Bool) → (length path == 64) ≡ t
       → slice_get nodes i ≡ Some (inner links) → StandsAt half stored kind nodes left path (Own i) items
       → found_at half stored kind nodes path (Own i) ≡ fork links
   forked left path i items links true deep at stands =
@@ -228,7 +228,7 @@ module _ (half : Half) (stored : Lookup) (kind : Kind) (nodes : List Body) where
       law (path ++ in_links.0 ∷ []) (slice_index_or links in_links.0 Empty) (forks.kids in_links.0)
       (forks.each in_links.0 (omega (arith, in_links.1, forks.width))) h in_links.2
 
-  left_held : (left : ℕ) → IsHeldLeft left
+  pub left_held : (left : ℕ) → IsHeldLeft left
   unfolding unloaded_at
   left_held zero path Empty items stands h c = absurd (not_in_none h c)
   left_held (suc left) path Empty items stands h c = absurd (not_in_none h c)

@@ -103,11 +103,11 @@ all_at P (suc n) a c all low high = by (a == c) refl (λ later. all_at P n (a + 
     by false is rest = let other = eqb-false a c is in rest (omega (arith, other))
 
 -- how many of some hashes aren't zero
-counts : List Hash → ℕ
+unfoldable pub counts : List Hash → ℕ
 counts [] = 0
 counts (h ∷ hs) = cond (is_nonzero h) (1 + counts hs) (counts hs)
 
-counts_by : (hs : List Hash) → counts hs ≡ count_by is_nonzero hs
+pub counts_by : (hs : List Hash) → counts hs ≡ count_by is_nonzero hs
 unfolding counts
 counts_by = is_count_by counts is_nonzero refl (λ h hs. refl)
 
@@ -208,7 +208,7 @@ module _ (half : Half) (size : (x : Bytes) → length (half x) ≡ 32) (stored :
       → found_in (walk half stored kind left parent path h) ≡ []
       → StandsAt half stored kind nodes left path (link_to h) (leaves_in (walk half stored kind left parent path h))
 
-  link_some : (h : Hash) → is_zero h ≡ false → link_to h ≡ Unloaded h
+  pub link_some : (h : Hash) → is_zero h ≡ false → link_to h ≡ Unloaded h
   link_some h z = ap (λ t. if t then Empty else Unloaded h) z
 
   not_empty : (h : Hash) → Unloaded h ≢ Empty
@@ -230,7 +230,7 @@ module _ (half : Half) (size : (x : Bytes) → length (half x) ≡ 32) (stored :
   abbrev Walked : ℕ → List Hash → List ℕ → ℕ → List Met
   Walked left hashes path b = walk half stored kind left (Some hashes) (path ++ b ∷ []) (slice_index_or hashes b zero_hash)
 
-  branch_link : (hashes : List Hash) (b : ℕ) → length hashes ≡ 16 → b < 16
+  pub branch_link : (hashes : List Hash) (b : ℕ) → length hashes ≡ 16 → b < 16
       → slice_index_or (map link_to hashes) b Empty ≡ link_to (slice_index_or hashes b zero_hash)
   branch_link hashes b width low = get_or-map link_to hashes b zero_hash Empty (omega arith)
 

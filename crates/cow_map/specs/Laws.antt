@@ -6,11 +6,12 @@ use Rattle.ledger_spec.specs.Bytes.{Bytes, Hash, Half, Lookup, Items}
 use Rattle.ledger_spec.specs.Commits.{AreOwn}
 use Rattle.ledger_spec.specs.Forms.{IsItem}
 use Rattle.ledger_spec.specs.Maps.{IsMap, hash_cmp}
-use Rattle.ledger_spec.specs.Tree.{root_of, AreItems, IsByteEntry}
+use Rattle.ledger_spec.specs.Tree.{root_of, forms_of, AreItems, IsByteEntry}
 use Rattle.cow_map.specs.Bodies.{CowTree}
 use Rattle.cow_map.specs.Trees.{StandsFor}
 use Rattle.cow_map.specs.Ways.{stop_of, removal_stop_of}
-use Rattle.cow_map.specs.Seals.{hash_at}
+use Rattle.cow_map.specs.Seals.{hash_at, Picks}
+use Rattle.cow_map.specs.Sealing.{made_of_map}
 
 -- a hash has 32 bytes
 abbrev pub IsSized : Half → Type 0
@@ -21,6 +22,12 @@ abbrev pub TopIsRoot : Type 0
 TopIsRoot =
     (half : Half) → IsSized half → (stored : Lookup) → AreOwn half stored → (m : CowTree) (items : Items) → StandsFor half stored m items
     → hash_at half m.kind m.nodes 64 m.top ≡ root_of half m.kind items
+
+-- the forms that a map has made are those of the tree of the map that it stands for, in their order, but for some that the source holds
+abbrev pub MadeAreOfTree : Type 0
+MadeAreOfTree =
+    (half : Half) → IsSized half → (stored : Lookup) → AreOwn half stored → (m : CowTree) (items : Items) → StandsFor half stored m items
+    → Picks half stored (made_of_map half m) (forms_of half m.kind items)
 
 -- items of which none has another's key: keys rise
 pub record AreRising (items : Items) : Type 0 where

@@ -19,8 +19,9 @@ mod tests;
 
 pub use fault::MapFault;
 pub use laws::{
-    a_map_stands_for_items, a_map_stays_over_what_it_reaches, nothing_is_in_the_way,
-    the_top_is_the_root,
+    a_map_stands_for_items, a_map_stays_over_what_it_reaches,
+    a_map_without_a_source_stands_anywhere, nothing_is_in_the_way, the_forms_made_are_the_trees,
+    the_top_is_the_root, what_is_left_is_whole,
 };
 pub use link::{Link, Links};
 pub use map::CowMap;

@@ -1,0 +1,36 @@
+-- each exit names the first zero of the forms up to there; the end has the header over both roots
+use Rattle.std.proofs.Common.{◌∙◌, ap, Err}
+use Rattle.std.proofs.lemmas.Result.{err_from_is_err_and}
+use Rattle.cow_map.specs.declared.seal.Sealed.{Sealed}
+use Rattle.edit_session.proofs.Ending.{state_ends, txs_end, header_ends, closed, if_two}
+use Rattle.edit_session.proofs.session.Session.close.Goals as goal
+
+pub returns-in_err-state-clause-zero : goal.returns-in_err-state-clause-zero
+returns-in_err-state-clause-zero g c stored accounts txs own edits =
+    let p = err_from_is_err_and c.from_residual.result c.from_residual.ensures.1 in
+    state_ends g.H.NodeHash.half c.known_half.ensures.size c.the_forms_made_are_the_trees.ensures stored own _ _ c.self.view_is
+    c.self.invariant.state c.self.invariant.txs c.args.fields.now accounts txs edits Sealed _ _ (p.1 ∙ ap Err p.2)
+    (c.in_err-state.ensures.zero stored)
+
+pub returns-in_err-txs-clause-zero : goal.returns-in_err-txs-clause-zero
+returns-in_err-txs-clause-zero g c stored accounts txs own edits =
+    let p = err_from_is_err_and c.from_residual-in_err-txs.result c.from_residual-in_err-txs.ensures.1 in
+    txs_end g.H.NodeHash.half c.known_half.ensures.size c.the_forms_made_are_the_trees.ensures stored own _ _ c.self.view_is
+    c.self.invariant.state c.self.invariant.txs c.args.fields.now accounts txs edits Sealed _ _ (p.1 ∙ ap Err p.2)
+    (c.in_ok-state.ensures.zero stored) (c.in_err-txs.ensures.zero stored)
+
+pub returns-clause-zero : goal.returns-clause-zero
+returns-clause-zero g c stored accounts txs own edits =
+    header_ends g.H.NodeHash.half c.known_half.ensures.size c.the_forms_made_are_the_trees.ensures stored own _ _ c.self.view_is
+    c.self.invariant.state c.self.invariant.txs c.args.fields.now accounts txs edits c.header-header.result _ _
+    c.header-header.ensures (c.in_ok-state.ensures.root stored) (c.in_ok-txs.ensures.root stored) c.closed_with.result
+    (c.in_ok-state.ensures.zero stored) (c.in_ok-txs.ensures.zero stored) c.closed_with.ensures.zero
+
+pub returns-clause-closes : goal.returns-clause-closes
+returns-clause-closes g c =
+    if_two c.closed_with.result _ _ _ c.closed_with.ensures.header c.closed_with.ensures.forms
+    (λ k header forms stored accounts txs own edits.
+    closed g.H.NodeHash.half c.known_half.ensures.size c.the_forms_made_are_the_trees.ensures stored own _ _ c.self.view_is
+    c.self.invariant.state c.self.invariant.txs c.args.fields.now accounts txs edits c.header-header.result _ _
+    c.header-header.ensures (c.in_ok-state.ensures.root stored) (c.in_ok-txs.ensures.root stored) k _ _ c.requires
+    (c.in_ok-state.ensures.zero stored) header (c.in_ok-state.ensures.forms stored) (c.in_ok-txs.ensures.forms stored) forms)
