@@ -71,7 +71,8 @@ not_later x y xs h =
     ] refl
 
 -- two fronts of one rising list, of which the first has all of the second but not what stands behind that
-same_front : (n : ℕ) (xs rest ys more : List ℕ) → Climbs n (ys ++ more) → xs ++ rest ≡ ys ++ more → ((y : ℕ) → has y ys ≡ true → has y xs ≡ true) → ((y : ℕ) (later : List ℕ) → more ≡ y ∷ later → has y xs ≡ false) → xs ≡ ys
+same_front : (n : ℕ) (xs rest ys more : List ℕ) → Climbs n (ys ++ more) → xs ++ rest ≡ ys ++ more
+    → ((y : ℕ) → has y ys ≡ true → has y xs ≡ true) → ((y : ℕ) (later : List ℕ) → more ≡ y ∷ later → has y xs ≡ false) → xs ≡ ys
 same_front n [] rest [] more up same all none = refl
 same_front n (x ∷ xs) rest [] more up same all none = absurd (false≢true (sym (none x (xs ++ rest) (sym same)) ∙ has_self x xs))
 same_front n [] rest (y ∷ ys) more up same all none = absurd (false≢true (all y (has_self y ys)))
@@ -85,7 +86,8 @@ same_front n (x ∷ xs) rest (y ∷ ys) more up same all none =
 
 module _ (lines : List Line) (journal : List Entry) (servable : AreServable lines) (projects : Projects lines journal) (known : All (λ e. e.actor < 64) journal) where
   -- the entry of a line is one of its actor
-  by_its_actor : (j : ℕ) (l : Line) → j < length lines → get_or lines j l ≡ l → is_answered journal l.number ≡ true → has l.number (answered_by l.actor journal) ≡ true
+  by_its_actor : (j : ℕ) (l : Line) → j < length lines → get_or lines j l ≡ l → is_answered journal l.number ≡ true
+      → has l.number (answered_by l.actor journal) ≡ true
   by_its_actor j l lt is any =
       let by = any_answered l.number journal known any in
       let front = projects.fronts by.0 by.1 in
@@ -99,7 +101,8 @@ module _ (lines : List Line) (journal : List Entry) (servable : AreServable line
       rw (← actor) by.2
 
   -- where the first lines are answered, each actor has answered its lines among them
-  front_answered : (c : ℕ) → AreAnswered lines journal c → (a y : ℕ) → has y (numbers_of a (take c lines)) ≡ true → has y (answered_by a journal) ≡ true
+  front_answered : (c : ℕ) → AreAnswered lines journal c → (a y : ℕ) → has y (numbers_of a (take c lines)) ≡ true
+      → has y (answered_by a journal) ≡ true
   front_answered c all a y h =
       let w = number_at a y c lines h in
       let P : Line → Type 0 = λ l. is_answered journal l.number ≡ true in
@@ -159,7 +162,8 @@ module _ (lines : List Line) (journal : List Entry) (servable : AreServable line
         ap (is_answered journal) (sym (ap (λ (x : Line). x.number) (get_or-take at lines j line earlier) ∙ number)) ∙ all j line (omega (arith, earlier, within, length-take at lines)) in
         false≢true (sym by.1 ∙ any)
       where
-        number_of : (j : ℕ) → j < length lines → get_or (map (λ (x : Line). x.number) lines) j line.after ≡ line.after → (get_or lines j line).number ≡ line.after
+        number_of : (j : ℕ) → j < length lines → get_or (map (λ (x : Line). x.number) lines) j line.after ≡ line.after
+            → (get_or lines j line).number ≡ line.after
         number_of j within e = sym (get_or-map (λ (x : Line). x.number) lines j line line.after within) ∙ e
 
         before : (j : ℕ) → j < length lines → (get_or lines j line).number < line.number → j < at
@@ -184,7 +188,8 @@ module _ (lines : List Line) (journal : List Entry) (servable : AreServable line
         last false = refl
 
         kept : (n : ℕ) → is_answered journal n ≡ true → is_answered more n ≡ true
-        kept n any = ap (λ (w : List Entry). is_answered w n) grown ∙ (list_any-append (λ (x : Entry). x.line == n) journal (e ∷ []) ∙ rw any refl)
+        kept n any =
+            ap (λ (w : List Entry). is_answered w n) grown ∙ (list_any-append (λ (x : Entry). x.line == n) journal (e ∷ []) ∙ rw any refl)
 
         new : is_answered more line.number ≡ true
         new =

@@ -7,6 +7,7 @@ ghost use Rattle.actor_pool.specs.Order.{IsOf, IsSameRun, AreAnswered};
 use crate::gate::{Gate, Point};
 use crate::shared::{Pinned, Shared, answered_locked, is_left_locked, step_locked, unlocked};
 use half_hash::NodeHash;
+use node_backend::Shelf;
 use std::alloc::Global;
 use std::marker::Brand;
 use std::sync::{Mutex, Wait};
@@ -22,18 +23,18 @@ const TRIES: u32 = 64;
 
 /// Answers every line of the core's script: each actor's by a worker of its own, over the core
 /// under one lock, and what the workers leave undone here, in line order.
-pub fn run_actors<R: Threads + Wait + Sync, H: NodeHash, G: Gate>(
+pub fn run_actors<R: Threads + Wait + Sync, H: NodeHash, Sh: Shelf, G: Gate>(
     rt: &R,
     alloc: Global,
-    core: Core<H>,
+    core: Core<H, Sh>,
     gate: &G,
-) -> Core<H>
+) -> Core<H, Sh>
     ensures same { IsSameRun core result }
     // A run from the opening, each check exact, to a sound state, and what was received stays along it.
-    ensures kept { IsJournal H.half result }
+    ensures kept { IsJournal H.half Sh.B.tells result }
     ensures full { IsFull result.lines result.journal }
 {
-    let mut core = run_workers::<R, H, G, Brand>(rt, alloc, core, gate);
+    let mut core = run_workers::<R, H, Sh, G, Brand>(rt, alloc, core, gate);
     run_rest(alloc, &mut core, gate);
     // For its contract.
     let _ = core.journal();
@@ -42,18 +43,18 @@ pub fn run_actors<R: Threads + Wait + Sync, H: NodeHash, G: Gate>(
 
 /// What the workers do of the lines, in rounds: while lines are left, and the last round answered
 /// one.
-fn run_workers<R: Threads + Wait + Sync, H: NodeHash, G: Gate, J: Pinned + Send + Sync>(
+fn run_workers<R: Threads + Wait + Sync, H: NodeHash, Sh: Shelf, G: Gate, J: Pinned + Send + Sync>(
     rt: &R,
     alloc: Global,
-    core: Core<H>,
+    core: Core<H, Sh>,
     gate: &G,
-) -> Core<H>
-    requires { IsOf J.lines J.interval J.opened core }
-    ensures { IsOf J.lines J.interval J.opened result }
+) -> Core<H, Sh>
+    requires { IsOf J.run core }
+    ensures { IsOf J.run result }
 {
     let lines = core.script().lines.len();
     let mut answered = core.journal().len();
-    let shared: Mutex<Shared<H, J>> = Mutex::new(Shared::new(core));
+    let shared: Mutex<Shared<H, Sh, J>> = Mutex::new(Shared::new(core));
     while answered < lines {
         run_round(rt, alloc, &shared, gate, lines);
         let now = answered_locked(rt, &shared);
@@ -67,10 +68,10 @@ fn run_workers<R: Threads + Wait + Sync, H: NodeHash, G: Gate, J: Pinned + Send 
 
 /// Runs one worker for each actor that has a line left, and waits for them. One that can't be
 /// started leaves its lines undone.
-fn run_round<R: Threads + Wait + Sync, H: NodeHash, G: Gate, J: Pinned + Send + Sync>(
+fn run_round<R: Threads + Wait + Sync, H: NodeHash, Sh: Shelf, G: Gate, J: Pinned + Send + Sync>(
     rt: &R,
     alloc: Global,
-    shared: &Mutex<Shared<H, J>>,
+    shared: &Mutex<Shared<H, Sh, J>>,
     gate: &G,
     lines: usize,
 ) {
@@ -85,10 +86,10 @@ fn run_round<R: Threads + Wait + Sync, H: NodeHash, G: Gate, J: Pinned + Send + 
 
 /// Runs an actor's lines, of which there are at most so many, until it has none, or its next one
 /// waits each time that it is tried.
-fn work<R: Wait, H: NodeHash, G: Gate, J: Pinned>(
+fn work<R: Wait, H: NodeHash, Sh: Shelf, G: Gate, J: Pinned>(
     rt: &R,
     alloc: Global,
-    shared: &Mutex<Shared<H, J>>,
+    shared: &Mutex<Shared<H, Sh, J>>,
     gate: &G,
     actor: u8,
     lines: usize,
@@ -101,10 +102,10 @@ fn work<R: Wait, H: NodeHash, G: Gate, J: Pinned>(
 }
 
 /// Tries the actor's next line until it is answered. False where there is none, or it still waits.
-fn answer<R: Wait, H: NodeHash, G: Gate, J: Pinned>(
+fn answer<R: Wait, H: NodeHash, Sh: Shelf, G: Gate, J: Pinned>(
     rt: &R,
     alloc: Global,
-    shared: &Mutex<Shared<H, J>>,
+    shared: &Mutex<Shared<H, Sh, J>>,
     gate: &G,
     actor: u8,
 ) -> bool {
@@ -123,7 +124,7 @@ fn answer<R: Wait, H: NodeHash, G: Gate, J: Pinned>(
 }
 
 /// Answers every line that has no entry yet, in line order.
-fn run_rest<H: NodeHash, G: Gate>(alloc: Global, core: &mut Core<H>, gate: &G)
+fn run_rest<H: NodeHash, Sh: Shelf, G: Gate>(alloc: Global, core: &mut Core<H, Sh>, gate: &G)
     ensures same { IsSameRun core.old core.new }
     ensures projects { Projects core.new.lines core.new.journal }
     ensures full { IsFull core.new.lines core.new.journal }
@@ -138,7 +139,12 @@ fn run_rest<H: NodeHash, G: Gate>(alloc: Global, core: &mut Core<H>, gate: &G)
 
 /// Answers the line at a place where it has no entry yet. Those before it have theirs, so it is its
 /// actor's next one, and isn't blocked.
-fn run_line<H: NodeHash, G: Gate>(alloc: Global, core: &mut Core<H>, gate: &G, at: usize)
+fn run_line<H: NodeHash, Sh: Shelf, G: Gate>(
+    alloc: Global,
+    core: &mut Core<H, Sh>,
+    gate: &G,
+    at: usize,
+)
     requires within { at < length core.old.lines }
     requires before { AreAnswered core.old.lines core.old.journal at }
     ensures same { IsSameRun core.old core.new }

@@ -1,45 +1,36 @@
 //! A core under one lock, tied to what it was opened with.
-ghost use Rattle.std.specs.Prelude.{◌≡◌, List, ℕ};
-ghost use Rattle.ledger_machine.specs.declared.commands.Line.{Line};
+ghost use Rattle.std.specs.Prelude.{◌≡◌};
 ghost use Rattle.actor_pool.specs.Order.{IsOf};
 
 use half_hash::NodeHash;
+use node_backend::Shelf;
 use std::alloc::Global;
 use std::marker::{Brand, Model, PhantomData};
 use std::sync::{Mutex, Wait};
 use store_core::{Core, Stepped};
 
-/// Which run it is: the script, the interval and the count of faults at opening. Each call picks
-/// them.
+/// Which run it is: the script, the interval, the count of faults at opening and what was missed. Each
+/// call picks it.
 pub(crate) trait Pinned {
-    ghost use Rattle.std.specs.Prelude.{List, ℕ};
-    ghost use Rattle.ledger_machine.specs.declared.commands.Line.{Line};
+    ghost use Rattle.actor_pool.specs.Order.{RunOf};
 
-    ghost lines: { List Line };
-
-    ghost interval: { ℕ };
-
-    ghost opened: { ℕ };
+    ghost run: { RunOf };
 }
 
 impl Pinned for Brand {
     ghost use Rattle.std.specs.Prelude.{[]};
 
-    ghost lines = { [] };
-
-    ghost interval = { 0 };
-
-    ghost opened = { 0 };
+    ghost run = { record { records = []; lines = []; interval = 0; opened = 0; missed = 0 } };
 }
 
 /// A core of the pinned run.
 #[derive(Drop)]
-pub(crate) struct Shared<H: NodeHash, J: Pinned> {
-    core: Core<H>,
+pub(crate) struct Shared<H: NodeHash, Sh: Shelf, J: Pinned> {
+    core: Core<H, Sh>,
     of: PhantomData<J>,
 }
 
-impl<H: NodeHash, J: Pinned> Model for Shared<H, J> {
+impl<H: NodeHash, Sh: Shelf, J: Pinned> Model for Shared<H, Sh, J> {
     ghost use Rattle.std.specs.Coded.{codes};
     ghost use Rattle.ledger_spec.specs.Maps.{map_code, set_code};
     ghost use Rattle.store_core.specs.Journal.{CoreView};
@@ -51,12 +42,12 @@ impl<H: NodeHash, J: Pinned> Model for Shared<H, J> {
 
     ghost view = { λ s. s.core };
 
-    ghost invariant = { λ s. IsOf J.lines J.interval J.opened s.core };
+    ghost invariant = { λ s. IsOf J.run s.core };
 }
 
-impl<H: NodeHash, J: Pinned> Shared<H, J> {
-    pub(crate) fn new(core: Core<H>) -> Self
-        requires { IsOf J.lines J.interval J.opened core }
+impl<H: NodeHash, Sh: Shelf, J: Pinned> Shared<H, Sh, J> {
+    pub(crate) fn new(core: Core<H, Sh>) -> Self
+        requires { IsOf J.run core }
         ensures { result ≡ core }
     {
         Shared {
@@ -79,44 +70,46 @@ impl<H: NodeHash, J: Pinned> Shared<H, J> {
         !self.core.is_finished(actor)
     }
 
-    pub(crate) fn into_core(self) -> Core<H>
+    pub(crate) fn into_core(self) -> Core<H, Sh>
         ensures same { result ≡ self }
-        ensures of { IsOf J.lines J.interval J.opened result }
+        ensures of { IsOf J.run result }
     {
         self.core
     }
 }
 
 /// One section for the actor's next line.
-pub(crate) fn step_locked<H: NodeHash, J: Pinned>(
+pub(crate) fn step_locked<H: NodeHash, Sh: Shelf, J: Pinned>(
     rt: &impl Wait,
     alloc: Global,
-    shared: &Mutex<Shared<H, J>>,
+    shared: &Mutex<Shared<H, Sh, J>>,
     actor: u8,
 ) -> Stepped {
     shared.lock(rt).step(alloc, actor)
 }
 
 /// How many lines have their entries.
-pub(crate) fn answered_locked<H: NodeHash, J: Pinned>(
+pub(crate) fn answered_locked<H: NodeHash, Sh: Shelf, J: Pinned>(
     rt: &impl Wait,
-    shared: &Mutex<Shared<H, J>>,
+    shared: &Mutex<Shared<H, Sh, J>>,
 ) -> usize {
     shared.lock(rt).answered()
 }
 
 /// Whether the actor has a line left.
-pub(crate) fn is_left_locked<H: NodeHash, J: Pinned>(
+pub(crate) fn is_left_locked<H: NodeHash, Sh: Shelf, J: Pinned>(
     rt: &impl Wait,
-    shared: &Mutex<Shared<H, J>>,
+    shared: &Mutex<Shared<H, Sh, J>>,
     actor: u8,
 ) -> bool {
     shared.lock(rt).is_left(actor)
 }
 
 /// The core of a lock that goes out of use.
-pub(crate) fn unlocked<H: NodeHash, J: Pinned>(shared: Mutex<Shared<H, J>>) -> Core<H>
-    ensures { IsOf J.lines J.interval J.opened result }
+pub(crate) fn unlocked<H: NodeHash, Sh: Shelf, J: Pinned>(
+    shared: Mutex<Shared<H, Sh, J>>,
+) -> Core<H, Sh>
+    ensures { IsOf J.run result }
 {
     shared.into_inner().into_core()
 }

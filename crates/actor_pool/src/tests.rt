@@ -4,8 +4,9 @@ ghost use Rattle.ledger_machine.specs.Scripts.{IsInRange};
 ghost use Rattle.script_form.specs.Servable.{IsServed, AreServable};
 
 use super::*;
-use half_hash::{Hash32, TinyHash};
+use half_hash::{Hash32, Memory, TinyHash};
 use ledger_machine::{Command, Line, Reply, Script, WantReply};
+use node_backend::MemShelf;
 use std::alloc::{AllocError, Global};
 use std::sync::atomic::{AtomicU64, Ordering};
 use std::test::Fail;
@@ -104,29 +105,41 @@ fn want(number: u32, actor: u8, after: u32, first: u8, seq: u32) -> Line
 }
 
 /// Two actors with one line each.
-fn two_wants(alloc: Global) -> Result<Script, AllocError>
-    ensures { IfOk result (λ s. AreServable s.lines.items) }
+fn two_wants(alloc: Global) -> Result<Vec<Line>, AllocError>
+    ensures { IfOk result (λ lines. AreServable lines.items) }
 {
     let lines = vec![in alloc; want(1, 0, 0, 0xDD, 10), want(2, 1, 0, 0x9C, 11)]?;
-    Ok(Script { lines })
+    Ok(lines)
 }
 
 /// Two actors that wait for each other in turn.
-fn in_turn(alloc: Global) -> Result<Script, AllocError>
-    ensures { IfOk result (λ s. AreServable s.lines.items) }
+fn in_turn(alloc: Global) -> Result<Vec<Line>, AllocError>
+    ensures { IfOk result (λ lines. AreServable lines.items) }
 {
     let lines = vec![in alloc;
         want(1, 1, 0, 1, 10),
         want(2, 0, 1, 1, 10),
         want(3, 1, 2, 1, 10),
     ]?;
-    Ok(Script { lines })
+    Ok(lines)
+}
+
+/// A core over a shelf that never fails.
+fn opened(alloc: Global, lines: Vec<Line>) -> Result<Core<TinyHash, MemShelf>, Memory>
+    requires { AreServable lines.items }
+{
+    let script = Script {
+        records: Vec::new(alloc),
+        lines,
+    };
+    let shelf = MemShelf::new(alloc, Vec::new(alloc), Vec::new(alloc));
+    Core::open(alloc, TinyHash, script, shelf).map_err(|_| Memory)
 }
 
 #[test]
 fn two_actors_run_on_threads_of_their_own(rt: HostRuntime) -> Result<(), Fail> {
     let alloc = rt.alloc();
-    let core = Core::open(alloc, TinyHash, two_wants(alloc)?)?;
+    let core = opened(alloc, two_wants(alloc)?)?;
     let gate = Meeting::new();
     let core = run_actors(&rt, alloc, core, &gate);
     assert_eq!(rt; gate.gave_up.load(Ordering::SeqCst), 0);
@@ -143,7 +156,7 @@ fn two_actors_run_on_threads_of_their_own(rt: HostRuntime) -> Result<(), Fail> {
 #[test]
 fn lines_wait_for_their_turn(rt: HostRuntime) -> Result<(), Fail> {
     let alloc = rt.alloc();
-    let core = Core::open(alloc, TinyHash, in_turn(alloc)?)?;
+    let core = opened(alloc, in_turn(alloc)?)?;
     let gate = Counts {
         answered: AtomicU64::new(0),
         others: AtomicU64::new(0),

@@ -13,6 +13,7 @@ use Rattle.shamap_node.specs.Nodes.{held}
 use Rattle.ledger_machine.specs.Reading.{leaf_entry}
 use Rattle.ledger_machine.specs.Scripts.{word_of}
 use Rattle.ledger_machine.specs.declared.commands.Command.{Command}
+use Rattle.ledger_machine.specs.declared.commands.Record.{Record}
 use Rattle.ledger_machine.specs.declared.journal.Entry.{Entry}
 use Rattle.ledger_machine.specs.declared.journal.Totals.{Totals}
 use Rattle.ledger_spec.specs.declared.outcomes.HeadOffered.{HeadOffered}
@@ -255,3 +256,7 @@ abbrev pub summary_text : Totals → Bytes
 summary_text t =
     codes "end complete " ++ decimal t.complete ++ codes " closed " ++ decimal t.closed ++ codes " listed " ++ decimal t.listed
     ++ codes " floor " ++ decimal t.floor ++ codes " last " ++ optional_text t.last ++ codes " epoch " ++ decimal t.epoch ++ codes "\n"
+
+-- a record: the word, the hash and the form
+abbrev pub record_text : Record → Bytes
+record_text r = codes "store " ++ hash_text r.hash ++ codes " " ++ bytes_text r.form ++ codes "\n"

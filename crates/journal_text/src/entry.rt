@@ -2,11 +2,12 @@
 ghost use Rattle.std.specs.Prelude.{◌≡◌, ◌++◌, IfOk, OnOk};
 ghost use Rattle.std.specs.String.{string_bytes};
 ghost use Rattle.ledger_machine.specs.Scripts.{word_of};
-ghost use Rattle.journal_text.specs.Text.{entry_text, summary_text, optional_text};
+ghost use Rattle.journal_text.specs.Text.{entry_text, record_text, summary_text, optional_text};
 
 use crate::replies::push_reply;
+use crate::words::{push_bytes, push_hash};
 use half_hash::{Blob, Memory};
-use ledger_machine::{Command, Entry, Totals};
+use ledger_machine::{Command, Entry, Record, Totals};
 use std::alloc::{AllocError, Global};
 use std::fmt::Write;
 
@@ -40,6 +41,19 @@ pub fn summary(alloc: Global, totals: &Totals) -> Result<Blob, Memory>
     write!(text, " floor {floor} last ")?;
     push_optional(&mut text, last)?;
     writeln!(text, " epoch {epoch}")?;
+    Ok(Blob::new(text.into_bytes()))
+}
+
+/// The line of a record: its hash and its form. Only memory may be wanting.
+pub fn stored(alloc: Global, one: &Record) -> Result<Blob, Memory>
+    ensures { IfOk result (λ text. text ≡ record_text one.now) }
+{
+    let mut text = String::new(alloc);
+    text.push_str("store ")?;
+    push_hash(&mut text, &one.hash)?;
+    text.push_str(" ")?;
+    push_bytes(&mut text, one.form.bytes())?;
+    text.push('\n')?;
     Ok(Blob::new(text.into_bytes()))
 }
 

@@ -1,4 +1,4 @@
-//! The printed text of a journal: a line for each entry, and the summary.
+//! The printed text of a journal: a line for each entry, the summary, and a line for each stored record.
 #![tactic(auto)]
 
 mod acquire;
@@ -9,7 +9,7 @@ mod replies;
 mod sessions;
 mod words;
 
-pub use entry::{line, summary};
+pub use entry::{line, stored, summary};
 
 #[cfg(test)]
 mod tests;

@@ -3,8 +3,8 @@ use super::*;
 use half_hash::{Blob, Hash32};
 use ledger_machine::{
     BaseReply, BeginReply, CheckReply, CloseReply, Command, DelReply, EditReply, Entry, GetReply,
-    HeadOffered, NodeReply, Offered, PageReply, PeerReply, Places, Reply, SwapReply, TickReply,
-    Totals, ViewReply, WantReply,
+    HeadOffered, NodeReply, Offered, PageReply, PeerReply, Places, Record, Reply, SwapReply,
+    TickReply, Totals, ViewReply, WantReply,
 };
 use nib_path::NodeId;
 use shamap_node::{Item, Kind, Leaf, Node, Place};
@@ -296,5 +296,17 @@ fn summaries(rt: HostRuntime) -> Result<(), Fail> {
         later.bytes(),
         b"end complete 1 closed 2 listed 3 floor 4 last 10 epoch 5\n".as_slice()
     );
+    Ok(())
+}
+
+#[test]
+fn records(rt: HostRuntime) -> Result<(), Fail> {
+    let alloc = rt.alloc();
+    let hash = Hash32 { bytes: [0xAB; 32] };
+    let form = Blob::from_slice(alloc, b"\x02\x01\xFF")?;
+    let text = stored(alloc, &Record { hash, form })?;
+    assert_eq!(rt; text.bytes().len(), 78);
+    assert_eq!(rt; text.bytes().starts_with(b"store ABABAB"), true);
+    assert_eq!(rt; text.bytes().ends_with(b"ABAB 0201FF\n"), true);
     Ok(())
 }

@@ -59,7 +59,8 @@ judged_there rules (Some n) e = at (rules n) e
     at (Some fault) e = broken_missing e
 
 -- what is stored isn't missing
-stored_there : (half : Half) (rules : Held → Option ShapeFault) (o : Option Bytes) → ((form : Bytes) × (o ≡ Some form)) → sight_of half rules o ≡ missing → ⊥
+stored_there : (half : Half) (rules : Held → Option ShapeFault) (o : Option Bytes) → ((form : Bytes) × (o ≡ Some form))
+    → sight_of half rules o ≡ missing → ⊥
 stored_there half rules None stored e = none_some stored.1
 stored_there half rules (Some form) stored e = judged_there rules (held_of half form) e
 
@@ -81,7 +82,8 @@ sound_held half rules (Some form) n e = at (held_of half form) refl e
     ruled m None is e = (sound_same e, subst (λ x. rules x ≡ None) (sound_same e) is)
     ruled m (Some fault) is e = absurd (broken_sound e)
 
-    at : (o : Option Held) → held_of half form ≡ o → judged rules o ≡ sound n → (f : Bytes) × (Some form ≡ Some f) × (held_of half f ≡ Some n) × (rules n ≡ None)
+    at : (o : Option Held) → held_of half form ≡ o → judged rules o ≡ sound n
+        → (f : Bytes) × (Some form ≡ Some f) × (held_of half f ≡ Some n) × (rules n ≡ None)
     at None is e = absurd (broken_sound e)
     at (Some m) is e = let both : (m ≡ n) × (rules n ≡ None) = ruled m (rules m) refl e in (form, refl, is ∙ ap Some both.0, both.1)
 
@@ -109,7 +111,8 @@ leaf_no_inner half b hashes e = first (keyed_leaf_of State b) (keyed_leaf_of Tx 
     second None never e = bare_no_inner half b hashes e
     second (Some n) never e = never e
 
-    first : (o p : Option Held) → (o ≡ Some (inner hashes) → ⊥) → (p ≡ Some (inner hashes) → ⊥) → option_or o (option_or p (bare_leaf_of half b)) ≡ Some (inner hashes) → ⊥
+    first : (o p : Option Held) → (o ≡ Some (inner hashes) → ⊥) → (p ≡ Some (inner hashes) → ⊥)
+        → option_or o (option_or p (bare_leaf_of half b)) ≡ Some (inner hashes) → ⊥
     first None p never nor_then e = second p nor_then e
     first (Some n) p never nor_then e = never e
 
@@ -121,17 +124,20 @@ held_inner half form hashes e = first (inner_of form) refl (header_of form) e
     second None e = leaf_no_inner half form hashes e
     second (Some bytes) e = cc
 
-    first : (o : Option (List Hash)) → inner_of form ≡ o → (h : Option Bytes) → option_or (option_map inner o) (option_or (option_map header h) (leaf_of half form)) ≡ Some (inner hashes)
+    first : (o : Option (List Hash)) → inner_of form ≡ o → (h : Option Bytes)
+        → option_or (option_map inner o) (option_or (option_map header h) (leaf_of half form)) ≡ Some (inner hashes)
         → inner_of form ≡ Some hashes
     first None is h e = absurd (second h e)
     first (Some own) is h e = let same : own ≡ hashes = cc in is ∙ ap Some same
 
 -- a header that is sound is what is stored
-sound_header : (o : Option Bytes) (bytes : Bytes) → header_sight o ≡ sound (header bytes) → (form : Bytes) × (o ≡ Some form) × (header_of form ≡ Some bytes)
+sound_header : (o : Option Bytes) (bytes : Bytes) → header_sight o ≡ sound (header bytes)
+    → (form : Bytes) × (o ≡ Some form) × (header_of form ≡ Some bytes)
 sound_header None bytes e = absurd (missing_sound e)
 sound_header (Some form) bytes e = at (header_of form) refl e
   where
-    at : (h : Option Bytes) → header_of form ≡ h → header_or_foreign h ≡ sound (header bytes) → (f : Bytes) × (Some form ≡ Some f) × (header_of f ≡ Some bytes)
+    at : (h : Option Bytes) → header_of form ≡ h → header_or_foreign h ≡ sound (header bytes)
+        → (f : Bytes) × (Some form ≡ Some f) × (header_of f ≡ Some bytes)
     at None is e = absurd (broken_sound e)
     at (Some own) is e = let same : own ≡ bytes = cc in (form, refl, is ∙ ap Some same)
 
@@ -145,12 +151,14 @@ all_flat P f [] each = All-nil P
 all_flat P f (x ∷ xs) each = All-append P (f x) (flat_map f xs) (each x) (all_flat P f xs each)
 
 -- a place that isn't missing, with what is below it, where its hash isn't zero
-place_there : (z : Bool) (m : Met) (rest : List Met) → (z ≡ false → NotMissing m) → (z ≡ false → All NotMissing rest) → All NotMissing (if z then [] else m ∷ rest)
+place_there : (z : Bool) (m : Met) (rest : List Met) → (z ≡ false → NotMissing m) → (z ≡ false → All NotMissing rest)
+    → All NotMissing (if z then [] else m ∷ rest)
 place_there true m rest here below = All-nil NotMissing
 place_there false m rest here below = All-cons NotMissing m rest (here refl) (below refl)
 
 -- the places below what is seen, where it is an inner node
-below_there : (half : Half) (rules : Held → Option ShapeFault) (o : Option Bytes) (x : Sight) (each : List Hash → List Met) → sight_of half rules o ≡ x
+below_there : (half : Half) (rules : Held → Option ShapeFault) (o : Option Bytes) (x : Sight) (each : List Hash → List Met)
+    → sight_of half rules o ≡ x
     → ((form : Bytes) (hashes : List Hash) → o ≡ Some form → inner_of form ≡ Some hashes → All NotMissing (each hashes)) → All NotMissing (branches_of x each)
 below_there half rules o missing each is below = All-nil NotMissing
 below_there half rules o (broken fault) each is below = All-nil NotMissing
@@ -166,7 +174,8 @@ module _ (half : Half) (nodes : Lookup) (t : Hash) (all : IsAllStored nodes t) w
   named_stored h name = all.named name.by h name.form name.reached name.stored name.named
 
   -- no place below one whose hash is named is missing
-  walk_there : (kind : Kind) (left : ℕ) (parent : Option (List Hash)) (path : List ℕ) (h : Hash) → (IsTrue (is_nonzero h) → IsNamed nodes t h) → All NotMissing (walk half nodes kind left parent path h)
+  walk_there : (kind : Kind) (left : ℕ) (parent : Option (List Hash)) (path : List ℕ) (h : Hash)
+      → (IsTrue (is_nonzero h) → IsNamed nodes t h) → All NotMissing (walk half nodes kind left parent path h)
   unfolding walk
   walk_there kind zero parent path h name =
       place_there (is_zero h) (met (Node kind path) h parent (sight_of half (λ n. fault_of n parent kind path) (nodes h))) []
@@ -208,32 +217,37 @@ no_lacks : (ms : List Met) → All NotMissing ms → All NotLacks (filter_map fo
 no_lacks [] there = All-nil NotLacks
 no_lacks (m ∷ ms) there = at m.sight (All-head NotMissing m ms there) (no_lacks ms (All-tail NotMissing m ms there))
   where
-    at : (x : Sight) → (x ≡ missing → ⊥) → All NotLacks (filter_map found ms) → All NotLacks (cons_option (finding_at m.place x) (filter_map found ms))
+    at : (x : Sight) → (x ≡ missing → ⊥) → All NotLacks (filter_map found ms)
+        → All NotLacks (cons_option (finding_at m.place x) (filter_map found ms))
     at missing there rest = absurd (there refl)
     at (broken fault) there rest = All-cons NotLacks (breaks m.place fault) (filter_map found ms) tt rest
     at (sound n) there rest = rest
 
 -- nothing is found where nothing is missing or broken
-nothing_found : (fs : List Finding) → All NotLacks fs → ((place : Place) (fault : ShapeFault) → Contains fs (breaks place fault) → ⊥) → fs ≡ []
+nothing_found : (fs : List Finding) → All NotLacks fs → ((place : Place) (fault : ShapeFault) → Contains fs (breaks place fault) → ⊥)
+    → fs ≡ []
 nothing_found [] there unbroken = refl
 nothing_found (lacks place ∷ fs) there unbroken = absurd (All-head NotLacks (lacks place) fs there)
 nothing_found (breaks place fault ∷ fs) there unbroken = absurd (unbroken place fault (in_head (breaks place fault) fs))
 
 -- a ledger of which nothing is absent or broken is whole
 pub stored_whole : (half : Half) (nodes : Lookup) (t : Hash) → IsAllStored nodes t → IsUnbroken half nodes t → Whole half nodes t
-stored_whole half nodes t all unbroken = nothing_found (findings half nodes t) (no_lacks (walk_ledger half nodes t) (ledger_there half nodes t all)) unbroken
+stored_whole half nodes t all unbroken =
+    nothing_found (findings half nodes t) (no_lacks (walk_ledger half nodes t) (ledger_there half nodes t all)) unbroken
 
 -- what passes a test is in the list, and passes it
 from_filter : {A : Type 0} (p : A → Bool) (xs : List A) → All (λ y. Contains xs y × (p y ≡ true)) (filter p xs)
 from_filter p [] = All-nil (λ y. Contains [] y × (p y ≡ true))
 from_filter {A} p (x ∷ xs) = at (p x) refl (All-weaker (λ y. Contains xs y × (p y ≡ true)) (λ y. Contains (x ∷ xs) y × (p y ≡ true)) (λ y h. (in_tail x y xs h.0, h.1)) (filter p xs) (from_filter p xs))
   where
-    at : (b : Bool) → p x ≡ b → All (λ y. Contains (x ∷ xs) y × (p y ≡ true)) (filter p xs) → All (λ y. Contains (x ∷ xs) y × (p y ≡ true)) (cond b (x ∷ filter p xs) (filter p xs))
+    at : (b : Bool) → p x ≡ b → All (λ y. Contains (x ∷ xs) y × (p y ≡ true)) (filter p xs)
+        → All (λ y. Contains (x ∷ xs) y × (p y ≡ true)) (cond b (x ∷ filter p xs) (filter p xs))
     at true is rest = All-cons (λ y. Contains (x ∷ xs) y × (p y ≡ true)) x (filter p xs) (in_head x xs, is) rest
     at false is rest = rest
 
 -- a kid of a form that names these hashes is one of them that isn't zero
-kid_in : (form : Bytes) (hashes : List Hash) (k : Hash) → named_by (inner_of form) (header_of form) ≡ hashes → Contains (kids form) k → Contains hashes k × IsTrue (is_nonzero k)
+kid_in : (form : Bytes) (hashes : List Hash) (k : Hash) → named_by (inner_of form) (header_of form) ≡ hashes → Contains (kids form) k
+    → Contains hashes k × IsTrue (is_nonzero k)
 kid_in form hashes k e c =
     let at : Contains (filter is_nonzero hashes) k = subst (λ hs. Contains (filter is_nonzero hs) k) e c in
     All-contains (λ y. Contains hashes y × (is_nonzero y ≡ true)) (filter is_nonzero hashes) k (from_filter is_nonzero hashes) at
@@ -248,21 +262,24 @@ inner_count form hashes e = at _ e
     at false e = absurd (none_some e)
 
 -- lists whose join holds nothing hold nothing
-flat_clean : {A B F : Type 0} (find : B → Option F) (f : A → List B) (xs : List A) → filter_map find (flat_map f xs) ≡ [] → All (λ x. filter_map find (f x) ≡ []) xs
+flat_clean : {A B F : Type 0} (find : B → Option F) (f : A → List B) (xs : List A) → filter_map find (flat_map f xs) ≡ []
+    → All (λ x. filter_map find (f x) ≡ []) xs
 flat_clean find f [] clean = All-nil (λ x. filter_map find (f x) ≡ [])
 flat_clean find f (x ∷ xs) clean =
     let both : (filter_map find (f x) ≡ []) × (filter_map find (flat_map f xs) ≡ []) = both_nil _ _ (sym (filter_map-append find (f x) (flat_map f xs)) ∙ clean) in
     All-cons (λ y. filter_map find (f y) ≡ []) x xs both.0 (flat_clean find f xs both.1)
 
 -- a place at which nothing is found is sound, and nothing is found below it
-clean_sound : (place : Place) (h : Hash) (parent : Option (List Hash)) (x : Sight) (rest : List Met) → filter_map found (met place h parent x ∷ rest) ≡ []
+clean_sound : (place : Place) (h : Hash) (parent : Option (List Hash)) (x : Sight) (rest : List Met)
+    → filter_map found (met place h parent x ∷ rest) ≡ []
     → (n : Held) × (x ≡ sound n) × (filter_map found rest ≡ [])
 clean_sound place h parent missing rest clean = absurd (no_cons clean)
 clean_sound place h parent (broken fault) rest clean = absurd (no_cons clean)
 clean_sound place h parent (sound n) rest clean = (n, refl, clean)
 
 -- where the hash isn't zero the place is met
-met_there : (h : Hash) (m : Met) (rest : List Met) → IsTrue (is_nonzero h) → filter_map found (if is_zero h then [] else m ∷ rest) ≡ [] → filter_map found (m ∷ rest) ≡ []
+met_there : (h : Hash) (m : Met) (rest : List Met) → IsTrue (is_nonzero h) → filter_map found (if is_zero h then [] else m ∷ rest) ≡ []
+    → filter_map found (m ∷ rest) ≡ []
 met_there h m rest nonzero clean = at (is_zero h) refl clean
   where
     zero_not : is_zero h ≡ true → ⊥
@@ -275,7 +292,8 @@ met_there h m rest nonzero clean = at (is_zero h) refl clean
 -- a hash below which a walk finds nothing, or the target
 data IsMet (half : Half) (nodes : Lookup) (t : Hash) : Hash → Type 0 where
   top : IsMet half nodes t t
-  below : {h : Hash} (kind : Kind) (left : ℕ) (parent : Option (List Hash)) (path : List ℕ) → left + length path ≡ 64 → IsTrue (is_nonzero h)
+  below : {h : Hash} (kind : Kind) (left : ℕ) (parent : Option (List Hash)) (path : List ℕ) → left + length path ≡ 64
+      → IsTrue (is_nonzero h)
       → filter_map found (walk half nodes kind left parent path h) ≡ [] → IsMet half nodes t h
 
 -- what is sound at a place of a walk that finds nothing
@@ -290,7 +308,8 @@ record IsHeldAt (half : Half) (nodes : Lookup) (kind : Kind) (left : ℕ) (paren
 
 module _ (half : Half) (nodes : Lookup) (kind : Kind) where
   -- the place where such a walk begins
-  held_at : (left : ℕ) (parent : Option (List Hash)) (path : List ℕ) (h : Hash) → IsTrue (is_nonzero h) → filter_map found (walk half nodes kind left parent path h) ≡ []
+  held_at : (left : ℕ) (parent : Option (List Hash)) (path : List ℕ) (h : Hash) → IsTrue (is_nonzero h)
+      → filter_map found (walk half nodes kind left parent path h) ≡ []
       → IsHeldAt half nodes kind left parent path h
   unfolding walk
   held_at zero parent path h nonzero clean =
@@ -331,16 +350,19 @@ in_two a b k c =
     All-contains P (a ∷ b ∷ []) k (All-cons P a (b ∷ []) (inl refl) (All-cons P b [] (inr refl) (All-nil P))) c
 
 -- a header's place that is sound holds a header
-header_is : (o : Option Bytes) (n : Held) → header_sight o ≡ sound n → (form : Bytes) × (bytes : Bytes) × (o ≡ Some form) × (header_of form ≡ Some bytes) × (n ≡ header bytes)
+header_is : (o : Option Bytes) (n : Held) → header_sight o ≡ sound n
+    → (form : Bytes) × (bytes : Bytes) × (o ≡ Some form) × (header_of form ≡ Some bytes) × (n ≡ header bytes)
 header_is None n e = absurd (missing_sound e)
 header_is (Some form) n e = at (header_of form) refl e
   where
-    at : (h : Option Bytes) → header_of form ≡ h → header_or_foreign h ≡ sound n → (f : Bytes) × (bytes : Bytes) × (Some form ≡ Some f) × (header_of f ≡ Some bytes) × (n ≡ header bytes)
+    at : (h : Option Bytes) → header_of form ≡ h → header_or_foreign h ≡ sound n
+        → (f : Bytes) × (bytes : Bytes) × (Some form ≡ Some f) × (header_of f ≡ Some bytes) × (n ≡ header bytes)
     at None is e = absurd (broken_sound e)
     at (Some bytes) is e = (form, bytes, refl, is, sym (sound_same e))
 
 -- what stands below an inner node isn't at the bottom
-inner_above : (left : ℕ) (parent : Option (List Hash)) (kind : Kind) (path : List ℕ) (hashes : List Hash) → left + length path ≡ 64 → fault_of (inner hashes) parent kind path ≡ None
+inner_above : (left : ℕ) (parent : Option (List Hash)) (kind : Kind) (path : List ℕ) (hashes : List Hash) → left + length path ≡ 64
+    → fault_of (inner hashes) parent kind path ≡ None
     → (l : ℕ) × (left ≡ suc l)
 inner_above zero parent kind path hashes total ruled = absurd (bottom (length path == 64) (eq-eqb (length path) 64 (omega (arith, total))) ruled)
   where
@@ -406,7 +428,8 @@ module _ (half : Half) (nodes : Lookup) (t : Hash) where
       (in_two state tx k one.0)
 
   -- the kids of what is met are met
-  met_kid : Whole half nodes t → {h : Hash} → IsMet half nodes t h → (form : Bytes) → nodes h ≡ Some form → (k : Hash) → Contains (kids form) k → IsMet half nodes t k
+  met_kid : Whole half nodes t → {h : Hash} → IsMet half nodes t h → (form : Bytes) → nodes h ≡ Some form → (k : Hash)
+      → Contains (kids form) k → IsMet half nodes t k
   met_kid whole top form stored k c = header_kid whole form stored k c
   met_kid whole {h} (below kind left parent path total nonzero clean) form stored k c =
       let x : IsHeldAt half nodes kind left parent path h = held_at half nodes kind left parent path h nonzero clean in

@@ -18,6 +18,8 @@ use Rattle.ledger_spec.specs.Wire.{read_wire}
 use Rattle.ledger_machine.specs.declared.commands.Command.{Command}
 use Rattle.ledger_machine.specs.declared.commands.Command.TheVariants as command
 use Rattle.ledger_machine.specs.declared.commands.Line.{Line}
+use Rattle.ledger_machine.specs.declared.commands.Record.{Record}
+use Rattle.ledger_machine.specs.Records.{AreRecords, forms_of}
 use Rattle.ledger_machine.specs.declared.journal.Entry.{Entry}
 use Rattle.ledger_spec.specs.declared.outcomes.Offered.{Offered}
 use Rattle.ledger_spec.specs.declared.outcomes.Offered.TheVariants as offered
@@ -47,12 +49,13 @@ use Rattle.ledger_machine.specs.Base.{one_reply, node_for, after_offer, node_for
 use Rattle.ledger_spec.specs.Offers.{head_forms}
 use Rattle.ledger_machine.specs.Scripts.{IsAcquiring}
 use Rattle.ledger_machine.specs.Steps.{Step, IsAfter, Answered, IsRow, own_forms}
-use Rattle.ledger_machine.specs.Runs.{Run, used_by}
+use Rattle.ledger_machine.specs.Runs.{Run, used_by, opening_of}
 use Rattle.ledger_machine.specs.Collisions.{form_read, part_form, head_form, offered_by, offered_in, Collides, IsClash}
 use Rattle.ledger_laws.proofs.SoundOffers.{present_form, parts_cases}
 use Rattle.ledger_laws.proofs.SoundKeeps.{shaded_same}
 use Rattle.ledger_laws.proofs.SoundForms.{none_some, new_or_old, in_nothing, in_head, in_tail}
 use Rattle.ledger_laws.proofs.SoundSteps.{outcome_cases, line_at}
+use Rattle.ledger_laws.proofs.Openings.{stored_all, none_in_empty, forms_among}
 
 -- each stored form stands under its own hash and is one of these
 abbrev pub IsFrom : Half → List Bytes → State → Type 0
@@ -74,7 +77,8 @@ module _ (half : Half) (forms : List Bytes) where
           ⊎_elim (λ old. from h now old) (λ new. (new.0 ∙ ap half (sym new.1), subst (Contains forms) (sym new.1) one)) (new_or_old s.nodes (half form) form h now e)
 
   -- several more
-  with_forms_from : (s : State) (more : List Bytes) → ((form : Bytes) → Contains more form → Contains forms form) → IsFrom half forms s → IsFrom half forms (with_forms half s more)
+  with_forms_from : (s : State) (more : List Bytes) → ((form : Bytes) → Contains more form → Contains forms form) → IsFrom half forms s
+      → IsFrom half forms (with_forms half s more)
   with_forms_from s [] each from = from
   with_forms_from s (form ∷ more) each from =
       with_forms_from (with_form half s form) more (λ x c. each x (in_tail form x more c)) (with_form_from s form (each form (in_head form more)) from)
@@ -127,7 +131,8 @@ stored_read (Ok n) (Err clash) form c = absurd (in_nothing c)
 stored_read (Err cause) o form c = absurd (in_nothing c)
 
 -- what a header stores is its form
-head_read : (half : Half) (nodes : Lookup) (t : Hash) (bytes form : Bytes) → Contains (head_forms (head_outcome half nodes t bytes) bytes) form → Contains (head_form bytes) form
+head_read : (half : Half) (nodes : Lookup) (t : Hash) (bytes form : Bytes)
+    → Contains (head_forms (head_outcome half nodes t bytes) bytes) form → Contains (head_form bytes) form
 head_read half nodes t bytes form c =
     at (length bytes == 118)
     (if not (same_bytes (half (header_prefix ++ bytes)) t) then Ok (head.BadHash (half (header_prefix ++ bytes))) else head_given t (header_prefix ++ bytes) (nodes t)) c
@@ -139,13 +144,15 @@ head_read half nodes t bytes form c =
     good (Ok (head.BadHash found)) c = absurd (in_nothing c)
     good (Err clash) c = absurd (in_nothing c)
 
-    at : (a : Bool) (r : Result HeadOffered Clash) → Contains (head_forms (if not a then Ok (head.BadLength (length bytes)) else r) bytes) form
+    at : (a : Bool) (r : Result HeadOffered Clash)
+        → Contains (head_forms (if not a then Ok (head.BadLength (length bytes)) else r) bytes) form
         → Contains (if a then (header_prefix ++ bytes) ∷ [] else []) form
     at true r c = good r c
     at false r c = absurd (in_nothing c)
 
 -- what a part stores was read of it
-part_read : (half : Half) (s : State) (t : Hash) (kind : Kind) (blob : Option Bytes) (form : Bytes) → Contains (node_forms half s t kind [] blob) form → Contains (part_form half blob) form
+part_read : (half : Half) (s : State) (t : Hash) (kind : Kind) (blob : Option Bytes) (form : Bytes)
+    → Contains (node_forms half s t kind [] blob) form → Contains (part_form half blob) form
 part_read half s t kind None form c = c
 part_read half s t kind (Some blob) form c = stored_read (read_wire half blob) (node_outcome half (form_in s) t kind [] blob) form c
 
@@ -161,7 +168,8 @@ module _ (half : Half) (bytes : Bytes) (state tx : Option Bytes) (form : Bytes) 
   of_tx c = Contains-append_right (head_form bytes ++ part_form half state) (part_form half tx) form c
 
 -- a command's own forms are among those that it offers
-own_offered : (half : Half) (s : State) (a : ℕ) (c : Command) (form : Bytes) → IsAcquiring c → Contains (own_forms half s a c) form → Contains (offered_by half c) form
+own_offered : (half : Half) (s : State) (a : ℕ) (c : Command) (form : Bytes) → IsAcquiring c → Contains (own_forms half s a c) form
+    → Contains (offered_by half c) form
 own_offered half s a (command.Base p t bytes state tx) form acquiring c =
     let s1 : State = after_head half s bytes (head_outcome half (form_in s) t bytes) in
     let s2 : State = after_part half s1 t kinds.State state in
@@ -185,22 +193,26 @@ differs false x d c e = refl
 
 module _ (half : Half) (forms : List Bytes) where
   -- what an offered header leaves
-  head_from : (s : State) (bytes : Bytes) (r : Result HeadOffered Clash) → ((form : Bytes) → Contains (head_forms r bytes) form → Contains forms form) → IsFrom half forms s
+  head_from : (s : State) (bytes : Bytes) (r : Result HeadOffered Clash)
+      → ((form : Bytes) → Contains (head_forms r bytes) form → Contains forms form) → IsFrom half forms s
       → IsFrom half forms (after_head half s bytes r)
-  head_from s bytes (Ok head.Good) each from = with_form_from half forms s (header_prefix ++ bytes) (each (header_prefix ++ bytes) (in_head (header_prefix ++ bytes) [])) from
+  head_from s bytes (Ok head.Good) each from =
+      with_form_from half forms s (header_prefix ++ bytes) (each (header_prefix ++ bytes) (in_head (header_prefix ++ bytes) [])) from
   head_from s bytes (Ok head.Duplicate) each from = from
   head_from s bytes (Ok (head.BadLength n)) each from = from
   head_from s bytes (Ok (head.BadHash found)) each from = from
   head_from s bytes (Err c) each from = from
 
   -- what an offered node leaves
-  node_from : (s : State) (t : Hash) (kind : Kind) (path : List ℕ) (blob : Bytes) → ((form : Bytes) → Contains (part_form half (Some blob)) form → Contains forms form)
+  node_from : (s : State) (t : Hash) (kind : Kind) (path : List ℕ) (blob : Bytes)
+      → ((form : Bytes) → Contains (part_form half (Some blob)) form → Contains forms form)
       → IsFrom half forms s → IsFrom half forms (after_node half s t kind path blob)
   node_from s t kind path blob each from =
       with_forms_from half forms s (stored_by (read_wire half blob) (node_outcome half (form_in s) t kind path blob))
       (λ form c. each form (stored_read (read_wire half blob) (node_outcome half (form_in s) t kind path blob) form c)) from
 
-  part_from : (s : State) (t : Hash) (kind : Kind) (blob : Option Bytes) → ((form : Bytes) → Contains (part_form half blob) form → Contains forms form)
+  part_from : (s : State) (t : Hash) (kind : Kind) (blob : Option Bytes)
+      → ((form : Bytes) → Contains (part_form half blob) form → Contains forms form)
       → IsFrom half forms s → IsFrom half forms (after_part half s t kind blob)
   part_from s t kind None each from = from
   part_from s t kind (Some blob) each from = node_from s t kind [] blob each from
@@ -217,12 +229,14 @@ module _ (half : Half) (forms : List Bytes) where
       (head_from s bytes (head_outcome half (form_in s) t bytes) (λ form c. each form (of_head half bytes state tx form (head_read half (form_in s) t bytes form c))) from))
   base_from s p t bytes state tx _ each from = from
 
-  offer_from : (s : State) (p : ℕ) (t : Hash) (kind : Kind) (path : List ℕ) (blob : Bytes) (reply : Reply) → ((form : Bytes) → Contains (part_form half (Some blob)) form → Contains forms form)
+  offer_from : (s : State) (p : ℕ) (t : Hash) (kind : Kind) (path : List ℕ) (blob : Bytes) (reply : Reply)
+      → ((form : Bytes) → Contains (part_form half (Some blob)) form → Contains forms form)
       → IsFrom half forms s → IsFrom half forms (after_offer half s p t kind path blob reply)
   offer_from s p t kind path blob (says.Node (node.One o)) each from = node_from s t kind path blob each from
   offer_from s p t kind path blob _ each from = from
 
-  row_from : (s : State) (a : ℕ) (c : Command) (reply : Reply) (used : List Held) (s' : State) → IsAcquiring c → ((form : Bytes) → Contains (offered_by half c) form → Contains forms form)
+  row_from : (s : State) (a : ℕ) (c : Command) (reply : Reply) (used : List Held) (s' : State) → IsAcquiring c
+      → ((form : Bytes) → Contains (offered_by half c) form → Contains forms form)
       → IsFrom half forms s → Answered half s a c reply used s' → IsFrom half forms s'
   row_from s a (command.Want t seq) reply used s' acquiring each from g =
       after_from half forms (after_want s t seq (want_reply s t seq)) s' g.after (same_from half forms s (after_want s t seq (want_reply s t seq)) (want_nodes s t seq (want_reply s t seq)) from)
@@ -241,7 +255,8 @@ module _ (half : Half) (forms : List Bytes) where
   row_from s a _ reply used s' acquiring each from g = absurd acquiring
 
   -- after each step all that is stored is offered
-  step_from : (s : State) (a : ℕ) (c : Command) (reply : Reply) (used : List Held) (s' : State) → IsAcquiring c → ((form : Bytes) → Contains (offered_by half c) form → Contains forms form)
+  step_from : (s : State) (a : ℕ) (c : Command) (reply : Reply) (used : List Held) (s' : State) → IsAcquiring c
+      → ((form : Bytes) → Contains (offered_by half c) form → Contains forms form)
       → IsFrom half forms s → Step half s a c reply used s' → IsFrom half forms s'
   step_from s a c reply used s' acquiring each from step =
       ⊎_elim
@@ -250,7 +265,8 @@ module _ (half : Half) (forms : List Bytes) where
       (λ g. row_from s a c reply used s' acquiring each from g) (outcome_cases half s a c reply used s' step.outcome)
 
   -- a form that isn't the one under its hash is another with that hash
-  found_other : (s : State) (h : Hash) (old new : Bytes) → IsFrom half forms s → form_in s h ≡ Some old → half new ≡ h → Contains forms new → same_bytes old new ≡ false → Collides half forms
+  found_other : (s : State) (h : Hash) (old new : Bytes) → IsFrom half forms s → form_in s h ≡ Some old → half new ≡ h → Contains forms new
+      → same_bytes old new ≡ false → Collides half forms
   found_other s h old new from stored own offers apart = record {
     one = old;
     other = new;
@@ -261,7 +277,8 @@ module _ (half : Half) (forms : List Bytes) where
   }
 
   -- a clash of a header
-  head_clash : (s : State) (t : Hash) (bytes : Bytes) (c : Clash) → IsFrom half forms s → ((form : Bytes) → Contains (head_form bytes) form → Contains forms form)
+  head_clash : (s : State) (t : Hash) (bytes : Bytes) (c : Clash) → IsFrom half forms s
+      → ((form : Bytes) → Contains (head_form bytes) form → Contains forms form)
       → head_outcome half (form_in s) t bytes ≡ Err c → Collides half forms
   head_clash s t bytes c from each e =
       let form : Bytes = header_prefix ++ bytes in
@@ -270,20 +287,23 @@ module _ (half : Half) (forms : List Bytes) where
       let offers : Contains forms form = each form (subst (λ b. Contains (if b then form ∷ [] else []) form) (sym past.0) (in_head form [])) in
       held (form_in s t) refl (same_text (half form) t (sym past.1)) offers past.2
     where
-      past_tests : (a b : Bool) (n : ℕ) (found : Hash) (r : Result HeadOffered Clash) → (if not a then Ok (head.BadLength n) else if not b then Ok (head.BadHash found) else r) ≡ Err c
+      past_tests : (a b : Bool) (n : ℕ) (found : Hash) (r : Result HeadOffered Clash)
+          → (if not a then Ok (head.BadLength n) else if not b then Ok (head.BadHash found) else r) ≡ Err c
           → (a ≡ true) × (b ≡ true) × (r ≡ Err c)
       past_tests false b n found r e = cc
       past_tests true false n found r e = cc
       past_tests true true n found r e = (refl, refl, e)
 
-      held : (o : Option Bytes) → form_in s t ≡ o → half (header_prefix ++ bytes) ≡ t → Contains forms (header_prefix ++ bytes) → head_given t (header_prefix ++ bytes) o ≡ Err c → Collides half forms
+      held : (o : Option Bytes) → form_in s t ≡ o → half (header_prefix ++ bytes) ≡ t → Contains forms (header_prefix ++ bytes)
+          → head_given t (header_prefix ++ bytes) o ≡ Err c → Collides half forms
       held None is own offers e = cc
       held (Some old) is own offers e =
           found_other s t old (header_prefix ++ bytes) from is own offers
           (differs (same_bytes old (header_prefix ++ bytes)) head.Duplicate (record { hash = t; old = old; new = header_prefix ++ bytes }) c e)
 
   -- a clash of a node with the wanted hash
-  given_clash : (s : State) (n : Held) (h : Hash) (fault : Option ShapeFault) (o : Option Bytes) (c : Clash) → IsFrom half forms s → Contains forms (form_of n) → form_in s h ≡ o → hash_of half n ≡ h
+  given_clash : (s : State) (n : Held) (h : Hash) (fault : Option ShapeFault) (o : Option Bytes) (c : Clash) → IsFrom half forms s
+      → Contains forms (form_of n) → form_in s h ≡ o → hash_of half n ≡ h
       → node_given fault h (form_of n) o ≡ Err c → Collides half forms
   given_clash s n h None None c from offers is own e = cc
   given_clash s n h (Some fault) None c from offers is own e = cc
@@ -291,7 +311,8 @@ module _ (half : Half) (forms : List Bytes) where
   given_clash s n h (Some fault) (Some old) c from offers is own e = found_other s h old (form_of n) from is own offers (differs (same_bytes old (form_of n)) offered.Duplicate (record { hash = h; old = old; new = form_of n }) c e)
 
   -- a clash of a node at a place
-  spot_clash : (s : State) (kind : Kind) (path : List ℕ) (n : Held) (x : Spot) (c : Clash) → IsFrom half forms s → Contains forms (form_of n) → spot_outcome half (form_in s) kind path n x ≡ Err c
+  spot_clash : (s : State) (kind : Kind) (path : List ℕ) (n : Held) (x : Spot) (c : Clash) → IsFrom half forms s
+      → Contains forms (form_of n) → spot_outcome half (form_in s) kind path n x ≡ Err c
       → Collides half forms
   spot_clash s kind path n no_base c from offers e = cc
   spot_clash s kind path n (no_parent p) c from offers e = cc
@@ -307,13 +328,16 @@ module _ (half : Half) (forms : List Bytes) where
       past_hash false r bad e = cc
 
   -- a clash of what is read
-  read_clash : (s : State) (t : Hash) (kind : Kind) (path : List ℕ) (r : Result Held ℕ) (c : Clash) → IsFrom half forms s → ((form : Bytes) → Contains (form_read r) form → Contains forms form)
+  read_clash : (s : State) (t : Hash) (kind : Kind) (path : List ℕ) (r : Result Held ℕ) (c : Clash) → IsFrom half forms s
+      → ((form : Bytes) → Contains (form_read r) form → Contains forms form)
       → wire_outcome half (form_in s) t kind path r ≡ Err c → Collides half forms
   read_clash s t kind path (Err cause) c from each e = cc
-  read_clash s t kind path (Ok n) c from each e = spot_clash s kind path n (spot_of (form_in s) t kind path) c from (each (form_of n) (in_head (form_of n) [])) e
+  read_clash s t kind path (Ok n) c from each e =
+      spot_clash s kind path n (spot_of (form_in s) t kind path) c from (each (form_of n) (in_head (form_of n) [])) e
 
   -- a clash of a part
-  part_clash : (s : State) (t : Hash) (kind : Kind) (blob : Option Bytes) (c : Clash) → IsFrom half forms s → ((form : Bytes) → Contains (part_form half blob) form → Contains forms form)
+  part_clash : (s : State) (t : Hash) (kind : Kind) (blob : Option Bytes) (c : Clash) → IsFrom half forms s
+      → ((form : Bytes) → Contains (part_form half blob) form → Contains forms form)
       → part_outcome half (form_in s) t kind blob ≡ Err c → Collides half forms
   part_clash s t kind None c from each e = cc
   part_clash s t kind (Some blob) c from each e = read_clash s t kind [] (read_wire half blob) c from each (at (node_outcome half (form_in s) t kind [] blob) e)
@@ -323,7 +347,8 @@ module _ (half : Half) (forms : List Bytes) where
       at (Err d) e = let same : d ≡ c = cc in ap Err same
 
 -- a clash in the answer to a base reply is one of its parts'
-parts_clash : (x : Result HeadOffered Clash) (y z : Result (Option Offered) Clash) (h : Hash) (old new : Bytes) → all_parts x y z ≡ says.Clash h old new
+parts_clash : (x : Result HeadOffered Clash) (y z : Result (Option Offered) Clash) (h : Hash) (old new : Bytes)
+    → all_parts x y z ≡ says.Clash h old new
     → ((c : Clash) × (x ≡ Err c)) ⊎ ((c : Clash) × (y ≡ Err c)) ⊎ ((c : Clash) × (z ≡ Err c))
 parts_clash (Err c) y z h old new e = inl (c, refl)
 parts_clash (Ok x) (Err c) z h old new e = inr (inl (c, refl))
@@ -345,13 +370,15 @@ node_present : (half : Half) (s : State) (p : ℕ) (t : Hash) (kind : Kind) (pat
 node_present half s p t kind path blob None h old new e = cc
 node_present half s p t kind path blob (Some a) h old new e = at (is_present p a) (node_outcome half (form_in s) t kind path blob) e
   where
-    at : (z : Bool) (r : Result Offered Clash) → (if z then one_reply r else says.Node node.Unasked) ≡ says.Clash h old new → (c : Clash) × (r ≡ Err c)
+    at : (z : Bool) (r : Result Offered Clash) → (if z then one_reply r else says.Node node.Unasked) ≡ says.Clash h old new
+        → (c : Clash) × (r ≡ Err c)
     at true (Ok o) e = cc
     at true (Err c) e = (c, refl)
     at false r e = cc
 
 -- no part has a zero hash
-no_zero_parts : (x : Result HeadOffered Clash) (y z : Result (Option Offered) Clash) (form : Bytes) → all_parts x y z ≡ says.ZeroHash form → ⊥
+no_zero_parts : (x : Result HeadOffered Clash) (y z : Result (Option Offered) Clash) (form : Bytes) → all_parts x y z ≡ says.ZeroHash form
+    → ⊥
 no_zero_parts (Err c) y z form e = cc
 no_zero_parts (Ok x) (Err c) z form e = cc
 no_zero_parts (Ok x) (Ok y) (Err c) form e = cc
@@ -378,7 +405,8 @@ no_zero_node half s p t kind path blob (Some a) form e = at (is_present p a) (no
 
 module _ (half : Half) (forms : List Bytes) where
   -- a clash in the answer of a row
-  row_clash : (s : State) (a : ℕ) (c : Command) (h : Hash) (old new : Bytes) → IsAcquiring c → ((form : Bytes) → Contains (offered_by half c) form → Contains forms form) → IsFrom half forms s
+  row_clash : (s : State) (a : ℕ) (c : Command) (h : Hash) (old new : Bytes) → IsAcquiring c
+      → ((form : Bytes) → Contains (offered_by half c) form → Contains forms form) → IsFrom half forms s
       → IsRow half s a c (says.Clash h old new) → Collides half forms
   row_clash s a (command.Base p t bytes state tx) h old new acquiring each from e =
       let r : Result HeadOffered Clash = head_outcome half (form_in s) t bytes in
@@ -405,8 +433,10 @@ module _ (half : Half) (forms : List Bytes) where
 
   -- no such row has a zero hash
   row_zero : (s : State) (a : ℕ) (c : Command) (form : Bytes) → IsAcquiring c → IsRow half s a c (says.ZeroHash form) → ⊥
-  row_zero s a (command.Base p t bytes state tx) form acquiring e = no_zero_base half s p t bytes state tx (get_in hash_cmp s.wanted t) form (sym e)
-  row_zero s a (command.Node p t kind path blob) form acquiring e = no_zero_node half s p t kind path blob (get_in hash_cmp s.wanted t) form (sym e)
+  row_zero s a (command.Base p t bytes state tx) form acquiring e =
+      no_zero_base half s p t bytes state tx (get_in hash_cmp s.wanted t) form (sym e)
+  row_zero s a (command.Node p t kind path blob) form acquiring e =
+      no_zero_node half s p t kind path blob (get_in hash_cmp s.wanted t) form (sym e)
   row_zero s a (command.Want t seq) form acquiring e = e
   row_zero s a (command.Peer p t) form acquiring e = e
   row_zero s a (command.Check t) form acquiring e = e
@@ -414,7 +444,8 @@ module _ (half : Half) (forms : List Bytes) where
   row_zero s a _ form acquiring e = absurd acquiring
 
   -- a step that answers a clash shows two forms
-  step_clash : (s : State) (a : ℕ) (c : Command) (reply : Reply) (used : List Held) (s' : State) → IsAcquiring c → ((form : Bytes) → Contains (offered_by half c) form → Contains forms form)
+  step_clash : (s : State) (a : ℕ) (c : Command) (reply : Reply) (used : List Held) (s' : State) → IsAcquiring c
+      → ((form : Bytes) → Contains (offered_by half c) form → Contains forms form)
       → IsFrom half forms s → Step half s a c reply used s' → IsClash reply → Collides half forms
   step_clash s a c (says.Clash h old new) used s' acquiring each from step is = row_clash s a c h old new acquiring each from step.outcome.0
   step_clash s a c (says.ZeroHash form) used s' acquiring each from step is = absurd (row_zero s a c form acquiring step.outcome.0)
@@ -433,30 +464,50 @@ module _ (half : Half) (forms : List Bytes) where
       (run_clash lines run.0 rest s' acquiring each
       (step_from half forms s e.actor line.command e.reply (used_by e) run.0 (acquiring line among) (each line among) from run.1.step) run.2)
 
--- what a line offers is among what the script offers
-line_offers : (half : Half) (lines : List Line) → All (λ l. (form : Bytes) → Contains (offered_by half l.command) form → Contains (offered_in half lines) form) lines
-line_offers half [] = All-nil (λ l. (form : Bytes) → Contains (offered_by half l.command) form → Contains (offered_in half []) form)
+-- what a line offers is among what the lines offer
+line_offers : (half : Half) (lines : List Line)
+    → All (λ l. (form : Bytes) → Contains (offered_by half l.command) form → Contains (offered_in half [] lines) form) lines
+line_offers half [] = All-nil (λ l. (form : Bytes) → Contains (offered_by half l.command) form → Contains (offered_in half [] []) form)
 line_offers half (l ∷ lines) =
-    All-cons (λ x. (form : Bytes) → Contains (offered_by half x.command) form → Contains (offered_in half (l ∷ lines)) form) l lines
-    (λ form c. Contains-append_left (offered_by half l.command) (offered_in half lines) form c)
-    (All-weaker (λ x. (form : Bytes) → Contains (offered_by half x.command) form → Contains (offered_in half lines) form)
-    (λ x. (form : Bytes) → Contains (offered_by half x.command) form → Contains (offered_in half (l ∷ lines)) form)
-    (λ x at form c. Contains-append_right (offered_by half l.command) (offered_in half lines) form (at form c)) lines (line_offers half lines))
+    All-cons (λ x. (form : Bytes) → Contains (offered_by half x.command) form → Contains (offered_in half [] (l ∷ lines)) form) l lines
+    (λ form c. Contains-append_left (offered_by half l.command) (offered_in half [] lines) form c)
+    (All-weaker (λ x. (form : Bytes) → Contains (offered_by half x.command) form → Contains (offered_in half [] lines) form)
+    (λ x. (form : Bytes) → Contains (offered_by half x.command) form → Contains (offered_in half [] (l ∷ lines)) form)
+    (λ x at form c. Contains-append_right (offered_by half l.command) (offered_in half [] lines) form (at form c)) lines
+    (line_offers half lines))
 
--- nothing stored is from anywhere
-none_from : (half : Half) (forms : List Bytes) (interval : ℕ) → IsFrom half forms (opening finite.empty interval)
-none_from half forms interval h form e = absurd (none_some (sym (finite.get-empty hash_cmp h) ∙ e))
+module _ (half : Half) (records : List Record) (lines : List Line) where
+  -- and so among what the script offers
+  among_offered : (l : Line) → Contains lines l → (form : Bytes) → Contains (offered_by half l.command) form
+      → Contains (offered_in half records lines) form
+  among_offered l among form c =
+      Contains-append_right (forms_of records) (offered_in half [] lines) form
+      (All-contains (λ x. (form : Bytes) → Contains (offered_by half x.command) form → Contains (offered_in half [] lines) form) lines l
+      (line_offers half lines) among form c)
 
--- each clash of a run over an empty store shows two different forms that the script offers, with one hash
-pub clashes_collide : (half : Half) (lines : List Line) (interval : ℕ) (entries : List Entry) (s' : State) → ((l : Line) → Contains lines l → IsAcquiring l.command)
-    → Run half lines (opening finite.empty interval) entries s' → All (λ e. IsClash e.reply → Collides half (offered_in half lines)) entries
-clashes_collide half lines interval entries s' acquiring run =
-    run_clash half (offered_in half lines) lines (opening finite.empty interval) entries s' acquiring
-    (λ l among. All-contains (λ x. (form : Bytes) → Contains (offered_by half x.command) form → Contains (offered_in half lines) form) lines l (line_offers half lines) among)
-    (none_from half (offered_in half lines) interval) run
+  -- what is stored at first is what the script's records offer
+  records_from : (interval : ℕ) → AreRecords half records → IsFrom half (offered_in half records lines) (opening_of records interval)
+  records_from interval are =
+      stored_all (λ h form. (h ≡ half form) × Contains (offered_in half records lines) form) finite.empty records
+      (none_in_empty (λ h form. (h ≡ half form) × Contains (offered_in half records lines) form))
+      (λ k d lt. let own = are.own k d lt in
+      let among = forms_among records k d lt in
+      (own.own, Contains-append_left (forms_of records) (offered_in half [] lines) _ among))
+
+  -- each clash of a run from the script's records shows two different forms that the script offers, with one hash
+  pub clashes_collide : (interval : ℕ) (entries : List Entry) (s' : State) → AreRecords half records
+      → ((l : Line) → Contains lines l → IsAcquiring l.command)
+      → Run half lines (opening_of records interval) entries s'
+      → All (λ e. IsClash e.reply → Collides half (offered_in half records lines)) entries
+  clashes_collide interval entries s' are acquiring run =
+      run_clash half (offered_in half records lines) lines (opening_of records interval) entries s' acquiring
+      among_offered (records_from interval are) run
 
 -- the same of one entry
-pub clash_collides : (half : Half) (lines : List Line) (interval : ℕ) (entries : List Entry) (s' : State) (e : Entry) → ((l : Line) → Contains lines l → IsAcquiring l.command)
-    → Run half lines (opening finite.empty interval) entries s' → Contains entries e → IsClash e.reply → Collides half (offered_in half lines)
-clash_collides half lines interval entries s' e acquiring run among =
-    All-contains (λ x. IsClash x.reply → Collides half (offered_in half lines)) entries e (clashes_collide half lines interval entries s' acquiring run) among
+pub clash_collides : (half : Half) (records : List Record) (lines : List Line) (interval : ℕ) (entries : List Entry) (s' : State) (e : Entry)
+    → AreRecords half records → ((l : Line) → Contains lines l → IsAcquiring l.command)
+    → Run half lines (opening_of records interval) entries s' → Contains entries e → IsClash e.reply
+    → Collides half (offered_in half records lines)
+clash_collides half records lines interval entries s' e are acquiring run among =
+    All-contains (λ x. IsClash x.reply → Collides half (offered_in half records lines)) entries e
+    (clashes_collide half records lines interval entries s' are acquiring run) among

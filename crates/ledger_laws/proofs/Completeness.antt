@@ -53,13 +53,15 @@ none_seen : (fs : List Finding) → fs ≡ [] → (a : Acquisition) → search_r
 none_seen fs e a = ap (λ x. search_reply a (up_to 256 x) (first_broken (up_to 256 x))) e
 
 -- a complete ledger's check is complete
-pub complete_checks : (half : Half) (s : State) (t : Hash) (a : Acquisition) → get_in hash_cmp s.wanted t ≡ Some a → IsComplete half s t a.seq → check_reply half s t ≡ check.Complete
+pub complete_checks : (half : Half) (s : State) (t : Hash) (a : Acquisition) → get_in hash_cmp s.wanted t ≡ Some a
+    → IsComplete half s t a.seq → check_reply half s t ≡ check.Complete
 complete_checks half s t a is c =
     let whole : Whole half (form_in s) t = stored_whole half (form_in s) t c.stored c.shape in
     let found : CheckReply = search_reply a (seen half (form_in s) t) (first_broken (seen half (form_in s) t)) in
     ap (check_given half s t (form_in s t)) is ∙ judged found (form_in s t) c.header ∙ none_seen (findings half (form_in s) t) whole a
   where
-    read : (rest : CheckReply) (h : Option Bytes) → IsSomeAnd h (IsAcceptable a.seq s.floor) → option_map_or (λ x. header_verdict a.seq s.floor x rest) h (check.Malformed Header 6) ≡ rest
+    read : (rest : CheckReply) (h : Option Bytes) → IsSomeAnd h (IsAcceptable a.seq s.floor)
+        → option_map_or (λ x. header_verdict a.seq s.floor x rest) h (check.Malformed Header 6) ≡ rest
     read rest None fit = absurd fit
     read rest (Some h) fit = header_accepts a.seq s.floor h rest fit
 
@@ -69,7 +71,8 @@ complete_checks half s t a is c =
     judged rest (Some form) fit = read rest (header_of form) fit
 
 -- and a check that is complete is of a complete ledger
-pub checked_complete : (half : Half) (s : State) (t : Hash) (a : Acquisition) → get_in hash_cmp s.wanted t ≡ Some a → check_reply half s t ≡ check.Complete → IsComplete half s t a.seq
+pub checked_complete : (half : Half) (s : State) (t : Hash) (a : Acquisition) → get_in hash_cmp s.wanted t ≡ Some a
+    → check_reply half s t ≡ check.Complete → IsComplete half s t a.seq
 checked_complete half s t a is e =
     let own : (b : Acquisition) × (get_in hash_cmp s.wanted t ≡ Some b) × IsWholeFor half s t (form_in s t) b = check_complete half s t e in
     let same : own.0 ≡ a = some_same (sym own.1 ∙ is) in
@@ -84,7 +87,8 @@ check_same : {x y : CheckReply} → says.Check x ≡ says.Check y → x ≡ y
 check_same e = cc
 
 -- a check that met no fault and had memory gives the answer of its row
-row_says : (half : Half) (s : State) (actor : ℕ) (t : Hash) (reply : Reply) (used : List Held) (s' : State) → Outcomes half s actor (command.Check t) reply used s' → reply ≢ says.Fault → reply ≢ says.Memory
+row_says : (half : Half) (s : State) (actor : ℕ) (t : Hash) (reply : Reply) (used : List Held) (s' : State)
+    → Outcomes half s actor (command.Check t) reply used s' → reply ≢ says.Fault → reply ≢ says.Memory
     → reply ≡ says.Check (check_reply half s t)
 row_says half s actor t says.Fault used s' o fault memory = absurd (fault refl)
 row_says half s actor t says.Memory used s' o fault memory = absurd (memory refl)
@@ -93,7 +97,8 @@ row_says half s actor t (says.ZeroHash form) used s' o fault memory = absurd o.0
 row_says half s actor t reply used s' o fault memory = o.says
 
 -- a check is complete exactly where the ledger is
-pub complete_exactly : (half : Half) (s s' : State) (actor : ℕ) (t : Hash) (a : Acquisition) (reply : Reply) (used : List Held) → get_in hash_cmp s.wanted t ≡ Some a
+pub complete_exactly : (half : Half) (s s' : State) (actor : ℕ) (t : Hash) (a : Acquisition) (reply : Reply) (used : List Held)
+    → get_in hash_cmp s.wanted t ≡ Some a
     → Step half s actor (command.Check t) reply used s' → reply ≢ says.Fault → reply ≢ says.Memory → (reply ≡ says.Check check.Complete) ↔ IsComplete half s t a.seq
 complete_exactly half s s' actor t a reply used is step fault memory =
     let row : reply ≡ says.Check (check_reply half s t) = row_says half s actor t reply used s' step.outcome fault memory in
@@ -104,11 +109,14 @@ pub retained_stored : (half : Half) (s : State) (t : Hash) → Sound half s → 
 retained_stored half s t sound c = whole_all half (form_in s) t (sound.retained_whole t c).whole
 
 -- a step of a check is exact
-pub step_exact : (half : Half) (s s' : State) (actor : ℕ) (c : Command) (reply : Reply) (used : List Held) → Step half s actor c reply used s' → IsExact half s c reply
+pub step_exact : (half : Half) (s s' : State) (actor : ℕ) (c : Command) (reply : Reply) (used : List Held)
+    → Step half s actor c reply used s' → IsExact half s c reply
 step_exact half s s' actor (command.Check t) reply used step = λ a is fault memory. complete_exactly half s s' actor t a reply used is step fault memory
 step_exact half s s' actor _ reply used step = tt
 
 -- and so is each check of a run
-pub run_exact : (half : Half) (lines : List Line) (s : State) (entries : List Entry) (s' : State) (run : Run half lines s entries s') → AreExact half lines s entries s' run
+pub run_exact : (half : Half) (lines : List Line) (s : State) (entries : List Entry) (s' : State) (run : Run half lines s entries s')
+    → AreExact half lines s entries s' run
 run_exact half lines s [] s' run = tt
-run_exact half lines s (e ∷ rest) s' run = (step_exact half s run.0 e.actor run.1.line.command e.reply (used_by e) run.1.step, run_exact half lines run.0 rest s' run.2)
+run_exact half lines s (e ∷ rest) s' run =
+    (step_exact half s run.0 e.actor run.1.line.command e.reply (used_by e) run.1.step, run_exact half lines run.0 rest s' run.2)

@@ -10,4 +10,5 @@ pub mod Ways
 pub mod Receipts
 pub mod Closure
 pub mod Completeness
+pub mod Openings
 pub mod Collisions

@@ -79,16 +79,19 @@ with_forms_grow half s (form ∷ forms) = grows_on (with_form_grows half s form)
 after_grows : (t s' : State) → IsAfter t s' → Grows (form_in t) (form_in s')
 after_grows t s' e h form x = ap (λ (n : Nodes). finite.get n h) (shaded_same t s' e).nodes ∙ x
 
-head_grows : (half : Half) (s : State) (bytes : Bytes) (r : Result HeadOffered Clash) → Grows (form_in s) (form_in (after_head half s bytes r))
+head_grows : (half : Half) (s : State) (bytes : Bytes) (r : Result HeadOffered Clash)
+    → Grows (form_in s) (form_in (after_head half s bytes r))
 head_grows half s bytes (Ok head.Good) = with_form_grows half s (header_prefix ++ bytes)
 head_grows half s bytes (Ok head.Duplicate) = λ h was x. x
 head_grows half s bytes (Ok (head.BadLength n)) = λ h was x. x
 head_grows half s bytes (Ok (head.BadHash found)) = λ h was x. x
 head_grows half s bytes (Err c) = λ h was x. x
 
-part_grows : (half : Half) (s : State) (t : Hash) (kind : Kind) (blob : Option Bytes) → Grows (form_in s) (form_in (after_part half s t kind blob))
+part_grows : (half : Half) (s : State) (t : Hash) (kind : Kind) (blob : Option Bytes)
+    → Grows (form_in s) (form_in (after_part half s t kind blob))
 part_grows half s t kind None = λ h was x. x
-part_grows half s t kind (Some blob) = with_forms_grow half s (stored_by (read_wire half blob) (node_outcome half (form_in s) t kind [] blob))
+part_grows half s t kind (Some blob) =
+    with_forms_grow half s (stored_by (read_wire half blob) (node_outcome half (form_in s) t kind [] blob))
 
 -- no answer to a command that acquires a ledger takes a form away
 want_grows : (s : State) (t : Hash) (seq : ℕ) (r : WantReply) → Grows (form_in s) (form_in (after_want s t seq r))
@@ -108,7 +111,8 @@ check_grows half s t seq (check.BelowFloor f) = λ h was x. x
 check_grows half s t seq (check.Malformed place rule) = λ h was x. x
 check_grows half s t seq _ = λ h was x. x
 
-base_grows : (half : Half) (s : State) (p : ℕ) (t : Hash) (bytes : Bytes) (state tx : Option Bytes) (reply : Reply) → Grows (form_in s) (form_in (after_base half s p t bytes state tx reply))
+base_grows : (half : Half) (s : State) (p : ℕ) (t : Hash) (bytes : Bytes) (state tx : Option Bytes) (reply : Reply)
+    → Grows (form_in s) (form_in (after_base half s p t bytes state tx reply))
 base_grows half s p t bytes state tx (says.Base (base.Parts h a b)) =
     let r : Result HeadOffered Clash = head_outcome half (form_in s) t bytes in
     let s1 : State = after_head half s bytes r in
@@ -116,8 +120,10 @@ base_grows half s p t bytes state tx (says.Base (base.Parts h a b)) =
     grows_on (head_grows half s bytes r) (grows_on (part_grows half s1 t kinds.State state) (part_grows half s2 t kinds.Tx tx))
 base_grows half s p t bytes state tx _ = λ h was x. x
 
-node_grows : (half : Half) (s : State) (p : ℕ) (t : Hash) (kind : Kind) (path : List ℕ) (blob : Bytes) (reply : Reply) → Grows (form_in s) (form_in (after_offer half s p t kind path blob reply))
-node_grows half s p t kind path blob (says.Node (node.One o)) = with_forms_grow half s (stored_by (read_wire half blob) (node_outcome half (form_in s) t kind path blob))
+node_grows : (half : Half) (s : State) (p : ℕ) (t : Hash) (kind : Kind) (path : List ℕ) (blob : Bytes) (reply : Reply)
+    → Grows (form_in s) (form_in (after_offer half s p t kind path blob reply))
+node_grows half s p t kind path blob (says.Node (node.One o)) =
+    with_forms_grow half s (stored_by (read_wire half blob) (node_outcome half (form_in s) t kind path blob))
 node_grows half s p t kind path blob _ = λ h was x. x
 
 tick_grows : (s : State) (t : Hash) (r : TickReply) → Grows (form_in s) (form_in (after_tick s t r))
@@ -126,24 +132,31 @@ tick_grows s t (tick.GaveUp n) = λ h was x. x
 tick_grows s t tick.NotOpen = λ h was x. x
 
 -- the answer of a row
-answer_grows : (half : Half) (s : State) (a : ℕ) (c : Command) (reply : Reply) (used : List Held) (s' : State) → IsAcquiring c → Answered half s a c reply used s' → Grows (form_in s) (form_in s')
-answer_grows half s a (command.Want t seq) reply used s' acquiring g = grows_on (want_grows s t seq (want_reply s t seq)) (after_grows (after_want s t seq (want_reply s t seq)) s' g.after)
-answer_grows half s a (command.Peer p t) reply used s' acquiring g = grows_on (peer_grows half s p t (peer_reply s p t)) (after_grows (after_peer s p t (peer_reply s p t)) s' g.after)
-answer_grows half s a (command.Base p t bytes state tx) reply used s' acquiring g = grows_on (base_grows half s p t bytes state tx reply) (after_grows (after_base half s p t bytes state tx reply) s' g.after)
-answer_grows half s a (command.Node p t kind path blob) reply used s' acquiring g = grows_on (node_grows half s p t kind path blob reply) (after_grows (after_offer half s p t kind path blob reply) s' g.after)
+answer_grows : (half : Half) (s : State) (a : ℕ) (c : Command) (reply : Reply) (used : List Held) (s' : State) → IsAcquiring c
+    → Answered half s a c reply used s' → Grows (form_in s) (form_in s')
+answer_grows half s a (command.Want t seq) reply used s' acquiring g =
+    grows_on (want_grows s t seq (want_reply s t seq)) (after_grows (after_want s t seq (want_reply s t seq)) s' g.after)
+answer_grows half s a (command.Peer p t) reply used s' acquiring g =
+    grows_on (peer_grows half s p t (peer_reply s p t)) (after_grows (after_peer s p t (peer_reply s p t)) s' g.after)
+answer_grows half s a (command.Base p t bytes state tx) reply used s' acquiring g =
+    grows_on (base_grows half s p t bytes state tx reply) (after_grows (after_base half s p t bytes state tx reply) s' g.after)
+answer_grows half s a (command.Node p t kind path blob) reply used s' acquiring g =
+    grows_on (node_grows half s p t kind path blob reply) (after_grows (after_offer half s p t kind path blob reply) s' g.after)
 answer_grows half s a (command.Check t) reply used s' acquiring g = grows_on (check_grows half s t (stored_seq s t) (check_reply half s t)) (after_grows (after_check s t (stored_seq s t) (check_reply half s t)) s' g.after)
 answer_grows half s a (command.Tick t) reply used s' acquiring g =
     grows_on (tick_grows s t (tick_reply s t)) (after_grows (after_tick s t (tick_reply s t)) s' g.after)
 answer_grows half s a _ reply used s' acquiring g = absurd acquiring
 
 -- what is stored stays at each step of a command that acquires a ledger
-pub step_grows : (half : Half) (s s' : State) (a : ℕ) (c : Command) (reply : Reply) (used : List Held) → IsAcquiring c → Step half s a c reply used s' → Grows (form_in s) (form_in s')
+pub step_grows : (half : Half) (s s' : State) (a : ℕ) (c : Command) (reply : Reply) (used : List Held) → IsAcquiring c
+    → Step half s a c reply used s' → Grows (form_in s) (form_in s')
 step_grows half s s' a c reply used acquiring step =
     ⊎_elim (λ r. grows_on (with_forms_grow half s r.forms) (after_grows (with_forms half s r.forms) s' r.same)) (λ g. answer_grows half s a c reply used s' acquiring g)
     (outcome_cases half s a c reply used s' step.outcome)
 
 -- and along each run of such commands
-pub run_grows : (half : Half) (lines : List Line) (s : State) (entries : List Entry) (s' : State) → ((l : Line) → Contains lines l → IsAcquiring l.command)
+pub run_grows : (half : Half) (lines : List Line) (s : State) (entries : List Entry) (s' : State)
+    → ((l : Line) → Contains lines l → IsAcquiring l.command)
     → Run half lines s entries s' → Grows (form_in s) (form_in s')
 run_grows half lines s [] s' each run = subst (λ (x : State). Grows (form_in s) (form_in x)) (sym run) (λ h was x. x)
 run_grows half lines s (e ∷ rest) s' each run =
@@ -151,18 +164,21 @@ run_grows half lines s (e ∷ rest) s' each run =
     grows_on (step_grows half s run.0 e.actor line.command e.reply (used_by e) (each line (line_at lines run.1.place line run.1.stands)) run.1.step) (run_grows half lines run.0 rest s' each run.2)
 
 -- what is kept stays so
-pub kept_grows : (half : Half) (s s' : State) (targets : List Hash) (n : Held) → Grows (form_in s) (form_in s') → IsKept half s targets n → IsKept half s' targets n
+pub kept_grows : (half : Half) (s s' : State) (targets : List Hash) (n : Held) → Grows (form_in s) (form_in s') → IsKept half s targets n
+    → IsKept half s' targets n
 kept_grows half s s' targets n up k = record { stored = up (hash_of half n) (form_of n) k.stored; reached = reach_grows up k.reached }
 
 -- and is reached from a list that has the target
-pub kept_among : (half : Half) (s : State) (t : Hash) (targets : List Hash) (n : Held) → Contains targets t → IsKept half s (t ∷ []) n → IsKept half s targets n
+pub kept_among : (half : Half) (s : State) (t : Hash) (targets : List Hash) (n : Held) → Contains targets t → IsKept half s (t ∷ []) n
+    → IsKept half s targets n
 kept_among half s t targets n among k = record {
   stored = k.stored;
   reached = reach_joins (λ r c stored. root (subst (Contains targets) (sym (in_one t r c)) among) stored) k.reached;
 }
 
 -- a new form is found under its hash
-new_stored : (half : Half) (s : State) (form : Bytes) → form_in s (half form) ≡ None → form_in (with_form half s form) (half form) ≡ Some form
+new_stored : (half : Half) (s : State) (form : Bytes) → form_in s (half form) ≡ None
+    → form_in (with_form half s form) (half form) ≡ Some form
 new_stored half s form free = at (form_in s (half form)) free
   where
     at : (o : Option Bytes) → o ≡ None
@@ -171,14 +187,16 @@ new_stored half s form free = at (form_in s (half form)) free
     at None e = get_more s.nodes (half form) form (half form) true (ap is_eq (tied_itself nat_list_cmp_total (half form)))
 
 -- a node that is there already is stored
-same_stored : (half : Half) (s : State) (n : Held) (old : Bytes) (o : Offered) (c : Clash) (b : Bool) → same_bytes old (form_of n) ≡ b → form_in s (hash_of half n) ≡ Some old
+same_stored : (half : Half) (s : State) (n : Held) (old : Bytes) (o : Offered) (c : Clash) (b : Bool) → same_bytes old (form_of n) ≡ b
+    → form_in s (hash_of half n) ≡ Some old
     → (if b then Ok offered.Duplicate else Err c) ≡ Ok o
     → form_in (with_forms half s (stored_by (Ok n) (if b then Ok offered.Duplicate else Err c))) (hash_of half n) ≡ Some (form_of n)
 same_stored half s n old o c true is there e = there ∙ ap Some (same_text old (form_of n) (sym is))
 same_stored half s n old o c false is there e = absurd (err_ok e)
 
 -- a node with the wanted hash is stored, now or before
-given_stored : (half : Half) (s : State) (n : Held) (fault : Option ShapeFault) (held : Option Bytes) (o : Offered) → form_in s (hash_of half n) ≡ held
+given_stored : (half : Half) (s : State) (n : Held) (fault : Option ShapeFault) (held : Option Bytes) (o : Offered)
+    → form_in s (hash_of half n) ≡ held
     → node_given fault (hash_of half n) (form_of n) held ≡ Ok o
     → form_in (with_forms half s (stored_by (Ok n) (node_given fault (hash_of half n) (form_of n) held))) (hash_of half n) ≡ Some (form_of n)
 given_stored half s n None None o free e = new_stored half s (form_of n) free
@@ -189,13 +207,15 @@ given_stored half s n (Some fault) (Some old) o there e =
     same_stored half s n old o (record { hash = hash_of half n; old = old; new = form_of n }) (same_bytes old (form_of n)) refl there e
 
 -- an outcome behind a test, other than a bad hash
-past_hash : (b : Bool) (r : Result Offered Clash) (h found : Hash) (o : Offered) → (if b then r else Ok (offered.BadHash h found)) ≡ Ok o → IsReceived o
+past_hash : (b : Bool) (r : Result Offered Clash) (h found : Hash) (o : Offered) → (if b then r else Ok (offered.BadHash h found)) ≡ Ok o
+    → IsReceived o
     → (b ≡ true) × (r ≡ Ok o)
 past_hash true r h found o e received = (refl, e)
 past_hash false r h found o e received = absurd (subst IsReceived (sym (ok_same e)) received)
 
 -- a node that is received at a place is kept
-spot_kept : (half : Half) (s : State) (t : Hash) (kind : Kind) (path : List ℕ) (n : Held) (x : Spot) (o : Offered) → spot_of (form_in s) t kind path ≡ x
+spot_kept : (half : Half) (s : State) (t : Hash) (kind : Kind) (path : List ℕ) (n : Held) (x : Spot) (o : Offered)
+    → spot_of (form_in s) t kind path ≡ x
     → spot_outcome half (form_in s) kind path n x ≡ Ok o → IsReceived o
     → IsKept half (with_forms half s (stored_by (Ok n) (spot_outcome half (form_in s) kind path n x))) (t ∷ []) n
 spot_kept half s t kind path n no_base o is e received = absurd (subst IsReceived (sym (ok_same e)) received)
@@ -226,7 +246,8 @@ read_kept half s t kind path (Ok m) n o is e received =
     subst (λ x. IsKept half (with_forms half s (stored_by (Ok m) (wire_outcome half (form_in s) t kind path (Ok m)))) (t ∷ []) x) (ok_same is)
     (spot_kept half s t kind path m (spot_of (form_in s) t kind path) o refl e received)
 
-node_kept : (half : Half) (s : State) (t : Hash) (kind : Kind) (path : List ℕ) (blob : Bytes) (n : Held) (o : Offered) → node_outcome half (form_in s) t kind path blob ≡ Ok o
+node_kept : (half : Half) (s : State) (t : Hash) (kind : Kind) (path : List ℕ) (blob : Bytes) (n : Held) (o : Offered)
+    → node_outcome half (form_in s) t kind path blob ≡ Ok o
     → IsReceivedPart half (Some blob) (Some o) n → IsKept half (after_node half s t kind path blob) (t ∷ []) n
 node_kept half s t kind path blob n o e received = read_kept half s t kind path (read_wire half blob) n o received.1 e received.0
 
@@ -235,11 +256,13 @@ part_given : (r : Result Offered Clash) (o : Offered) → given_part r ≡ Ok (S
 part_given (Ok x) o e = cc
 part_given (Err c) o e = absurd (err_ok e)
 
-part_kept : (half : Half) (s : State) (t : Hash) (kind : Kind) (blob : Option Bytes) (a : Option Offered) (n : Held) → part_outcome half (form_in s) t kind blob ≡ Ok a
+part_kept : (half : Half) (s : State) (t : Hash) (kind : Kind) (blob : Option Bytes) (a : Option Offered) (n : Held)
+    → part_outcome half (form_in s) t kind blob ≡ Ok a
     → IsReceivedPart half blob a n → IsKept half (after_part half s t kind blob) (t ∷ []) n
 part_kept half s t kind None a n e received = absurd received
 part_kept half s t kind (Some blob) None n e received = absurd received
-part_kept half s t kind (Some blob) (Some o) n e received = node_kept half s t kind [] blob n o (part_given (node_outcome half (form_in s) t kind [] blob) o e) received
+part_kept half s t kind (Some blob) (Some o) n e received =
+    node_kept half s t kind [] blob n o (part_given (node_outcome half (form_in s) t kind [] blob) o e) received
 
 -- an answer to a header behind the tests of its length and its hash
 past_tests : (a b : Bool) (n : ℕ) (found : Hash) (r : Result HeadOffered Clash) (h : HeadOffered)
@@ -249,7 +272,8 @@ past_tests true false n found r h e received = absurd (subst IsHeadReceived (sym
 past_tests true true n found r h e received = (refl, e)
 
 -- a header of the right hash is stored, now or before
-head_stored : (half : Half) (s : State) (bytes : Bytes) (held : Option Bytes) (h : HeadOffered) → form_in s (half (header_prefix ++ bytes)) ≡ held
+head_stored : (half : Half) (s : State) (bytes : Bytes) (held : Option Bytes) (h : HeadOffered)
+    → form_in s (half (header_prefix ++ bytes)) ≡ held
     → head_given (half (header_prefix ++ bytes)) (header_prefix ++ bytes) held ≡ Ok h
     → form_in (after_head half s bytes (head_given (half (header_prefix ++ bytes)) (header_prefix ++ bytes) held)) (half (header_prefix ++ bytes)) ≡ Some (header_prefix ++ bytes)
 head_stored half s bytes None h free e = new_stored half s (header_prefix ++ bytes) free
@@ -264,7 +288,8 @@ head_stored half s bytes (Some old) h there e = at (same_bytes old (header_prefi
     at false is e = absurd (err_ok e)
 
 -- a header that is received is kept
-head_kept : (half : Half) (s : State) (t : Hash) (bytes : Bytes) (h : HeadOffered) → head_outcome half (form_in s) t bytes ≡ Ok h → IsHeadReceived h
+head_kept : (half : Half) (s : State) (t : Hash) (bytes : Bytes) (h : HeadOffered) → head_outcome half (form_in s) t bytes ≡ Ok h
+    → IsHeadReceived h
     → IsKept half (after_head half s bytes (head_outcome half (form_in s) t bytes)) (t ∷ []) (header bytes)
 head_kept half s t bytes h e received =
     let form : Bytes = header_prefix ++ bytes in
@@ -277,12 +302,14 @@ head_kept half s t bytes h e received =
     record { stored = there; reached = root (subst (λ x. Contains (t ∷ []) x) (sym same) (in_head t [])) (form, there) }
 
 -- the parts of an answer
-parts_are : (x : Result HeadOffered Clash) (y z : Result (Option Offered) Clash) (h : HeadOffered) (a b : Option Offered) → all_parts x y z ≡ says.Base (base.Parts h a b)
+parts_are : (x : Result HeadOffered Clash) (y z : Result (Option Offered) Clash) (h : HeadOffered) (a b : Option Offered)
+    → all_parts x y z ≡ says.Base (base.Parts h a b)
     → (x ≡ Ok h) × (y ≡ Ok a) × (z ≡ Ok b)
 parts_are (Err c) y z h a b e = cc
 parts_are (Ok x) (Err c) z h a b e = cc
 parts_are (Ok x) (Ok y) (Err c) h a b e = cc
-parts_are (Ok x) (Ok y) (Ok z) h a b e = let first : x ≡ h = cc in let second : y ≡ a = cc in let third : z ≡ b = cc in (ap Ok first, ap Ok second, ap Ok third)
+parts_are (Ok x) (Ok y) (Ok z) h a b e =
+    let first : x ≡ h = cc in let second : y ≡ a = cc in let third : z ≡ b = cc in (ap Ok first, ap Ok second, ap Ok third)
 
 -- an answer with parts is to a present peer
 base_present : (half : Half) (s : State) (p : ℕ) (t : Hash) (bytes : Bytes) (state tx : Option Bytes) (o : Option Acquisition) (h : HeadOffered) (a b : Option Offered)
@@ -290,7 +317,8 @@ base_present : (half : Half) (s : State) (p : ℕ) (t : Hash) (bytes : Bytes) (s
 base_present half s p t bytes state tx None h a b e = cc
 base_present half s p t bytes state tx (Some x) h a b e = at (is_present p x) (base_outcomes half s t bytes state tx) e
   where
-    at : (z : Bool) (r : Reply) → (if z then r else says.Base base.Unasked) ≡ says.Base (base.Parts h a b) → r ≡ says.Base (base.Parts h a b)
+    at : (z : Bool) (r : Reply) → (if z then r else says.Base base.Unasked) ≡ says.Base (base.Parts h a b)
+        → r ≡ says.Base (base.Parts h a b)
     at true r e = e
     at false r e = cc
 
@@ -327,7 +355,8 @@ base_kept half s t bytes state tx h a b n e received =
     received
 
 -- what an answer says was received is kept after it
-pub received_kept : (half : Half) (s s' : State) (a : ℕ) (c : Command) (reply : Reply) (used : List Held) (t : Hash) (n : Held) → Step half s a c reply used s' → Receives half t c reply n
+pub received_kept : (half : Half) (s s' : State) (a : ℕ) (c : Command) (reply : Reply) (used : List Held) (t : Hash) (n : Held)
+    → Step half s a c reply used s' → Receives half t c reply n
     → IsKept half s' (t ∷ []) n
 received_kept half s s' a (command.Base p target bytes state tx) (says.Base (base.Parts h x y)) used t n step received =
     let g : Gives (base_reply half s p target bytes state tx) (after_parts half s target bytes state tx) (says.Base (base.Parts h x y)) s' = step.outcome in
@@ -343,7 +372,8 @@ received_kept half s s' a _ _ used t n step received = absurd received
 
 -- along a run, of such commands alone, what is kept stays, and so what was received
 module _ (half : Half) (lines : List Line) (each : (l : Line) → Contains lines l → IsAcquiring l.command) where
-  stays : (t : Hash) (n : Held) (s : State) (entries : List Entry) (s' : State) (run : Run half lines s entries s') → IsKept half s (t ∷ []) n → Stays half t n lines s entries s' run
+  stays : (t : Hash) (n : Held) (s : State) (entries : List Entry) (s' : State) (run : Run half lines s entries s')
+      → IsKept half s (t ∷ []) n → Stays half t n lines s entries s' run
   stays t n s [] s' run kept = λ among. kept_among half s t (roots s) n among kept
   stays t n s (e ∷ rest) s' run kept =
       let line : Line = run.1.line in

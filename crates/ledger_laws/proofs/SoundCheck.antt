@@ -46,7 +46,8 @@ ask_goes_on [] asked places e = cc
 ask_goes_on (peer ∷ others) asked places e = need_goes_on peer _ _ e
 
 -- nor is a search that lacks a place
-lacks_goes_on : (a : Acquisition) (place : Place) (rest : List Finding) (b : Option (Place × ShapeFault)) → search_reply a (lacks place ∷ rest) b ≡ check.Complete → ⊥
+lacks_goes_on : (a : Acquisition) (place : Place) (rest : List Finding) (b : Option (Place × ShapeFault))
+    → search_reply a (lacks place ∷ rest) b ≡ check.Complete → ⊥
 lacks_goes_on a place rest (Some b) e = cc
 lacks_goes_on a place rest None e = ask_goes_on a.present a.asked (place ∷ filter_map missing_of rest) e
 
@@ -97,7 +98,8 @@ asked_for false true e = inr refl
 asked_for false false e = cc
 
 -- a header that lets a check be complete is acceptable
-pub header_complete : (asked floor : ℕ) (h : Bytes) (rest : CheckReply) → header_verdict asked floor h rest ≡ check.Complete → IsAcceptable asked floor h × (rest ≡ check.Complete)
+pub header_complete : (asked floor : ℕ) (h : Bytes) (rest : CheckReply) → header_verdict asked floor h rest ≡ check.Complete
+    → IsAcceptable asked floor h × (rest ≡ check.Complete)
 header_complete asked floor h rest e =
     let open_ : ((not (asked == 0) && not (asked == seq_of h)) ≡ false) × (is_zero (state_root_of h) ≡ false) × (nat_lt (seq_of h) floor ≡ false) × (rest ≡ check.Complete) =
     tests_complete (not (asked == 0) && not (asked == seq_of h)) (is_zero (state_root_of h)) (nat_lt (seq_of h) floor) (check.SeqDiffers asked (seq_of h)) check.ZeroState (check.BelowFloor floor) rest differs_ends
@@ -111,7 +113,8 @@ header_complete asked floor h rest e =
     )
 
 -- and so is what is read as a header
-pub form_complete : (asked floor : ℕ) (o : Option Bytes) (rest : CheckReply) → option_map_or (λ h. header_verdict asked floor h rest) o (check.Malformed Header 6) ≡ check.Complete
+pub form_complete : (asked floor : ℕ) (o : Option Bytes) (rest : CheckReply)
+    → option_map_or (λ h. header_verdict asked floor h rest) o (check.Malformed Header 6) ≡ check.Complete
     → IsSomeAnd o (IsAcceptable asked floor) × (rest ≡ check.Complete)
 form_complete asked floor None rest e = absurd (malformed_ends e)
 form_complete asked floor (Some h) rest e = header_complete asked floor h rest e
@@ -122,7 +125,8 @@ pub record IsWholeFor (half : Half) (s : State) (t : Hash) (held : Option Bytes)
   pub header : IsSomeAnd (option_and_then header_of held) (IsAcceptable a.seq s.floor)
 
 -- a complete check, given what is stored under the target, and the acquisition
-pub given_complete : (half : Half) (s : State) (t : Hash) (held : Option Bytes) (a : Acquisition) → form_in s t ≡ held → check_given half s t held (Some a) ≡ check.Complete → IsWholeFor half s t held a
+pub given_complete : (half : Half) (s : State) (t : Hash) (held : Option Bytes) (a : Acquisition) → form_in s t ≡ held
+    → check_given half s t held (Some a) ≡ check.Complete → IsWholeFor half s t held a
 given_complete half s t None a is e =
     let whole : Whole half (form_in s) t = up_to_none 255 (findings half (form_in s) t) (search_complete a _ e) in
     absurd (whole_stored half (form_in s) t whole is)
@@ -141,12 +145,14 @@ check_complete half s t e = at (get_in hash_cmp s.wanted t) refl e
     at (Some a) is e = (a, is, given_complete half s t (form_in s t) a refl e)
 
 -- a look-up that an entry ends, or not
-first_found : {X : Type 0} (b : Bool) (A : Type 0) (x v : X) (rest : Option X) → (b ≡ true → A) → cond b (Some x) rest ≡ Some v → (A × (v ≡ x)) ⊎ (rest ≡ Some v)
+first_found : {X : Type 0} (b : Bool) (A : Type 0) (x v : X) (rest : Option X) → (b ≡ true → A) → cond b (Some x) rest ≡ Some v
+    → (A × (v ≡ x)) ⊎ (rest ≡ Some v)
 first_found true A x v rest here e = inl (here refl, sym (some_same e))
 first_found false A x v rest here e = inr e
 
 -- a look-up past an entry that stays
-later_found : {X : Type 0} (b : Bool) (A : Type 0) (x v : X) (rest more : Option X) → (more ≡ Some v → A ⊎ (rest ≡ Some v)) → cond b (Some x) more ≡ Some v
+later_found : {X : Type 0} (b : Bool) (A : Type 0) (x v : X) (rest more : Option X) → (more ≡ Some v → A ⊎ (rest ≡ Some v))
+    → cond b (Some x) more ≡ Some v
     → A ⊎ (cond b (Some x) rest ≡ Some v)
 later_found true A x v rest more later e = inr e
 later_found false A x v rest more later e = later e
@@ -158,7 +164,8 @@ changed_found true A x y v rest here e = inl (here refl, sym (some_same e))
 changed_found false A x y v rest here e = inr e
 
 -- what is found after an entry was put is that entry, or was found before
-pub get_inserted : {X : Type 0} (m : ForHash X) (k : Hash) (x : X) (q : Hash) (v : X) → get_in hash_cmp (insert_in hash_cmp m k x) q ≡ Some v
+pub get_inserted : {X : Type 0} (m : ForHash X) (k : Hash) (x : X) (q : Hash) (v : X)
+    → get_in hash_cmp (insert_in hash_cmp m k x) q ≡ Some v
     → ((q ≡ k) × (v ≡ x)) ⊎ (get_in hash_cmp m q ≡ Some v)
 get_inserted {X} [] k x q v found = first_found (eq_by_cmp hash_cmp q k) (q ≡ k) x v None (same_hash q k) found
 get_inserted {X} (e ∷ m) k x q v found = at (get_inserted m k x q v) (hash_cmp k e.0) refl found
@@ -171,14 +178,16 @@ get_inserted {X} (e ∷ m) k x q v found = at (get_inserted m k x q v) (hash_cmp
     at later Greater is found = later_found (eq_by_cmp hash_cmp q e.0) ((q ≡ k) × (v ≡ x)) e.1 v (get_in hash_cmp m q) (get_in hash_cmp (insert_entry hash_cmp m k x) q) later found
 
 -- a key after an entry was put is its key, or was one before
-pub key_inserted : {X : Type 0} (m : ForHash X) (k : Hash) (x : X) (q : Hash) → Contains (keys_of (insert_in hash_cmp m k x)) q → (q ≡ k) ⊎ Contains (keys_of m) q
+pub key_inserted : {X : Type 0} (m : ForHash X) (k : Hash) (x : X) (q : Hash) → Contains (keys_of (insert_in hash_cmp m k x)) q
+    → (q ≡ k) ⊎ Contains (keys_of m) q
 key_inserted m k x q c =
     let P : Hash → Type 0 = λ h. (h ≡ k) ⊎ Contains (keys_of m) h in
     let before : All P (keys_of m) = All-weaker (Contains (keys_of m)) P (λ h i. inr i) (keys_of m) (All-contains_itself (keys_of m)) in
     All-contains P (keys_of (insert_in hash_cmp m k x)) q (All-keys-insert_entry hash_cmp k x P m before (inl refl)) c
 
 -- the ledgers retained once one more is listed
-pub retained_more : (s : State) (t : Hash) (seq : ℕ) (u : Hash) → Contains (retained (ended (listed_with s t seq) t)) u → (u ≡ t) ⊎ Contains (retained s) u
+pub retained_more : (s : State) (t : Hash) (seq : ℕ) (u : Hash) → Contains (retained (ended (listed_with s t seq) t)) u
+    → (u ≡ t) ⊎ Contains (retained s) u
 retained_more s t seq u c =
     let keys : List Hash = keys_of s.listed in
     let pinned : List Hash = values_of s.views in
@@ -220,7 +229,8 @@ stored_seq_fits asked floor None some = absurd some
 stored_seq_fits asked floor (Some h) some = (some.state, some.recent, refl)
 
 -- the state after a complete ledger is sound
-pub complete_sound : (half : Half) (s : State) (t : Hash) → Sound half s → check_reply half s t ≡ check.Complete → Sound half (ended (listed_with s t (stored_seq s t)) t)
+pub complete_sound : (half : Half) (s : State) (t : Hash) → Sound half s → check_reply half s t ≡ check.Complete
+    → Sound half (ended (listed_with s t (stored_seq s t)) t)
 complete_sound half s t sound e =
     let is : (a : Acquisition) × (get_in hash_cmp s.wanted t ≡ Some a) × IsWholeFor half s t (form_in s t) a = check_complete half s t e in
     let fits : IsSomeAnd (header_in (form_in s) t) (λ h. IsTrue (is_nonzero (state_root_of h))) × (s.floor ≤ stored_seq s t) × IsSomeAnd (header_in (form_in s) t) (λ h. seq_of h ≡ stored_seq s t) =
@@ -228,9 +238,11 @@ complete_sound half s t sound e =
     listed_sound half s t (stored_seq s t) sound (record { header = fits.0; whole = is.2.whole }) fits.1 fits.2
 
 -- each answer of a check leaves a sound state
-pub check_sound : (half : Half) (s : State) (t : Hash) (r : CheckReply) → check_reply half s t ≡ r → Sound half s → Sound half (after_check s t (stored_seq s t) r)
+pub check_sound : (half : Half) (s : State) (t : Hash) (r : CheckReply) → check_reply half s t ≡ r → Sound half s
+    → Sound half (after_check s t (stored_seq s t) r)
 check_sound half s t check.Complete e sound = complete_sound half s t sound e
-check_sound half s t (check.Need peer places) e sound = keeps_sound half s _ sound (with_wanted_keeps half s t (after_ask (check.Need peer places)) (λ a rises. rises))
+check_sound half s t (check.Need peer places) e sound =
+    keeps_sound half s _ sound (with_wanted_keeps half s t (after_ask (check.Need peer places)) (λ a rises. rises))
 check_sound half s t (check.SeqDiffers asked found) e sound = keeps_sound half s _ sound (ended_keeps half s t)
 check_sound half s t check.ZeroState e sound = keeps_sound half s _ sound (ended_keeps half s t)
 check_sound half s t (check.BelowFloor floor) e sound = keeps_sound half s _ sound (ended_keeps half s t)

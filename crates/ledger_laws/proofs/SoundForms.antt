@@ -37,7 +37,8 @@ pub get_more : (nodes : Nodes) (k : Hash) (form : Bytes) (h : Hash) (b : Bool) �
 get_more nodes k form h b e = get-insert nat_list_cmp_total nodes k form h ∙ ap (λ x. cond x (Some form) (finite.get nodes h)) e
 
 -- what was stored stays, where nothing was stored under the new hash
-pub old_stays : (nodes : Nodes) (k : Hash) (form : Bytes) → finite.get nodes k ≡ None → Grows (finite.get nodes) (finite.get (finite.insert nodes k form))
+pub old_stays : (nodes : Nodes) (k : Hash) (form : Bytes) → finite.get nodes k ≡ None
+    → Grows (finite.get nodes) (finite.get (finite.insert nodes k form))
 old_stays nodes k form free h was e = at (eq_by_cmp hash_cmp h k) refl
   where
     at : (b : Bool) → eq_by_cmp hash_cmp h k ≡ b → finite.get (finite.insert nodes k form) h ≡ Some was
@@ -80,7 +81,8 @@ pub in_tail : {A : Type 0} (x y : A) (xs : List A) → Contains xs y → Contain
 in_tail x y xs c = (suc c.0, omega (arith, c.1), c.2)
 
 -- several forms that may be stored keep a state sound
-pub with_forms_keeps : (half : Half) (s : State) (forms : List Bytes) → ((form : Bytes) → Contains forms form → IsStoredAt half (half form) form) → Keeps half s (with_forms half s forms)
+pub with_forms_keeps : (half : Half) (s : State) (forms : List Bytes)
+    → ((form : Bytes) → Contains forms form → IsStoredAt half (half form) form) → Keeps half s (with_forms half s forms)
 with_forms_keeps half s [] each = keeps_self half s
 with_forms_keeps half s (form ∷ forms) each =
     keeps_on half s (with_form half s form) (with_forms half (with_form half s form) forms) (with_form_keeps half s form (each form (in_head form forms)))
@@ -105,5 +107,7 @@ pub in_nothing : {A : Type 0} {x : A} → Contains [] x → ⊥
 in_nothing c = let below : c.0 < 0 = c.1 in omega (arith, below)
 
 -- a refused command with no own forms
-pub refused_none : (half : Half) (s : State) (a : ℕ) (c : Command) (s' : State) → own_forms half s a c ≡ [] → Refused half s a c s' → Keeps half s s'
-refused_none half s a c s' none r = refused_keeps half s a c s' (λ form i. absurd (in_nothing (subst (λ forms. Contains forms form) none i))) r
+pub refused_none : (half : Half) (s : State) (a : ℕ) (c : Command) (s' : State) → own_forms half s a c ≡ [] → Refused half s a c s'
+    → Keeps half s s'
+refused_none half s a c s' none r =
+    refused_keeps half s a c s' (λ form i. absurd (in_nothing (subst (λ forms. Contains forms form) none i))) r

@@ -101,7 +101,8 @@ shaded_same t s' e = record { nodes = ap (λ x. x.nodes) e; listed = ap (λ x. x
 
 -- nor of the acquisitions
 pub shaded_tables : (half : Half) (t s' : State) → IsAfter t s' → AreTables half t → AreTables half s'
-shaded_tables half t s' e = same_tables half t s' (ap (λ x. x.listed) e) (ap (λ x. x.wanted) e) (ap (λ x. x.views) e) (ap (λ x. x.sessions) e)
+shaded_tables half t s' e =
+    same_tables half t s' (ap (λ x. x.listed) e) (ap (λ x. x.wanted) e) (ap (λ x. x.views) e) (ap (λ x. x.sessions) e)
 
 -- nor does it matter after a change that keeps a state sound
 pub keeps_after : (half : Half) (s t s' : State) → Keeps half s t → IsAfter t s' → Keeps half s s'
@@ -115,10 +116,12 @@ wanted_keeps half s wanted rises charges =
     (λ t. record { listed = t.listed; wanted = rises t.wanted; charges = charges t.charges; views = t.views; sessions = t.sessions; edits = t.edits })
 
 -- and so does a change of one
-pub with_wanted_keeps : (half : Half) (s : State) (t : Hash) (change : Acquisition → Acquisition) → ((a : Acquisition) → HasCharges a → HasCharges (change a)) → Keeps half s (with_wanted s t change)
+pub with_wanted_keeps : (half : Half) (s : State) (t : Hash) (change : Acquisition → Acquisition)
+    → ((a : Acquisition) → HasCharges a → HasCharges (change a)) → Keeps half s (with_wanted s t change)
 with_wanted_keeps half s t change keeps = at (get_in hash_cmp s.wanted t) refl
   where
-    at : (o : Option Acquisition) → get_in hash_cmp s.wanted t ≡ o → Keeps half s (option_map_or (λ a. record s { wanted = set_in hash_cmp s.wanted t (change a) }) o s)
+    at : (o : Option Acquisition) → get_in hash_cmp s.wanted t ≡ o
+        → Keeps half s (option_map_or (λ a. record s { wanted = set_in hash_cmp s.wanted t (change a) }) o s)
     at None is = keeps_self half s
     at (Some a) is =
         wanted_keeps half s (set_in hash_cmp s.wanted t (change a)) (set_rises hash_cmp _ s.wanted (change a))

@@ -30,7 +30,7 @@ use Rattle.ledger_machine.specs.Base.{is_present, part_outcome, after_part, afte
 use Rattle.ledger_machine.specs.Base.{node_forms, unless_clash, parts_forms, if_present, base_forms, offer_forms}
 use Rattle.ledger_machine.specs.Sound.{IsStoredAt}
 use Rattle.ledger_laws.proofs.SoundKeeps.{Keeps, keeps_self, keeps_on}
-use Rattle.ledger_machine.specs.Scripts.{AreBytes, IfBytes}
+use Rattle.ledger_machine.specs.Scripts.{AreBytes, AreOffered, IfBytes}
 use Rattle.ledger_laws.proofs.SoundForms.{IsByteForm, in_nothing, with_form_keeps, with_forms_keeps}
 
 -- a form of what is held, whose hash isn't zero
@@ -43,26 +43,31 @@ pub in_one : {A : Type 0} (x y : A) → Contains (x ∷ []) y → y ≡ x
 in_one {A} x y c = ⊎_elim (λ no. absurd (in_nothing no)) (λ e. sym e) (Contains-push_cases [] x y c)
 
 -- a duplicate or a clash stores nothing
-same_or_clash : (b : Bool) (n : Held) (c : Clash) (form : Bytes) → Contains (stored_by (Ok n) (if b then Ok offered.Duplicate else Err c)) form → ⊥
+same_or_clash : (b : Bool) (n : Held) (c : Clash) (form : Bytes)
+    → Contains (stored_by (Ok n) (if b then Ok offered.Duplicate else Err c)) form → ⊥
 same_or_clash true n c form i = in_nothing i
 same_or_clash false n c form i = in_nothing i
 
 -- a node with the wanted hash stores its form alone
-given_stored : (fault : Option ShapeFault) (h : Hash) (n : Held) (o : Option Bytes) (form : Bytes) → Contains (stored_by (Ok n) (node_given fault h (form_of n) o)) form → form ≡ form_of n
+given_stored : (fault : Option ShapeFault) (h : Hash) (n : Held) (o : Option Bytes) (form : Bytes)
+    → Contains (stored_by (Ok n) (node_given fault h (form_of n) o)) form → form ≡ form_of n
 given_stored None h n None form i = in_one (form_of n) form i
 given_stored (Some fault) h n None form i = in_one (form_of n) form i
 given_stored None h n (Some old) form i = absurd (same_or_clash (same_bytes old (form_of n)) n _ form i)
 given_stored (Some fault) h n (Some old) form i = absurd (same_or_clash (same_bytes old (form_of n)) n _ form i)
 
 -- what stores something passed the test
-tested_stored : (b : Bool) (n : Held) (r : Result Offered Clash) (h found : Hash) (form : Bytes) → Contains (stored_by (Ok n) (if b then r else Ok (offered.BadHash h found))) form
+tested_stored : (b : Bool) (n : Held) (r : Result Offered Clash) (h found : Hash) (form : Bytes)
+    → Contains (stored_by (Ok n) (if b then r else Ok (offered.BadHash h found))) form
     → (b ≡ true) × Contains (stored_by (Ok n) r) form
 tested_stored true n r h found form i = (refl, i)
 tested_stored false n r h found form i = absurd (in_nothing i)
 
 -- the form of what is held, under the wanted hash
-held_stored : (half : Half) (n : Held) (h : Hash) (form : Bytes) → IsHeld half n → IsTrue (is_nonzero h) → hash_of half n ≡ h → form ≡ form_of n → IsOwnForm half form
-held_stored half n h form held nonzero same e = record { nonzero = subst (λ x. IsTrue (is_nonzero x)) (sym (ap half e ∙ same)) nonzero; held = (n, (held, e)) }
+held_stored : (half : Half) (n : Held) (h : Hash) (form : Bytes) → IsHeld half n → IsTrue (is_nonzero h) → hash_of half n ≡ h
+    → form ≡ form_of n → IsOwnForm half form
+held_stored half n h form held nonzero same e =
+    record { nonzero = subst (λ x. IsTrue (is_nonzero x)) (sym (ap half e ∙ same)) nonzero; held = (n, (held, e)) }
 
 -- each form that a node stores, where the hash that is wanted isn't zero
 spot_stored : (half : Half) (nodes : Lookup) (kind : Kind) (path : List ℕ) (n : Held) (x : Spot) (form : Bytes) → IsHeld half n
@@ -78,7 +83,8 @@ spot_stored half nodes kind path n (wanted h parent) form held nonzero i =
     held_stored half n h form held (nonzero h parent refl) (same_text (hash_of half n) h (sym passed.0)) (given_stored (fault_of n parent kind path) h n (nodes h) form passed.1)
 
 -- each form that a node stores, where what was read has a form
-read_stored : (half : Half) (nodes : Lookup) (t : Hash) (kind : Kind) (path : List ℕ) (r : Result Held ℕ) (form : Bytes) → ((n : Held) → r ≡ Ok n → IsHeld half n)
+read_stored : (half : Half) (nodes : Lookup) (t : Hash) (kind : Kind) (path : List ℕ) (r : Result Held ℕ) (form : Bytes)
+    → ((n : Held) → r ≡ Ok n → IsHeld half n)
     → Contains (stored_by r (wire_outcome half nodes t kind path r)) form → IsOwnForm half form
 read_stored half nodes t kind path (Err cause) form held i = absurd (in_nothing i)
 read_stored half nodes t kind path (Ok n) form held i = spot_stored half nodes kind path n (spot_of nodes t kind path) form (held n refl) (λ h parent e. wanted_nonzero nodes t kind path h parent e) i
@@ -86,10 +92,12 @@ read_stored half nodes t kind path (Ok n) form held i = spot_stored half nodes k
 -- each form that a node's bytes store
 pub node_stored : (half : Half) (sized : IsHalf half) (nodes : Lookup) (t : Hash) (kind : Kind) (path : List ℕ) (blob form : Bytes)
     → Contains (stored_by (read_wire half blob) (node_outcome half nodes t kind path blob)) form → IsOwnForm half form
-node_stored half sized nodes t kind path blob form i = read_stored half nodes t kind path (read_wire half blob) form (λ n e. read_wire_held half blob n sized e) i
+node_stored half sized nodes t kind path blob form i =
+    read_stored half nodes t kind path (read_wire half blob) form (λ n e. read_wire_held half blob n sized e) i
 
 -- an answer that is good passed both tests before it
-head_tests : (a b : Bool) (x y r : Result HeadOffered Clash) → (x ≡ Ok head.Good → ⊥) → (y ≡ Ok head.Good → ⊥) → (if not a then x else if not b then y else r) ≡ Ok head.Good → (a ≡ true) × (b ≡ true)
+head_tests : (a b : Bool) (x y r : Result HeadOffered Clash) → (x ≡ Ok head.Good → ⊥) → (y ≡ Ok head.Good → ⊥)
+    → (if not a then x else if not b then y else r) ≡ Ok head.Good → (a ≡ true) × (b ≡ true)
 head_tests false b x y r nx ny e = absurd (nx e)
 head_tests true false x y r nx ny e = absurd (ny e)
 head_tests true true x y r nx ny e = (refl, refl)
@@ -103,7 +111,8 @@ bad_hash : {h : Hash} → ◌≡◌ {A = Result HeadOffered Clash} (Ok (head.Bad
 bad_hash e = cc
 
 -- a good header may be stored
-pub head_stored : (half : Half) (nodes : Lookup) (t : Hash) (bytes : Bytes) → IsTrue (is_nonzero t) → head_outcome half nodes t bytes ≡ Ok head.Good
+pub head_stored : (half : Half) (nodes : Lookup) (t : Hash) (bytes : Bytes) → IsTrue (is_nonzero t)
+    → head_outcome half nodes t bytes ≡ Ok head.Good
     → IsOwnForm half (header_prefix ++ bytes)
 head_stored half nodes t bytes nonzero e =
     let form : Bytes = header_prefix ++ bytes in
@@ -112,9 +121,11 @@ head_stored half nodes t bytes nonzero e =
     held_stored half (header bytes) t form (eqb-true (length bytes) 118 tests.0) nonzero (same_text (half form) t (sym tests.1)) refl
 
 -- what is stored of bytes is bytes
-read_bytes : (r : Result Held ℕ) (o : Result Offered Clash) (form : Bytes) → ((n : Held) → r ≡ Ok n → IsTrue (are_bytes (form_of n))) → Contains (stored_by r o) form → IsTrue (are_bytes form)
+read_bytes : (r : Result Held ℕ) (o : Result Offered Clash) (form : Bytes) → ((n : Held) → r ≡ Ok n → IsTrue (are_bytes (form_of n)))
+    → Contains (stored_by r o) form → IsTrue (are_bytes form)
 read_bytes (Ok n) (Ok offered.Good) form bytes i = subst (λ x. IsTrue (are_bytes x)) (sym (in_one (form_of n) form i)) (bytes n refl)
-read_bytes (Ok n) (Ok (offered.Malformed rule)) form bytes i = subst (λ x. IsTrue (are_bytes x)) (sym (in_one (form_of n) form i)) (bytes n refl)
+read_bytes (Ok n) (Ok (offered.Malformed rule)) form bytes i =
+    subst (λ x. IsTrue (are_bytes x)) (sym (in_one (form_of n) form i)) (bytes n refl)
 read_bytes (Ok n) (Ok offered.Duplicate) form bytes i = absurd (in_nothing i)
 read_bytes (Ok n) (Ok (offered.BadWire cause)) form bytes i = absurd (in_nothing i)
 read_bytes (Ok n) (Ok (offered.BadHash h found)) form bytes i = absurd (in_nothing i)
@@ -129,7 +140,8 @@ head_bytes : (bytes : Bytes) → IsTrue (are_bytes bytes) → IsTrue (are_bytes 
 head_bytes bytes all = all
 
 -- a node's bytes store what may be stored
-node_fits : (half : Half) (sized : IsHalf half) (nodes : Lookup) (t : Hash) (kind : Kind) (path : List ℕ) (blob form : Bytes) → IsTrue (are_bytes blob)
+node_fits : (half : Half) (sized : IsHalf half) (nodes : Lookup) (t : Hash) (kind : Kind) (path : List ℕ) (blob form : Bytes)
+    → IsTrue (are_bytes blob)
     → Contains (stored_by (read_wire half blob) (node_outcome half nodes t kind path blob)) form → IsStoredAt half (half form) form
 node_fits half sized nodes t kind path blob form all i =
     let own : IsOwnForm half form = node_stored half sized nodes t kind path blob form i in
@@ -141,7 +153,8 @@ node_fits half sized nodes t kind path blob form all i =
     }
 
 -- and a header's
-head_fits : (half : Half) (nodes : Lookup) (t : Hash) (bytes : Bytes) → IsTrue (is_nonzero t) → IsTrue (are_bytes bytes) → head_outcome half nodes t bytes ≡ Ok head.Good
+head_fits : (half : Half) (nodes : Lookup) (t : Hash) (bytes : Bytes) → IsTrue (is_nonzero t) → IsTrue (are_bytes bytes)
+    → head_outcome half nodes t bytes ≡ Ok head.Good
     → IsStoredAt half (half (header_prefix ++ bytes)) (header_prefix ++ bytes)
 head_fits half nodes t bytes nonzero all e =
     let own : IsOwnForm half (header_prefix ++ bytes) = head_stored half nodes t bytes nonzero e in
@@ -158,20 +171,20 @@ after_head_keeps half s bytes (Ok (head.BadHash h)) fit = keeps_self half s
 after_head_keeps half s bytes (Err c) fit = keeps_self half s
 
 -- a node that is offered keeps a state sound
-pub after_node_keeps : (half : Half) (sized : IsHalf half) (s : State) (t : Hash) (kind : Kind) (path : List ℕ) (blob : Bytes) → AreBytes blob → Keeps half s (after_node half s t kind path blob)
-after_node_keeps half sized s t kind path blob all = with_forms_keeps half s _ (λ form i. node_fits half sized (form_in s) t kind path blob form all i)
+pub after_node_keeps : (half : Half) (sized : IsHalf half) (s : State) (t : Hash) (kind : Kind) (path : List ℕ) (blob : Bytes)
+    → AreBytes blob → Keeps half s (after_node half s t kind path blob)
+after_node_keeps half sized s t kind path blob all =
+    with_forms_keeps half s _ (λ form i. node_fits half sized (form_in s) t kind path blob form all i)
 
 -- and so does a part of a base reply
-pub after_part_keeps : (half : Half) (sized : IsHalf half) (s : State) (t : Hash) (kind : Kind) (blob : Option Bytes) → IfBytes blob → Keeps half s (after_part half s t kind blob)
+pub after_part_keeps : (half : Half) (sized : IsHalf half) (s : State) (t : Hash) (kind : Kind) (blob : Option Bytes) → IfBytes blob
+    → Keeps half s (after_part half s t kind blob)
 after_part_keeps half sized s t kind None all = keeps_self half s
 after_part_keeps half sized s t kind (Some blob) all = after_node_keeps half sized s t kind [] blob all
 
--- a target that isn't zero, and parts of bytes
-abbrev pub AreOffered : Hash → Bytes → Option Bytes → Option Bytes → Type 0
-AreOffered t bytes state tx = IsTrue (is_nonzero t) × AreBytes bytes × IfBytes state × IfBytes tx
-
 -- the parts of a base reply, one after another, keep a state sound
-pub after_parts_keeps : (half : Half) (sized : IsHalf half) (s : State) (t : Hash) (bytes : Bytes) (state tx : Option Bytes) → AreOffered t bytes state tx → Keeps half s (after_parts half s t bytes state tx)
+pub after_parts_keeps : (half : Half) (sized : IsHalf half) (s : State) (t : Hash) (bytes : Bytes) (state tx : Option Bytes)
+    → AreOffered t bytes state tx → Keeps half s (after_parts half s t bytes state tx)
 after_parts_keeps half sized s t bytes state tx is =
     let r : Result HeadOffered Clash = head_outcome half (form_in s) t bytes in
     let s1 : State = after_head half s bytes r in
@@ -190,16 +203,19 @@ after_offer_keeps half sized s p t kind path blob (says.Node (node.One o)) all =
 after_offer_keeps half sized s p t kind path blob _ all = keeps_self half s
 
 -- the own form of a header is the form of one
-head_own : (half : Half) (bytes : Bytes) (r : Result HeadOffered Clash) (form : Bytes) → (r ≡ Ok head.Good → IsStoredAt half (half (header_prefix ++ bytes)) (header_prefix ++ bytes))
+head_own : (half : Half) (bytes : Bytes) (r : Result HeadOffered Clash) (form : Bytes)
+    → (r ≡ Ok head.Good → IsStoredAt half (half (header_prefix ++ bytes)) (header_prefix ++ bytes))
     → Contains (head_forms r bytes) form → IsByteForm half form
-head_own half bytes (Ok head.Good) form fit i = subst (λ x. IsByteForm half x) (sym (in_one (header_prefix ++ bytes) form i)) ((fit refl).held, (fit refl).bytes)
+head_own half bytes (Ok head.Good) form fit i =
+    subst (λ x. IsByteForm half x) (sym (in_one (header_prefix ++ bytes) form i)) ((fit refl).held, (fit refl).bytes)
 head_own half bytes (Ok head.Duplicate) form fit i = absurd (in_nothing i)
 head_own half bytes (Ok (head.BadLength n)) form fit i = absurd (in_nothing i)
 head_own half bytes (Ok (head.BadHash h)) form fit i = absurd (in_nothing i)
 head_own half bytes (Err c) form fit i = absurd (in_nothing i)
 
 -- the own form of a node is the form of one
-pub node_own : (half : Half) (sized : IsHalf half) (s : State) (t : Hash) (kind : Kind) (path : List ℕ) (blob : Option Bytes) (form : Bytes) → IfBytes blob
+pub node_own : (half : Half) (sized : IsHalf half) (s : State) (t : Hash) (kind : Kind) (path : List ℕ) (blob : Option Bytes) (form : Bytes)
+    → IfBytes blob
     → Contains (node_forms half s t kind path blob) form → IsByteForm half form
 node_own half sized s t kind path None form all i = absurd (in_nothing i)
 node_own half sized s t kind path (Some blob) form all i =
@@ -207,7 +223,8 @@ node_own half sized s t kind path (Some blob) form all i =
     (fits.held, fits.bytes)
 
 -- what is judged of a peer is judged where it is present
-pub present_form : (p : ℕ) (o : Option Acquisition) (forms : List Bytes) (form : Bytes) → Contains (if_present p o forms) form → Contains forms form
+pub present_form : (p : ℕ) (o : Option Acquisition) (forms : List Bytes) (form : Bytes) → Contains (if_present p o forms) form
+    → Contains forms form
 present_form p None forms form i = absurd (in_nothing i)
 present_form p (Some a) forms form i = by (is_present p a) i
   where
@@ -216,12 +233,14 @@ present_form p (Some a) forms form i = by (is_present p a) i
     by false i = absurd (in_nothing i)
 
 -- and what is judged behind a part is one of what follows
-pub behind_form : {X : Type 0} (r : Result X Clash) (forms : List Bytes) (form : Bytes) → Contains (unless_clash r forms) form → Contains forms form
+pub behind_form : {X : Type 0} (r : Result X Clash) (forms : List Bytes) (form : Bytes) → Contains (unless_clash r forms) form
+    → Contains forms form
 behind_form (Ok x) forms form i = i
 behind_form (Err c) forms form i = absurd (in_nothing i)
 
 -- each form of a base reply's parts is the header's, the state root's or the transaction root's
-pub parts_cases : (half : Half) (s : State) (t : Hash) (bytes : Bytes) (state tx : Option Bytes) (form : Bytes) → Contains (parts_forms half s t bytes state tx) form
+pub parts_cases : (half : Half) (s : State) (t : Hash) (bytes : Bytes) (state tx : Option Bytes) (form : Bytes)
+    → Contains (parts_forms half s t bytes state tx) form
     → Contains (head_forms (head_outcome half (form_in s) t bytes) bytes) form
     ⊎ (Contains (node_forms half (after_head half s bytes (head_outcome half (form_in s) t bytes)) t kinds.State [] state) form
     ⊎ Contains (node_forms half (after_part half (after_head half s bytes (head_outcome half (form_in s) t bytes)) t kinds.State state) t kinds.Tx [] tx) form)
@@ -237,12 +256,14 @@ parts_cases half s t bytes state tx form i =
     (Contains-append_cases (head_forms r bytes) (unless_clash r (first ++ second)) form i)
 
 -- the own form of an offered node is the form of one
-pub offer_own : (half : Half) (sized : IsHalf half) (s : State) (p : ℕ) (t : Hash) (kind : Kind) (path : List ℕ) (blob form : Bytes) → AreBytes blob → Contains (offer_forms half s p t kind path blob) form → IsByteForm half form
+pub offer_own : (half : Half) (sized : IsHalf half) (s : State) (p : ℕ) (t : Hash) (kind : Kind) (path : List ℕ) (blob form : Bytes)
+    → AreBytes blob → Contains (offer_forms half s p t kind path blob) form → IsByteForm half form
 offer_own half sized s p t kind path blob form all i =
     node_own half sized s t kind path (Some blob) form all (present_form p (get_in hash_cmp s.wanted t) (node_forms half s t kind path (Some blob)) form i)
 
 -- the own forms of a base reply are forms of a header and of nodes
-pub base_own : (half : Half) (sized : IsHalf half) (s : State) (p : ℕ) (t : Hash) (bytes : Bytes) (state tx : Option Bytes) (form : Bytes) → AreOffered t bytes state tx
+pub base_own : (half : Half) (sized : IsHalf half) (s : State) (p : ℕ) (t : Hash) (bytes : Bytes) (state tx : Option Bytes) (form : Bytes)
+    → AreOffered t bytes state tx
     → Contains (base_forms half s p t bytes state tx) form → IsByteForm half form
 base_own half sized s p t bytes state tx form is i =
     let r : Result HeadOffered Clash = head_outcome half (form_in s) t bytes in

@@ -23,7 +23,7 @@ use Rattle.std.proofs.lemmas.Cmp.{nat_cmp_total}
 use Rattle.std.proofs.lemmas.Map.Views.{All-values-insert_entry}
 use Rattle.ledger_spec.specs.Maps.{hash_cmp, insert_in}
 use Rattle.ledger_machine.specs.State.{State, fresh, stored_seq}
-use Rattle.ledger_machine.specs.Scripts.{AreBytes, IsAcquiring, IsInRange}
+use Rattle.ledger_machine.specs.Scripts.{AreBytes, AreOffered, IsAcquiring, IsInRange}
 use Rattle.ledger_machine.specs.Want.{want_reply, after_want}
 use Rattle.ledger_machine.specs.Peer.{peer_reply, after_peer, with_peer}
 use Rattle.ledger_machine.specs.Check.{check_reply, after_check}
@@ -37,10 +37,11 @@ use Rattle.ledger_laws.proofs.SoundTables.{none_rises, insert_rises}
 use Rattle.ledger_laws.proofs.SoundKeeps.{HasCharges, shaded_same, shaded_tables}
 use Rattle.ledger_laws.proofs.SoundForms.{refused_keeps, refused_none}
 use Rattle.ledger_laws.proofs.SoundCheck.{check_sound}
-use Rattle.ledger_laws.proofs.SoundOffers.{AreOffered, after_base_keeps, after_offer_keeps, base_own, offer_own}
+use Rattle.ledger_laws.proofs.SoundOffers.{after_base_keeps, after_offer_keeps, base_own, offer_own}
 
 -- a command is refused, or answered by its row
-pub outcome_cases : (half : Half) (s : State) (a : ℕ) (c : Command) (reply : Reply) (used : List Held) (s' : State) → Outcomes half s a c reply used s'
+pub outcome_cases : (half : Half) (s : State) (a : ℕ) (c : Command) (reply : Reply) (used : List Held) (s' : State)
+    → Outcomes half s a c reply used s'
     → Refused half s a c s' ⊎ Answered half s a c reply used s'
 outcome_cases half s a c says.Fault used s' o = inl o.1
 outcome_cases half s a c says.Memory used s' o = inl o.1
@@ -72,17 +73,20 @@ gives_sound half s t s' r reply sound k g = keeps_sound half s s' sound (keeps_a
 
 -- the state after an answer whose state is sound
 gives_same : (half : Half) (t s' : State) (r reply : Reply) → Sound half t → Gives r t reply s' → Sound half s'
-gives_same half t s' r reply sound g = keeps_sound half t s' sound (same_keeps half t s' (shaded_same t s' g.after) (shaded_tables half t s' g.after))
+gives_same half t s' r reply sound g =
+    keeps_sound half t s' sound (same_keeps half t s' (shaded_same t s' g.after) (shaded_tables half t s' g.after))
 
 -- a step of `want`
-pub want_sound : (half : Half) (s s' : State) (a : ℕ) (t : Hash) (seq : ℕ) (reply : Reply) (used : List Held) → Sound half s → Step half s a (command.Want t seq) reply used s' → Sound half s'
+pub want_sound : (half : Half) (s s' : State) (a : ℕ) (t : Hash) (seq : ℕ) (reply : Reply) (used : List Held) → Sound half s
+    → Step half s a (command.Want t seq) reply used s' → Sound half s'
 want_sound half s s' a t seq reply used sound step =
     ⊎_elim (λ r. keeps_sound half s s' sound (refused_none half s a (command.Want t seq) s' refl r))
     (λ g. gives_sound half s (after_want s t seq (want_reply s t seq)) s' (says.Want (want_reply s t seq)) reply sound (want_keeps half s t seq (want_reply s t seq)) g)
     (outcome_cases half s a (command.Want t seq) reply used s' step.outcome)
 
 -- a step of `peer`
-pub peer_sound : (half : Half) (s s' : State) (a p : ℕ) (t : Hash) (reply : Reply) (used : List Held) → Sound half s → Step half s a (command.Peer p t) reply used s' → Sound half s'
+pub peer_sound : (half : Half) (s s' : State) (a p : ℕ) (t : Hash) (reply : Reply) (used : List Held) → Sound half s
+    → Step half s a (command.Peer p t) reply used s' → Sound half s'
 peer_sound half s s' a p t reply used sound step =
     ⊎_elim (λ r. keeps_sound half s s' sound (refused_none half s a (command.Peer p t) s' refl r))
     (λ g. gives_sound half s (after_peer s p t (peer_reply s p t)) s' (says.Peer (peer_reply s p t)) reply sound (peer_keeps half s p t (peer_reply s p t)) g)
@@ -97,7 +101,8 @@ tick_sound half s s' a t reply used sound step =
     (outcome_cases half s a (command.Tick t) reply used s' step.outcome)
 
 -- a step of `check`
-pub check_step_sound : (half : Half) (s s' : State) (a : ℕ) (t : Hash) (reply : Reply) (used : List Held) → Sound half s → Step half s a (command.Check t) reply used s' → Sound half s'
+pub check_step_sound : (half : Half) (s s' : State) (a : ℕ) (t : Hash) (reply : Reply) (used : List Held) → Sound half s
+    → Step half s a (command.Check t) reply used s' → Sound half s'
 check_step_sound half s s' a t reply used sound step =
     ⊎_elim (λ r. keeps_sound half s s' sound (refused_none half s a (command.Check t) s' refl r))
     (λ g. gives_same half (after_check s t (stored_seq s t) (check_reply half s t)) s' (says.Check (check_reply half s t)) reply (check_sound half s t (check_reply half s t) refl sound) g)
@@ -120,14 +125,21 @@ node_sound half sized s s' a p t kind path blob reply used all sound step =
     (outcome_cases half s a (command.Node p t kind path blob) reply used s' step.outcome)
 
 -- each step of a command that acquires a ledger leads from a sound state to a sound state
-pub acquiring_step_sound : (half : Half) (sized : IsHalf half) (s s' : State) (a : ℕ) (c : Command) (reply : Reply) (used : List Held) → IsAcquiring c → IsInRange c → Sound half s → Step half s a c reply used s'
+pub acquiring_step_sound : (half : Half) (sized : IsHalf half) (s s' : State) (a : ℕ) (c : Command) (reply : Reply) (used : List Held)
+    → IsAcquiring c → IsInRange c → Sound half s → Step half s a c reply used s'
     → Sound half s'
-acquiring_step_sound half sized s s' a (command.Want t seq) reply used acquiring range sound step = want_sound half s s' a t seq reply used sound step
-acquiring_step_sound half sized s s' a (command.Peer p t) reply used acquiring range sound step = peer_sound half s s' a p t reply used sound step
-acquiring_step_sound half sized s s' a (command.Base p t bytes state tx) reply used acquiring range sound step = base_sound half sized s s' a p t bytes state tx reply used range sound step
-acquiring_step_sound half sized s s' a (command.Node p t kind path blob) reply used acquiring range sound step = node_sound half sized s s' a p t kind path blob reply used range.2 sound step
-acquiring_step_sound half sized s s' a (command.Check t) reply used acquiring range sound step = check_step_sound half s s' a t reply used sound step
-acquiring_step_sound half sized s s' a (command.Tick t) reply used acquiring range sound step = tick_sound half s s' a t reply used sound step
+acquiring_step_sound half sized s s' a (command.Want t seq) reply used acquiring range sound step =
+    want_sound half s s' a t seq reply used sound step
+acquiring_step_sound half sized s s' a (command.Peer p t) reply used acquiring range sound step =
+    peer_sound half s s' a p t reply used sound step
+acquiring_step_sound half sized s s' a (command.Base p t bytes state tx) reply used acquiring range sound step =
+    base_sound half sized s s' a p t bytes state tx reply used range sound step
+acquiring_step_sound half sized s s' a (command.Node p t kind path blob) reply used acquiring range sound step =
+    node_sound half sized s s' a p t kind path blob reply used range.2 sound step
+acquiring_step_sound half sized s s' a (command.Check t) reply used acquiring range sound step =
+    check_step_sound half s s' a t reply used sound step
+acquiring_step_sound half sized s s' a (command.Tick t) reply used acquiring range sound step =
+    tick_sound half s s' a t reply used sound step
 acquiring_step_sound half sized s s' a _ reply used acquiring range sound step = absurd acquiring
 
 -- a line at a place is a line of the script

@@ -20,17 +20,20 @@ turned : {K : Type 0} {R : K → K → Ordering} → IsTotalOrder R → (k h : K
 turned o k h e = o.antisymm h k ∙ ap ordering_reverse e
 
 -- the keys behind one that is greater are greater
-all_behind : {K : Type 0} {R : K → K → Ordering} → IsTotalOrder R → (k h : K) (hs : List K) → R k h ≡ Less → AllByRecursion (λ y. R h y ≡ Less) hs → AllByRecursion (λ y. R k y ≡ Less) hs
+all_behind : {K : Type 0} {R : K → K → Ordering} → IsTotalOrder R → (k h : K) (hs : List K) → R k h ≡ Less
+    → AllByRecursion (λ y. R h y ≡ Less) hs → AllByRecursion (λ y. R k y ≡ Less) hs
 all_behind o k h [] less all = tt
 all_behind o k h (y ∷ hs) less all = (o.trans k h y less all.0, all_behind o k h hs less all.1)
 
 module _ {K X : Type 0} {R : K → K → Ordering} (o : IsTotalOrder R) where
   -- each key after an entry was put is its key, or was one before
-  all_keys_inserted : (P : K → Type 0) (m : List (K × X)) (k : K) (x : X) → AllByRecursion P (keys_of m) → P k → AllByRecursion P (keys_of (insert_in R m k x))
+  all_keys_inserted : (P : K → Type 0) (m : List (K × X)) (k : K) (x : X) → AllByRecursion P (keys_of m) → P k
+      → AllByRecursion P (keys_of (insert_in R m k x))
   all_keys_inserted P [] k x all own = (own, tt)
   all_keys_inserted P (e ∷ m) k x all own = by (R k e.0) (all_keys_inserted P m k x all.1 own)
     where
-      by : (r : Ordering) → AllByRecursion P (keys_of (insert_in R m k x)) → AllByRecursion P (keys_of (match_ordering r ((k, x) ∷ e ∷ m) ((e.0, x) ∷ m) (e ∷ insert_in R m k x)))
+      by : (r : Ordering) → AllByRecursion P (keys_of (insert_in R m k x))
+          → AllByRecursion P (keys_of (match_ordering r ((k, x) ∷ e ∷ m) ((e.0, x) ∷ m) (e ∷ insert_in R m k x)))
       by Less rest = (own, all)
       by Equal rest = all
       by Greater rest = (all.0, rest)
@@ -40,7 +43,8 @@ module _ {K X : Type 0} {R : K → K → Ordering} (o : IsTotalOrder R) where
   insert_rises [] k x rises = (tt, tt)
   insert_rises (e ∷ m) k x rises = by (R k e.0) refl (insert_rises m k x rises.1)
     where
-      by : (r : Ordering) → R k e.0 ≡ r → IsMap R (insert_in R m k x) → IsMap R (match_ordering r ((k, x) ∷ e ∷ m) ((e.0, x) ∷ m) (e ∷ insert_in R m k x))
+      by : (r : Ordering) → R k e.0 ≡ r → IsMap R (insert_in R m k x)
+          → IsMap R (match_ordering r ((k, x) ∷ e ∷ m) ((e.0, x) ∷ m) (e ∷ insert_in R m k x))
       by Less is rest = ((is, all_behind o k e.0 (keys_of m) is rises.0), rises)
       by Equal is rest = rises
       by Greater is rest = (all_keys_inserted (λ y. R e.0 y ≡ Less) m k x rises.0 (turned o k e.0 is), rest)
@@ -51,7 +55,8 @@ unfolding IsStrictlySortedBy
 none_rises R = tt
 
 -- the keys that are left were keys before
-all_keys_removed : {K X : Type 0} (P : K → Type 0) (test : K → Bool) (m : List (K × X)) → AllByRecursion P (keys_of m) → AllByRecursion P (keys_of (remove_entry test m))
+all_keys_removed : {K X : Type 0} (P : K → Type 0) (test : K → Bool) (m : List (K × X)) → AllByRecursion P (keys_of m)
+    → AllByRecursion P (keys_of (remove_entry test m))
 all_keys_removed P test [] all = tt
 all_keys_removed P test (e ∷ m) all = by (test e.0) (all_keys_removed P test m all.1)
   where
@@ -68,7 +73,8 @@ remove_rises R test (e ∷ m) rises = by (test e.0) (remove_rises R test m rises
     by true rest = rises.1
     by false rest = (all_keys_removed (λ y. R e.0 y ≡ Less) test m rises.0, rest)
 
-pub set_rises : {K X : Type 0} (R : K → K → Ordering) (test : K → Bool) (m : List (K × X)) (x : X) → IsMap R m → IsMap R (set_value test m x)
+pub set_rises : {K X : Type 0} (R : K → K → Ordering) (test : K → Bool) (m : List (K × X)) (x : X) → IsMap R m
+    → IsMap R (set_value test m x)
 set_rises R test m x rises = subst (λ ks. IsStrictlySortedBy R ks) (sym (keys-set_value test m x)) rises
 
 same_some : {A : Type 0} {x y : A} → Some x ≡ Some y → x ≡ y
@@ -78,7 +84,8 @@ none_some : {A : Type 0} {x : A} → None ≡ Some x → ⊥
 none_some e = cc
 
 -- what is true of each value is true of one that is found
-pub all_found : {K X : Type 0} (P : X → Type 0) (test : K → Bool) (m : List (K × X)) (x : X) → All P (values_of m) → lookup test m ≡ Some x → P x
+pub all_found : {K X : Type 0} (P : X → Type 0) (test : K → Bool) (m : List (K × X)) (x : X) → All P (values_of m) → lookup test m ≡ Some x
+    → P x
 all_found P test [] x all e = absurd (none_some e)
 all_found {K} {X} P test (e ∷ m) x all is = by (test e.0) (all_found P test m x (λ k d lt. all (suc k) d (omega arith))) is
   where
@@ -87,7 +94,8 @@ all_found {K} {X} P test (e ∷ m) x all is = by (test e.0) (all_found P test m 
     by false rest later = rest later
 
 -- the same tables
-pub same_tables : (half : Half) (s s' : State) → s'.listed ≡ s.listed → s'.wanted ≡ s.wanted → s'.views ≡ s.views → s'.sessions ≡ s.sessions → AreTables half s → AreTables half s'
+pub same_tables : (half : Half) (s s' : State) → s'.listed ≡ s.listed → s'.wanted ≡ s.wanted → s'.views ≡ s.views → s'.sessions ≡ s.sessions
+    → AreTables half s → AreTables half s'
 same_tables half s s' listed wanted views sessions t = record {
   listed = subst (λ m. IsMap hash_cmp m) (sym listed) t.listed;
   wanted = subst (λ m. IsMap hash_cmp m) (sym wanted) t.wanted;

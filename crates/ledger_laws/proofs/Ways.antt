@@ -30,7 +30,8 @@ in_filter {A} p (x ∷ xs) =
     more false y c = c
 
 -- a kid that isn't zero is among a form's kids
-in_kids : (form : Bytes) (hashes : List Hash) (h : Hash) → named_by (inner_of form) (header_of form) ≡ hashes → Contains hashes h → IsTrue (is_nonzero h) → Contains (kids form) h
+in_kids : (form : Bytes) (hashes : List Hash) (h : Hash) → named_by (inner_of form) (header_of form) ≡ hashes → Contains hashes h
+    → IsTrue (is_nonzero h) → Contains (kids form) h
 in_kids form hashes h e at nonzero =
     subst (λ hs. Contains (filter is_nonzero hs) h) (sym e) (All-contains (λ y. is_nonzero y ≡ true → Contains (filter is_nonzero hashes) y) hashes h (in_filter is_nonzero hashes) at nonzero)
 
@@ -39,7 +40,8 @@ no_true : false ≡ true → ⊥
 no_true e = cc
 
 -- what is read of a list and isn't zero is in it
-read_in : (hashes : List Hash) (n : ℕ) → IsTrue (is_nonzero (slice_index_or hashes n zero_hash)) → Contains hashes (slice_index_or hashes n zero_hash)
+read_in : (hashes : List Hash) (n : ℕ) → IsTrue (is_nonzero (slice_index_or hashes n zero_hash))
+    → Contains hashes (slice_index_or hashes n zero_hash)
 read_in [] n nonzero = absurd (no_true nonzero)
 read_in (h ∷ hashes) zero nonzero = in_head h hashes
 read_in (h ∷ hashes) (suc n) nonzero = in_tail h (slice_index_or hashes n zero_hash) hashes (read_in hashes n nonzero)
@@ -57,7 +59,8 @@ pub named_reached : (m n : Lookup) (t h : Hash) → Grows m n → IsNamed m t h 
 named_reached m n t h up name stored = kid (reach_grows up name.reached) (up name.by name.form name.stored) name.named stored
 
 -- the way goes on where the branch isn't empty
-goes_on : (z : Bool) (path : List ℕ) (s : Spot) (g : Hash) (q : Option (List Hash)) → (if z then empty_branch path else s) ≡ wanted g q → (z ≡ false) × (s ≡ wanted g q)
+goes_on : (z : Bool) (path : List ℕ) (s : Spot) (g : Hash) (q : Option (List Hash)) → (if z then empty_branch path else s) ≡ wanted g q
+    → (z ≡ false) × (s ≡ wanted g q)
 goes_on true path s g q e = absurd (empty_wanted e)
 goes_on false path s g q e = (refl, e)
 
@@ -73,14 +76,16 @@ goes_into path on (Some form) g q e = at (inner_of form) refl e
     at (Some hashes) is e = (form, hashes, refl, is, e)
 
 -- a branch of an inner node that is named and stored is named
-pub branch_named : (nodes : Lookup) (t h : Hash) (form : Bytes) (hashes : List Hash) (n : ℕ) → IsNamed nodes t h → nodes h ≡ Some form → inner_of form ≡ Some hashes
+pub branch_named : (nodes : Lookup) (t h : Hash) (form : Bytes) (hashes : List Hash) (n : ℕ) → IsNamed nodes t h → nodes h ≡ Some form
+    → inner_of form ≡ Some hashes
     → IsTrue (is_nonzero (slice_index_or hashes n zero_hash)) → IsNamed nodes t (slice_index_or hashes n zero_hash)
 branch_named nodes t h form hashes n name stored is nonzero = record {
   by = h;
   form = form;
   reached = kid name.reached name.stored name.named (form, stored);
   stored = stored;
-  named = in_kids form hashes (slice_index_or hashes n zero_hash) (ap (λ i. named_by i (header_of form)) is) (read_in hashes n nonzero) nonzero;
+  named =
+      in_kids form hashes (slice_index_or hashes n zero_hash) (ap (λ i. named_by i (header_of form)) is) (read_in hashes n nonzero) nonzero;
 }
 
 -- what is wanted further down is named, where the hash here is
@@ -109,17 +114,20 @@ header_no_inner form bytes e = not_inner_length form (λ long. other long (teste
     other long is = let short : length form ≡ 122 = eqb-true (length form) 122 is in omega (arith, long, short)
 
 -- a map's root that isn't zero is one of its header's two
-root_in : (kind : Kind) (bytes : Bytes) → IsTrue (is_nonzero (header_root kind bytes)) → Contains (state_root_of bytes ∷ tx_root_of bytes ∷ []) (header_root kind bytes)
+root_in : (kind : Kind) (bytes : Bytes) → IsTrue (is_nonzero (header_root kind bytes))
+    → Contains (state_root_of bytes ∷ tx_root_of bytes ∷ []) (header_root kind bytes)
 root_in State bytes nonzero = in_head (state_root_of bytes) (tx_root_of bytes ∷ [])
 root_in Tx bytes nonzero = in_tail (state_root_of bytes) (tx_root_of bytes) (tx_root_of bytes ∷ []) (in_head (tx_root_of bytes) [])
 root_in Set bytes nonzero = absurd (no_true nonzero)
 
 -- what a header names
-pub header_names : (form bytes : Bytes) → header_of form ≡ Some bytes → named_by (inner_of form) (header_of form) ≡ state_root_of bytes ∷ tx_root_of bytes ∷ []
+pub header_names : (form bytes : Bytes) → header_of form ≡ Some bytes
+    → named_by (inner_of form) (header_of form) ≡ state_root_of bytes ∷ tx_root_of bytes ∷ []
 header_names form bytes is = ap (λ i. named_by i (header_of form)) (header_no_inner form bytes is) ∙ ap (named_by None) is
 
 -- a map's root that isn't zero is named by its header
-pub root_named : (nodes : Lookup) (t : Hash) (form bytes : Bytes) (kind : Kind) → nodes t ≡ Some form → header_of form ≡ Some bytes → IsTrue (is_nonzero (header_root kind bytes))
+pub root_named : (nodes : Lookup) (t : Hash) (form bytes : Bytes) (kind : Kind) → nodes t ≡ Some form → header_of form ≡ Some bytes
+    → IsTrue (is_nonzero (header_root kind bytes))
     → IsNamed nodes t (header_root kind bytes)
 root_named nodes t form bytes kind stored is nonzero = record {
   by = t;
@@ -130,7 +138,8 @@ root_named nodes t form bytes kind stored is nonzero = record {
 }
 
 -- what is stored under the target is a header where the way begins
-begins : (nodes : Lookup) (kind : Kind) (path : List ℕ) (o : Option Bytes) (g : Hash) (q : Option (List Hash)) → spot_below nodes kind path (option_and_then header_of o) ≡ wanted g q
+begins : (nodes : Lookup) (kind : Kind) (path : List ℕ) (o : Option Bytes) (g : Hash) (q : Option (List Hash))
+    → spot_below nodes kind path (option_and_then header_of o) ≡ wanted g q
     → (form : Bytes) × (bytes : Bytes) × (o ≡ Some form) × (header_of form ≡ Some bytes) × (spot_from nodes [] None (header_root kind bytes) path ≡ wanted g q)
 begins nodes kind path None g q e = absurd (no_base_wanted e)
 begins nodes kind path (Some form) g q e = at (header_of form) refl e
@@ -141,7 +150,8 @@ begins nodes kind path (Some form) g q e = at (header_of form) refl e
     at (Some bytes) is e = (form, bytes, refl, is, e)
 
 -- what is wanted at a place of a ledger is named by what its target reaches
-pub wanted_named : (nodes : Lookup) (t : Hash) (kind : Kind) (path : List ℕ) (g : Hash) (q : Option (List Hash)) → spot_of nodes t kind path ≡ wanted g q → IsNamed nodes t g
+pub wanted_named : (nodes : Lookup) (t : Hash) (kind : Kind) (path : List ℕ) (g : Hash) (q : Option (List Hash))
+    → spot_of nodes t kind path ≡ wanted g q → IsNamed nodes t g
 wanted_named nodes t kind path g q e =
     let first : (form : Bytes) × (bytes : Bytes) × (nodes t ≡ Some form) × (header_of form ≡ Some bytes) × (spot_from nodes [] None (header_root kind bytes) path ≡ wanted g q) =
     begins nodes kind path (nodes t) g q e in

@@ -9,12 +9,14 @@ ghost use Rattle.ledger_machine.specs.State.{State, form_in, opening, retained};
 ghost use Rattle.ledger_machine.specs.Sound.{Sound, IsStoredAt};
 ghost use Rattle.ledger_machine.specs.Scripts.{IsAcquiring, IsInRange};
 ghost use Rattle.ledger_machine.specs.Steps.{Step};
-ghost use Rattle.ledger_machine.specs.Runs.{Run, Answers, IsRunOf};
+ghost use Rattle.ledger_machine.specs.Runs.{Run, Answers, IsRunOf, opening_of};
+ghost use Rattle.ledger_machine.specs.Records.{AreRecords};
 ghost use Rattle.ledger_machine.specs.Receipts.{AllStay};
 ghost use Rattle.ledger_machine.specs.Complete.{IsAllStored, IsExact, AreExact};
 ghost use Rattle.ledger_machine.specs.Collisions.{offered_in, Collides, IsClash};
 ghost use Rattle.ledger_machine.specs.declared.commands.Command.{Command};
 ghost use Rattle.ledger_machine.specs.declared.commands.Line.{Line};
+ghost use Rattle.ledger_machine.specs.declared.commands.Record.{Record};
 ghost use Rattle.ledger_machine.specs.declared.journal.Entry.{Entry};
 ghost use Rattle.ledger_machine.specs.declared.replies.CheckReply.{CheckReply};
 ghost use Rattle.ledger_machine.specs.declared.replies.Reply.{Reply};
@@ -24,6 +26,12 @@ pub fn the_opening_is_sound()
     ensures { (half : List ℕ → List ℕ) (records : Nodes) (interval : ℕ)
         → ((h form : List ℕ) → map.get records h ≡ Some form → IsStoredAt half h form)
         → Sound half (opening records interval) }
+{}
+
+/// So is one that has only a script's records.
+pub fn the_records_are_sound()
+    ensures { (half : List ℕ → List ℕ) (records : List Record) (interval : ℕ)
+        → AreRecords half records → Sound half (opening_of records interval) }
 {}
 
 /// A run goes on by one step.
@@ -72,11 +80,11 @@ pub fn nothing_of_a_retained_ledger_is_absent()
         → Sound half s → Contains (retained s) t → IsAllStored (form_in s) t }
 {}
 
-/// Over a store that was empty at first a clash shows two different forms that the script offers,
-/// with one hash. So without such forms no entry is a clash.
+/// Over a store that has only the script's records at first a clash shows two different forms that the script offers, with one hash. So
+/// without such forms no entry is a clash.
 pub fn a_clash_shows_two_forms_with_one_hash()
-    ensures { (half : List ℕ → List ℕ) (lines : List Line) (interval : ℕ) (entries : List Entry) (s' : State) (e : Entry)
-        → ((l : Line) → Contains lines l → IsAcquiring l.command)
-        → IsRunOf half lines interval entries s'
-        → Contains entries e → IsClash e.reply → Collides half (offered_in half lines) }
+    ensures { (half : List ℕ → List ℕ) (records : List Record) (lines : List Line) (interval : ℕ) (entries : List Entry) (s' : State) (e : Entry)
+        → AreRecords half records → ((l : Line) → Contains lines l → IsAcquiring l.command)
+        → IsRunOf half records lines interval entries s'
+        → Contains entries e → IsClash e.reply → Collides half (offered_in half records lines) }
 {}

@@ -8,6 +8,8 @@ use Rattle.ledger_spec.specs.Wire.{read_wire}
 use Rattle.ledger_machine.specs.declared.commands.Command.{Command}
 use Rattle.ledger_machine.specs.declared.commands.Command.TheVariants as command
 use Rattle.ledger_machine.specs.declared.commands.Line.{Line}
+use Rattle.ledger_machine.specs.declared.commands.Record.{Record}
+use Rattle.ledger_machine.specs.Records.{forms_of}
 use Rattle.ledger_machine.specs.declared.replies.Reply.{Reply}
 use Rattle.ledger_machine.specs.declared.replies.Reply.TheVariants as says
 
@@ -31,9 +33,9 @@ offered_by half (command.Base p t bytes state tx) = head_form bytes ++ part_form
 offered_by half (command.Node p t kind path blob) = part_form half (Some blob)
 offered_by half _ = []
 
--- the forms that a script offers
-abbrev pub offered_in : Half → List Line → List Bytes
-offered_in half lines = flat_map (λ l. offered_by half l.command) lines
+-- the forms that a script of these records and lines offers
+abbrev pub offered_in : Half → List Record → List Line → List Bytes
+offered_in half records lines = forms_of records ++ flat_map (λ l. offered_by half l.command) lines
 
 -- two different ones of these forms have one hash
 pub record Collides (half : Half) (forms : List Bytes) : Type 0 where

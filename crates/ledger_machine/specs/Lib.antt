@@ -1,6 +1,7 @@
 pub mod State
 pub mod Sound
 pub mod Scripts
+pub mod Records
 pub mod Want
 pub mod Peer
 pub mod Check

@@ -7,9 +7,11 @@ use Rattle.shamap_node.specs.Nodes.{held}
 use Rattle.ledger_spec.specs.Bytes.{Half}
 use Rattle.ledger_spec.specs.Forms.{Held}
 use Rattle.ledger_machine.specs.declared.commands.Line.{Line}
+use Rattle.ledger_machine.specs.declared.commands.Record.{Record}
 use Rattle.ledger_machine.specs.declared.journal.Entry.{Entry}
 use Rattle.ledger_machine.specs.State.{State, opening}
 use Rattle.ledger_machine.specs.Steps.{Step}
+use Rattle.ledger_machine.specs.Records.{with_records}
 use Rattle.ledger_machine.specs.Scripts.{line_of, numbers_of}
 
 -- how many actors there are, numbered from 0
@@ -33,13 +35,13 @@ abbrev pub Run : Half → List Line → State → List Entry → State → Type 
 Run half lines s [] s' = s' ≡ s
 Run half lines s (e ∷ rest) s' = (mid : State) × Answers half lines s e mid × Run half lines mid rest s'
 
--- the opening of a script with an interval: its records, all of them born in epoch 0; a script has no records at present
-abbrev pub opening_of : List Line → ℕ → State
-opening_of lines interval = opening finite.empty interval
+-- the opening of a script of these records with an interval: the records, all of them born in epoch 0
+abbrev pub opening_of : List Record → ℕ → State
+opening_of records interval = opening (with_records finite.empty records) interval
 
--- the journal is a run of the script from its opening to the state
-abbrev pub IsRunOf : Half → List Line → ℕ → List Entry → State → Type 0
-IsRunOf half lines interval journal s = Run half lines (opening_of lines interval) journal s
+-- the journal is a run of a script of these records and lines from its opening to the state
+abbrev pub IsRunOf : Half → List Record → List Line → ℕ → List Entry → State → Type 0
+IsRunOf half records lines interval journal s = Run half lines (opening_of records interval) journal s
 
 -- the numbers of the lines that an actor's entries answer, in order
 abbrev pub answered_by : ℕ → List Entry → List ℕ

@@ -1,7 +1,7 @@
 -- The lines of a script: their numbers, and the ranges of what they say.
 use Rattle.std.specs.Prelude.{◌≡◌, ℕ, ◌<◌, ◌≤◌, ◌^◌, ◌==◌, List, [], ◌∷◌, length, map, slice_index, codes, IsTrue, Option, None, Some}
 use Rattle.std.specs.List.{filter, find}
-use Rattle.ledger_spec.specs.Bytes.{Bytes, is_nonzero, are_bytes}
+use Rattle.ledger_spec.specs.Bytes.{Bytes, Hash, is_nonzero, are_bytes}
 use Rattle.ledger_spec.specs.declared.Kind.{Kind}
 use Rattle.ledger_spec.specs.declared.Kind.TheVariants.{State, Tx, Set}
 use Rattle.ledger_machine.specs.declared.commands.Command.{Command}
@@ -77,11 +77,15 @@ abbrev pub IfBytes : Option Bytes → Type 0
 IfBytes None = Unit {0}
 IfBytes (Some bytes) = AreBytes bytes
 
+-- what a base reply brings: a target that isn't zero, and parts of bytes
+abbrev pub AreOffered : Hash → Bytes → Option Bytes → Option Bytes → Type 0
+AreOffered t head state tx = IsTrue (is_nonzero t) × AreBytes head × IfBytes state × IfBytes tx
+
 -- no target and no key is zero, but for the key that a page stands behind; maps are a ledger's, and what is brought is bytes
 abbrev pub IsInRange : Command → Type 0
 IsInRange (command.Want t seq) = IsTrue (is_nonzero t)
 IsInRange (command.Peer p t) = IsTrue (is_nonzero t)
-IsInRange (command.Base p t head state tx) = IsTrue (is_nonzero t) × AreBytes head × IfBytes state × IfBytes tx
+IsInRange (command.Base p t head state tx) = AreOffered t head state tx
 IsInRange (command.Node p t kind path blob) = IsTrue (is_nonzero t) × IsLedgerMap kind × AreBytes blob
 IsInRange (command.Check t) = IsTrue (is_nonzero t)
 IsInRange (command.Tick t) = IsTrue (is_nonzero t)

@@ -110,8 +110,18 @@ pub struct Line {
     pub command: Command,
 }
 
-/// The command lines of a script, in order.
+/// A stored form that a script begins with.
+#[derive(Drop)]
+pub struct Record {
+    /// The form's hash.
+    pub hash: Hash32,
+    /// The form of a node or a header.
+    pub form: Blob,
+}
+
+/// A script: what the store begins with, and the command lines in order.
 #[derive(Drop)]
 pub struct Script {
+    pub records: Vec<Record>,
     pub lines: Vec<Line>,
 }

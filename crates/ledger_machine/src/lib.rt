@@ -5,7 +5,7 @@ mod commands;
 mod journal;
 mod replies;
 
-pub use commands::{Command, Line, Script};
+pub use commands::{Command, Line, Record, Script};
 pub use journal::{Entry, Totals};
 pub use ledger_spec::{HeadOffered, Offered, Places};
 pub use replies::{

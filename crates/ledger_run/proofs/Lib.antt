@@ -1,3 +1,6 @@
 pub mod Printing
 pub mod Refusals
 pub mod Statuses
+pub mod Opening
+pub mod Dumping
+pub mod Ending

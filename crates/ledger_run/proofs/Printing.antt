@@ -17,7 +17,8 @@ printed lines journal i = flat_map (entry_line lines) (take i journal)
 
 module _ (lines : List Line) (journal : List Entry) (totals : Totals) where
   -- with one entry more
-  pub printed_more : (i : ℕ) (e : Entry) → i < length journal → e ≡ get_or journal i e → printed lines journal i ++ entry_line lines e ≡ printed lines journal (i + 1)
+  pub printed_more : (i : ℕ) (e : Entry) → i < length journal → e ≡ get_or journal i e
+      → printed lines journal i ++ entry_line lines e ≡ printed lines journal (i + 1)
   printed_more i e lt at =
       sym (ap (flat_map (entry_line lines)) (take_more journal i e lt ∙ ap (λ (x : Entry). take i journal ++ x ∷ []) (sym at))
       ∙ flat_map-append (entry_line lines) (take i journal) (e ∷ []) ∙ ap (λ (w : List ℕ). printed lines journal i ++ w) (append-nil (entry_line lines e)))
@@ -31,14 +32,18 @@ module _ (lines : List Line) (journal : List Entry) (totals : Totals) where
   )
 
   -- an entry's text behind those of the entries before it
-  pub printed_with : (i : ℕ) (e : Entry) → i < length journal → e ≡ get_or journal i e → IsPrefix (printed lines journal i ++ entry_line lines e) (output lines journal totals)
+  pub printed_with : (i : ℕ) (e : Entry) → i < length journal → e ≡ get_or journal i e
+      → IsPrefix (printed lines journal i ++ entry_line lines e) (output lines journal totals)
   printed_with i e lt at =
       let P : List ℕ → Type 0 = λ w. IsPrefix w (output lines journal totals) in
       subst P (sym (printed_more i e lt at)) (printed_front (i + 1))
 
   -- the summary behind them all
-  pub printed_all : (i : ℕ) (text : List ℕ) → length journal ≤ i → text ≡ summary_text totals → printed lines journal i ++ text ≡ output lines journal totals
-  printed_all i text le is = ap (λ (w : List ℕ). printed lines journal i ++ w) is ∙ ap (λ (es : List Entry). flat_map (entry_line lines) es ++ summary_text totals) (take_all i journal le)
+  pub printed_all : (i : ℕ) (text : List ℕ) → length journal ≤ i → text ≡ summary_text totals
+      → printed lines journal i ++ text ≡ output lines journal totals
+  printed_all i text le is =
+      ap (λ (w : List ℕ). printed lines journal i ++ w) is
+      ∙ ap (λ (es : List Entry). flat_map (entry_line lines) es ++ summary_text totals) (take_all i journal le)
 
 pub prefix_self : (a text : List ℕ) → a ≡ text → IsPrefix a text
 prefix_self a text is = ([], append-nil a ∙ is)

@@ -1,2 +1,3 @@
 pub mod Output
+pub mod Dump
 pub mod Top

@@ -1,5 +1,5 @@
 -- What is printed of a run.
-use Rattle.std.specs.Prelude.{ℕ, List, [], ◌∷◌, ◌++◌, Bool, true, false, codes, flat_map, if◌then◌else◌}
+use Rattle.std.specs.Prelude.{ℕ, List, [], ◌∷◌, ◌++◌, Bool, true, false, codes, flat_map, nat_lt, ◌||◌, if◌then◌else◌}
 use Rattle.std.specs.Option.{option_map_or}
 use Rattle.std.specs.List.{list_any}
 use Rattle.std.specs.Fmt.{decimal}
@@ -52,10 +52,11 @@ met_fault e = is_fault e.reply
 abbrev pub wanted_memory : Entry → Bool
 wanted_memory e = is_memory e.reply
 
--- the status of a journal that was printed whole: of a clash or a zero hash, else of a fault, else of want of memory
-abbrev pub status_of : List Entry → ℕ
-status_of journal =
+-- the status of a journal that was printed whole, and of the calls for a dump that failed: of a clash or a zero hash, else of a fault or
+-- such a call, else of want of memory
+abbrev pub status_of : List Entry → ℕ → ℕ
+status_of journal missed =
     if list_any shows_clash journal then CLASHED
-    else if list_any met_fault journal then STORE_FAILED
+    else if list_any met_fault journal || nat_lt 0 missed then STORE_FAILED
     else if list_any wanted_memory journal then NO_MEMORY
     else FINE

@@ -2,6 +2,7 @@
 //! prints its journal.
 #![tactic(auto)]
 
+mod dump;
 #[cfg(test)]
 mod rows;
 mod run;
@@ -9,13 +10,14 @@ mod status;
 #[cfg(test)]
 mod tests;
 
-ghost use Rattle.std.specs.Prelude.{◌≡◌, ◌↔◌, ◌∷◌, [], map, codes, IfOk, IfSome, IsNone, string_bytes};
+ghost use Rattle.std.specs.Prelude.{◌≡◌, ◌↔◌, true, ◌∷◌, [], map, IfOk, IfSome, IsNone, string_bytes};
 ghost use Rattle.std.specs.Process.{exit_status};
-ghost use Rattle.ledger_run.specs.declared.status.TheConstants.{USAGE, REFUSED, SOURCE_FAILED, NO_MEMORY};
-ghost use Rattle.ledger_run.specs.Top.{IsReplay, IsOneOf, IsWhole, HasStatus};
+ghost use Rattle.ledger_run.specs.declared.status.TheConstants.{USAGE, REFUSED, SOURCE_FAILED, STORE_FAILED, NO_MEMORY};
+ghost use Rattle.ledger_run.specs.Top.{IsReplay, AskForRun, IsOneOf, IsWhole, HasStatus};
 
 use actor_pool::OpenGate;
 use half_hash::{Half512, NodeHash};
+use node_backend::MemShelf;
 use run::{Ended, ledger_run, without_core};
 use run_io::{StdSink, StdSource};
 use status::NO_MEMORY;
@@ -37,7 +39,7 @@ fn exit_code(status: u8) -> ExitCode
 }
 
 /// The status of the run with the words behind the program's name. Words that are no text are other
-/// words than `replay`. The runtime is handed in twice: as itself for standard input, and by its bounds
+/// words than the command's. The runtime is handed in twice: as itself for standard input, and by its bounds
 /// for the threads.
 fn status_of<R: Threads + Wait + Sync>(rt: &HostRuntime, threads: &R) -> u8 {
     match words_of(rt) {
@@ -68,13 +70,13 @@ fn run_with<R: Threads + Wait + Sync>(
     rt: &HostRuntime,
     threads: &R,
     words: &[String],
-) -> Ended<Half512>
-    ensures usage { result.status ≡ USAGE → map string_bytes words.now ≡ codes "replay" ∷ [] → ⊥ }
-    ensures others { (map string_bytes words.now ≡ codes "replay" ∷ [] → ⊥) → IsOneOf result.status (USAGE ∷ NO_MEMORY ∷ []) }
+) -> Ended<Half512, MemShelf>
+    ensures usage { result.status ≡ USAGE → AskForRun (map string_bytes words.now) → ⊥ }
+    ensures others { (AskForRun (map string_bytes words.now) → ⊥) → IsOneOf result.status (USAGE ∷ NO_MEMORY ∷ []) }
     // The core and the status are those of a run.
-    ensures whole { IfSome result.core (IsWhole (⟦<Half512 as NodeHash>⟧.half)) }
-    ensures status { IfSome result.core (HasStatus (⟦<Half512 as NodeHash>⟧.half) result.status) }
-    ensures none { IsNone result.core → IsOneOf result.status (USAGE ∷ REFUSED ∷ SOURCE_FAILED ∷ NO_MEMORY ∷ []) }
+    ensures whole { IfSome result.core (IsWhole (⟦<Half512 as NodeHash>⟧.half) true) }
+    ensures status { IfSome result.core (HasStatus (⟦<Half512 as NodeHash>⟧.half) true result.status) }
+    ensures none { IsNone result.core → IsOneOf result.status (USAGE ∷ REFUSED ∷ SOURCE_FAILED ∷ STORE_FAILED ∷ NO_MEMORY ∷ []) }
 {
     match texts_of(rt, words) {
         Ok(texts) => run_on(rt, threads, &texts),
@@ -94,21 +96,27 @@ fn texts_of<'a>(rt: &HostRuntime, words: &'a [String]) -> Result<Vec<&'a str>, A
 }
 
 /// A run over standard input and output with SHA-512Half.
-fn run_on<R: Threads + Wait + Sync>(rt: &HostRuntime, threads: &R, words: &[&str]) -> Ended<Half512>
+fn run_on<R: Threads + Wait + Sync>(
+    rt: &HostRuntime,
+    threads: &R,
+    words: &[&str],
+) -> Ended<Half512, MemShelf>
     ensures usage { (result.status ≡ USAGE) ↔ (IsReplay words.now → ⊥) }
-    ensures whole { IfSome result.core (IsWhole (⟦<Half512 as NodeHash>⟧.half)) }
-    ensures status { IfSome result.core (HasStatus (⟦<Half512 as NodeHash>⟧.half) result.status) }
-    ensures none { IsNone result.core → IsOneOf result.status (USAGE ∷ REFUSED ∷ SOURCE_FAILED ∷ NO_MEMORY ∷ []) }
+    ensures whole { IfSome result.core (IsWhole (⟦<Half512 as NodeHash>⟧.half) true) }
+    ensures status { IfSome result.core (HasStatus (⟦<Half512 as NodeHash>⟧.half) true result.status) }
+    ensures none { IsNone result.core → IsOneOf result.status (USAGE ∷ REFUSED ∷ SOURCE_FAILED ∷ STORE_FAILED ∷ NO_MEMORY ∷ []) }
 {
     let mut source = StdSource::new(rt.stdin());
     let mut sink = StdSink::new(rt.stdout());
+    let alloc = rt.alloc();
     ledger_run(
         threads,
-        rt.alloc(),
+        alloc,
         words,
         Half512,
         &mut source,
         &mut sink,
+        MemShelf::new(alloc, Vec::new(alloc), Vec::new(alloc)),
         &OpenGate,
     )
 }

@@ -1,12 +1,15 @@
 //! Worked scripts of base replies and nodes, over the hash that adds the bytes.
 use crate::run::ledger_run;
 use actor_pool::OpenGate;
-use half_hash::{Blob, Half512, Hash32, TinyHash};
+use half_hash::{Blob, Half512, Hash32, Memory, TinyHash};
 use ledger_header::Header;
+use node_backend::MemShelf;
 use run_io::{MemSink, MemSource};
 use shamap_node::{Inner, Item, Kind, Leaf, Node, encode_form, hash_of};
-use std::alloc::Global;
+use std::alloc::{AllocError, Global};
+use std::sync::Wait;
 use std::test::Fail;
+use std::thread::Threads;
 
 /// A script, the status, and the journal, in short: `[xx]` is the byte xx and 31 zero bytes, `_` is 32
 /// zero bytes, `@` the header of ledger 10, and `#` the root of its state map.
@@ -45,6 +48,22 @@ const WHOLE_SAYS: &str = "1 0 want opened
 7 0 node duplicate
 8 0 check complete
 9 0 check notopen
+end complete 1 closed 0 listed 1 floor 0 last 10 epoch 0
+";
+
+/// All that is stored then: the header, the root and the leaf.
+const DUMP: &str = "store [DD] 4C575200@
+store [DE] 4D494E00_[FA]______________
+store [FA] 4D4C4E000102[10]
+";
+
+/// Behind these records the ledger is whole without asking anybody.
+const AGAIN: &str = "0 want [DD] 0
+0 check [DD]
+";
+
+const AGAIN_SAYS: &str = "4 0 want opened
+5 0 check complete
 end complete 1 closed 0 listed 1 floor 0 last 10 epoch 0
 ";
 
@@ -350,6 +369,72 @@ const WAITING_SAYS: &str = "1 0 want opened
 end complete 1 closed 0 listed 1 floor 0 last 10 epoch 0
 ";
 
+/// What fails alone, the status that it gives, and how many calls of it a run of the whole ledger with its
+/// dump makes: the source, the sink, the shelf, the archive and the writable backend.
+const DEVICES: [(u8, u64); 5] = [(4, 6), (5, 13), (6, 2), (6, 9), (6, 26)];
+
+/// More calls than any device is used in.
+const MANY_CALLS: u64 = 64;
+
+/// The one failing call of a device, if it is this one.
+fn failing(alloc: Global, is: bool, call: u64) -> Result<Vec<u64>, AllocError> {
+    let mut calls = Vec::new(alloc);
+    if is {
+        calls.push(call)?;
+    }
+    Ok(calls)
+}
+
+/// A run with a dump in which one call of one device fails: its status, and what it printed.
+fn run_failing<R: Threads + Wait + Sync>(
+    rt: &R,
+    alloc: Global,
+    script: &[u8],
+    device: usize,
+    call: u64,
+) -> Result<(u8, Vec<u8>), Memory> {
+    let bytes = Vec::from_slice(alloc, script)?;
+    let mut source = MemSource::new(bytes, 500, failing(alloc, device == 0, call)?);
+    let mut sink = MemSink::new(alloc, 16384, failing(alloc, device == 1, call)?)?;
+    let plans = vec![in alloc;
+        failing(alloc, device == 3, call)?,
+        failing(alloc, device == 4, call)?,
+    ]?;
+    let shelf = MemShelf::new(alloc, plans, failing(alloc, device == 2, call)?);
+    let ended = ledger_run(
+        rt,
+        alloc,
+        &["replay", "--dump"],
+        TinyHash,
+        &mut source,
+        &mut sink,
+        shelf,
+        &OpenGate,
+    );
+    Ok((ended.status, Vec::from_slice(alloc, sink.held())?))
+}
+
+#[test]
+fn one_failing_call(rt: HostRuntime) -> Result<(), Fail> {
+    let alloc = rt.alloc();
+    let script = expand(alloc, WHOLE)?;
+    let says = expand_both(alloc, WHOLE_SAYS, DUMP)?;
+    for (device, (status, calls)) in DEVICES.iter().enumerate() {
+        let mut failed: u64 = 0;
+        for call in 1..=MANY_CALLS {
+            let (ended, printed) = run_failing(&rt, alloc, script.as_slice(), device, call)?;
+            if ended == 0 {
+                assert_eq!(rt; printed.as_slice(), says.as_slice());
+            } else {
+                assert_eq!(rt; ended, *status);
+                failed = failed.saturating_add(1);
+            }
+        }
+        assert_eq!(rt; failed, *calls, "{device}");
+    }
+    Ok(())
+}
+
 #[test]
 fn rows(rt: HostRuntime) -> Result<(), Fail> {
     let alloc = rt.alloc();
@@ -364,12 +449,29 @@ fn rows(rt: HostRuntime) -> Result<(), Fail> {
             TinyHash,
             &mut source,
             &mut sink,
+            MemShelf::new(alloc, Vec::new(alloc), Vec::new(alloc)),
             &OpenGate,
         );
         let says = expand(alloc, says)?;
         assert_eq!(rt; sink.held(), says.as_slice(), "{script}");
         assert_eq!(rt; ended.status, *status, "{script}");
     }
+    Ok(())
+}
+
+#[test]
+fn a_dump_is_read_again(rt: HostRuntime) -> Result<(), Fail> {
+    let alloc = rt.alloc();
+    let script = expand(alloc, WHOLE)?;
+    let says = expand_both(alloc, WHOLE_SAYS, DUMP)?;
+    let (status, printed) = run_failing(&rt, alloc, script.as_slice(), 0, MANY_CALLS)?;
+    assert_eq!(rt; printed.as_slice(), says.as_slice());
+    assert_eq!(rt; status, 0);
+    let script = expand_both(alloc, DUMP, AGAIN)?;
+    let says = expand_both(alloc, AGAIN_SAYS, DUMP)?;
+    let (status, printed) = run_failing(&rt, alloc, script.as_slice(), 0, MANY_CALLS)?;
+    assert_eq!(rt; printed.as_slice(), says.as_slice());
+    assert_eq!(rt; status, 0);
     Ok(())
 }
 
@@ -386,6 +488,14 @@ fn expand(alloc: Global, short: &str) -> Result<Vec<u8>, Fail> {
             other => add(&mut text, other)?,
         }
     }
+    Ok(text)
+}
+
+/// Two such texts, one behind the other.
+fn expand_both(alloc: Global, first: &str, second: &str) -> Result<Vec<u8>, Fail> {
+    let mut text = expand(alloc, first)?;
+    let rest = expand(alloc, second)?;
+    text.extend_from_slice(&rest)?;
     Ok(text)
 }
 
@@ -452,6 +562,7 @@ fn a_ledger_that_is_made_here(rt: HostRuntime) -> Result<(), Fail> {
         Half512,
         &mut source,
         &mut sink,
+        MemShelf::new(alloc, Vec::new(alloc), Vec::new(alloc)),
         &OpenGate,
     );
     assert_eq!(rt;

@@ -1,13 +1,18 @@
 //! The top call: reads a script, runs it, and prints its journal.
-ghost use Rattle.std.specs.Prelude.{None, ◌≡◌, ◌↔◌, ◌≤◌, ◌∷◌, [], IfErr, OnOk, OnErr, IfSome, IsTrue};
+ghost use Rattle.std.specs.Prelude.{None, ◌≡◌, ◌⊎◌, ◌↔◌, ◌≤◌, ◌∷◌, [], IfErr, OnOk, OnErr, IfSome, IsTrue, MatchOption, if◌then◌else◌, map, codes};
 ghost use Rattle.std.specs.List.{list_any};
 ghost use Rattle.run_io.specs.Bytes.{Rose, Wrote, WrotePart};
+ghost use Rattle.rotating_store.specs.Stores.{Store};
 ghost use Rattle.ledger_run.specs.declared.status.TheConstants.{REFUSED, NO_MEMORY};
 ghost use Rattle.ledger_run.specs.Output.{entry_line, refused_text, status_of, shows_clash as clash_shown};
 ghost use Rattle.ledger_run.specs.Output.{met_fault as fault_met, wanted_memory as memory_wanted};
-ghost use Rattle.ledger_run.specs.Top.{IsReplay, IsOneOf, WroteOrFailed, text_of, IsRunOfInput, HasPrinted, HasStatus, EndsWell};
-ghost use Rattle.ledger_run.specs.Top.{IsUsage, IsRefusal, HasCause};
+ghost use Rattle.ledger_run.specs.Top.{IsReplay, AskForDump, IsOneOf, WroteOrFailed, text_of, IsRunOfInput, HasPrinted, HasDumped};
+ghost use Rattle.ledger_run.specs.Top.{HasStatus, HasSaid, PrintsMore, IsCalm, EndsWell};
+ghost use Rattle.store_core.specs.Dumping.{Lists};
+ghost use Rattle.ledger_run.specs.Top.{IsUsage, IsRefusal, HasCause, HasNotOpened};
 
+pub use crate::dump::DumpEnd;
+use crate::dump::{DumpFault, print_records};
 use crate::status::{
     CLASHED, FINE, NO_MEMORY, REFUSED, SINK_FAILED, SOURCE_FAILED, STORE_FAILED, USAGE,
 };
@@ -15,6 +20,8 @@ use actor_pool::{Gate, run_actors};
 use half_hash::NodeHash;
 use journal_text::{line, summary};
 use ledger_machine::{Entry, Reply};
+use node_backend::Shelf;
+use rotating_store::Unopened;
 use run_io::{AllFault, Sink, Source, write_all};
 use script_form::{ScriptFault, read_script};
 use std::alloc::Global;
@@ -24,18 +31,29 @@ use store_core::Core;
 
 /// How a run ended, with the core that it left.
 #[derive(Drop)]
-pub struct Ended<H: NodeHash> {
+pub struct Ended<H: NodeHash, Sh: Shelf> {
     /// One of the exit statuses.
     pub status: u8,
     /// The core that the run left; none where there was no run.
-    pub core: Option<Core<H>>,
+    pub core: Option<Core<H, Sh>>,
+    /// What is left of the shelf; some only where the store wasn't opened.
+    pub unopened: Option<Unopened<Sh>>,
+    /// How the dump ended.
+    pub dump: DumpEnd,
 }
 
 const USAGE_TEXT: &[u8; 33] = b"usage: ledger_run replay | swarm\n";
 
-/// Whether the words are the one word `replay`.
+/// Whether the words are the command: `replay`, with or without `--dump`.
 fn is_replay(words: &[&str]) -> bool
     ensures { IsTrue result ↔ IsReplay words.now }
+{
+    is_bare(words) || asks_dump(words)
+}
+
+/// Whether the words are the one word `replay`.
+fn is_bare(words: &[&str]) -> bool
+    ensures { IsTrue result ↔ (map (λ w. w.now) words.now ≡ codes "replay" ∷ []) }
 {
     match words {
         [word] => *word == "replay",
@@ -43,10 +61,20 @@ fn is_replay(words: &[&str]) -> bool
     }
 }
 
+/// Whether the words are `replay --dump`.
+fn asks_dump(words: &[&str]) -> bool
+    ensures { IsTrue result ↔ AskForDump (map (λ w. w.now) words.now) }
+{
+    match words {
+        [word, option] => *word == "replay" && *option == "--dump",
+        _ => false,
+    }
+}
+
 /// Prints the line of an entry.
-fn print_entry<H: NodeHash, K: Sink>(
+fn print_entry<H: NodeHash, Sh: Shelf, K: Sink>(
     alloc: Global,
-    core: &Core<H>,
+    core: &Core<H, Sh>,
     entry: &Entry,
     sink: &mut K,
 ) -> Result<(), AllFault>
@@ -66,9 +94,14 @@ fn print_entry<H: NodeHash, K: Sink>(
 }
 
 /// Prints the journal and the summary.
-fn print<H: NodeHash, K: Sink>(alloc: Global, core: &Core<H>, sink: &mut K) -> Result<(), AllFault>
+fn print<H: NodeHash, Sh: Shelf, K: Sink>(
+    alloc: Global,
+    core: &Core<H, Sh>,
+    sink: &mut K,
+) -> Result<(), AllFault>
     ensures wrote { OnOk result (Wrote (K.held sink.old) (K.held sink.new) (text_of core.now)) }
     ensures part { OnErr result (WrotePart (K.held sink.old) (K.held sink.new) (text_of core.now)) }
+    ensures later { K.faults sink.old ≤ K.faults sink.new }
     ensures cause { IfErr result (λ e. e ≡ AllFault.Fault → Rose (K.faults sink.old) (K.faults sink.new)) }
 {
     for entry in core.journal() {
@@ -81,13 +114,74 @@ fn print<H: NodeHash, K: Sink>(alloc: Global, core: &Core<H>, sink: &mut K) -> R
     Ok(())
 }
 
-/// The status of a journal that was printed whole.
-fn journal_status(journal: &[Entry]) -> u8
-    ensures { result ≡ status_of journal.now }
+/// Prints the journal and the summary, and the dump where one is asked for: the status, and how the dump ended.
+fn print_all<H: NodeHash, Sh: Shelf, K: Sink>(
+    alloc: Global,
+    core: &mut Core<H, Sh>,
+    sink: &mut K,
+    asked: bool,
+) -> (u8, DumpEnd)
+    requires { core.old.missed ≡ 0 }
+    ensures lists { Lists Sh.B.tells core.old core.new }
+    ensures printed { HasPrinted Sh.B.tells (IsTrue asked) (K.held sink.old) (K.held sink.new) result.0 result.1 core.new }
+    ensures said { HasSaid result.0 core.new (K.faults sink.old) (K.faults sink.new) }
+{
+    match print(alloc, core, sink) {
+        Ok(()) => print_dump(alloc, core, sink, asked),
+        Err(AllFault::Fault) => (SINK_FAILED, unprinted(asked)),
+        Err(AllFault::Memory) => (NO_MEMORY, unprinted(asked)),
+    }
+}
+
+/// The same behind the summary.
+fn print_dump<H: NodeHash, Sh: Shelf, K: Sink>(
+    alloc: Global,
+    core: &mut Core<H, Sh>,
+    sink: &mut K,
+    asked: bool,
+) -> (u8, DumpEnd)
+    requires { core.old.missed ≡ 0 }
+    ensures lists { Lists Sh.B.tells core.old core.new }
+    ensures printed { PrintsMore Sh.B.tells core.old.state.nodes (K.held sink.old) (K.held sink.new) result.0 result.1 }
+    ensures dumped { HasDumped (IsTrue asked) result.0 result.1 core.new }
+    ensures said { HasSaid result.0 core.new (K.faults sink.old) (K.faults sink.new) }
+{
+    if !asked {
+        return (own_status(core), DumpEnd::NotAsked);
+    }
+    match print_records(alloc, core, sink) {
+        Ok(()) => (own_status(core), DumpEnd::Whole),
+        Err(DumpFault::Store) => (own_status(core), DumpEnd::Faulted),
+        Err(DumpFault::Sink) => (SINK_FAILED, DumpEnd::Cut),
+        Err(DumpFault::Memory) => (NO_MEMORY, DumpEnd::Cut),
+    }
+}
+
+/// How the dump ended that none was printed of.
+fn unprinted(asked: bool) -> DumpEnd
+    ensures { result ≡ (if asked then DumpEnd.Cut else DumpEnd.NotAsked) }
+{
+    if asked {
+        DumpEnd::Cut
+    } else {
+        DumpEnd::NotAsked
+    }
+}
+
+/// The status of a core whose journal was printed.
+fn own_status<H: NodeHash, Sh: Shelf>(core: &Core<H, Sh>) -> u8
+    ensures { result ≡ status_of core.now.journal core.now.missed }
+{
+    journal_status(core.journal(), core.missed())
+}
+
+/// The status of a journal that was printed whole, and of so many missed calls.
+fn journal_status(journal: &[Entry], missed: u64) -> u8
+    ensures { result ≡ status_of journal.now missed }
 {
     if has_clash(journal) {
         CLASHED
-    } else if has_fault(journal) {
+    } else if has_fault(journal) || missed > 0 {
         STORE_FAILED
     } else if has_memory(journal) {
         NO_MEMORY
@@ -159,38 +253,72 @@ fn refuse<K: Sink>(alloc: Global, line: u32, cause: u8, sink: &mut K) -> u8
 }
 
 /// No run took place.
-pub(crate) fn without_core<H: NodeHash>(status: u8) -> Ended<H>
+pub(crate) fn without_core<H: NodeHash, Sh: Shelf>(status: u8) -> Ended<H, Sh>
     ensures status { result.status ≡ status }
     ensures core { result.core ≡ None }
+    ensures dump { result.dump ≡ DumpEnd.NotAsked }
+    ensures unopened { result.unopened ≡ None }
 {
-    Ended { status, core: None }
+    Ended {
+        status,
+        core: None,
+        unopened: None,
+        dump: DumpEnd::NotAsked,
+    }
 }
 
-/// Reads a script, answers each of its lines, and prints the journal of what was answered.
+/// No run took place, since the store wasn't opened.
+fn not_opened<H: NodeHash, Sh: Shelf>(unopened: Unopened<Sh>) -> Ended<H, Sh>
+    ensures shelf { (s : Sh) → unopened ≡ Unopened.Shelf s → result.status ≡ STORE_FAILED }
+    ensures store { (t : Store) → unopened ≡ Unopened.Store t → result.status ≡ STORE_FAILED }
+    ensures memory { unopened ≡ Unopened.Memory → result.status ≡ NO_MEMORY }
+    ensures core { result.core ≡ None }
+    ensures dump { result.dump ≡ DumpEnd.NotAsked }
+    ensures unopened { result.unopened ≡ Some unopened }
+{
+    let status = match &unopened {
+        Unopened::Memory => NO_MEMORY,
+        _ => STORE_FAILED,
+    };
+    Ended {
+        status,
+        core: None,
+        unopened: Some(unopened),
+        dump: DumpEnd::NotAsked,
+    }
+}
+
+/// Reads a script, answers each of its lines, and prints the journal of what was answered, and with `--dump` all that is stored then.
 ///
-/// The first that is met is answered: other words than `replay`; want of memory; the source failed; the
-/// script is refused. After the run it is the sink's failing, or want of memory in printing; then a clash,
-/// a fault and want of memory by the journal's replies.
-pub fn ledger_run<R: Threads + Wait + Sync, H: NodeHash, S: Source, K: Sink, G: Gate>(
+/// The first that is met is answered: other words than the command's; want of memory; the source failed; the
+/// script is refused; the store can't be opened. After the run it is the sink's failing, or want of memory in printing; then a clash,
+/// a fault, also in the dump, and want of memory by the journal's replies.
+pub fn ledger_run<R: Threads + Wait + Sync, H: NodeHash, S: Source, K: Sink, Sh: Shelf, G: Gate>(
     rt: &R,
     alloc: Global,
     words: &[&str],
     hash: H,
     source: &mut S,
     sink: &mut K,
+    shelf: Sh,
     gate: &G,
-) -> Ended<H>
-    ensures run { IfSome result.core (IsRunOfInput H.half (S.left source.old) (S.left source.new)) }
-    ensures printed { IfSome result.core (HasPrinted (K.held sink.old) (K.held sink.new) result.status) }
-    ensures status { IfSome result.core (HasStatus H.half result.status) }
+) -> Ended<H, Sh>
+    ensures run { IfSome result.core (IsRunOfInput H.half Sh.B.tells (S.left source.old) (S.left source.new)) }
+    ensures printed { MatchOption result.core (result.dump ≡ DumpEnd.NotAsked)
+        (HasPrinted Sh.B.tells (AskForDump (map (λ w. w.now) words.now)) (K.held sink.old) (K.held sink.new) result.status result.dump) }
+    ensures status { IfSome result.core (HasStatus H.half Sh.B.tells result.status) }
     ensures complete { (Rose (S.faults source.old) (S.faults source.new) → ⊥) → (Rose (K.faults sink.old) (K.faults sink.new) → ⊥)
-        → EndsWell H.half words.now (S.left source.old) result.status }
+        → IfSome result.core IsCalm → IfSome result.unopened (λ u. u ≡ Unopened.Memory) → EndsWell H.half Sh.B.tells words.now (S.left source.old) result.status }
     ensures usage { IsUsage words.now result.status (K.held sink.old) (K.held sink.new) (K.faults sink.old) (K.faults sink.new)
         (source.new ≡ source.old) }
-    ensures refusal { IsRefusal words.now result.status (S.left source.old) (S.left source.new) (K.held sink.old) (K.held sink.new)
+    ensures refusal { IsRefusal H.half words.now result.status (S.left source.old) (S.left source.new) (K.held sink.old) (K.held sink.new)
         (K.faults sink.old) (K.faults sink.new) result.core }
     ensures cause { HasCause result.status (S.left source.old) (S.left source.new) (S.faults source.old) (S.faults source.new)
         (K.faults sink.old) (K.faults sink.new) result.core (sink.new ≡ sink.old) }
+    ensures opening { HasNotOpened result.status result.core result.unopened
+        (λ u. ((s : Sh) × (u ≡ Unopened.Shelf s) × Rose (Sh.faults shelf) (Sh.faults s))
+        ⊎ ((t : Store) × (u ≡ Unopened.Store t) × Rose (Sh.faults shelf) t.faults))
+        (λ u. u ≡ Unopened.Memory) (sink.new ≡ sink.old) }
 {
     if !is_replay(words) {
         let _ = write_all(sink, USAGE_TEXT);
@@ -204,17 +332,18 @@ pub fn ledger_run<R: Threads + Wait + Sync, H: NodeHash, S: Source, K: Sink, G: 
             return without_core(refuse(alloc, line, cause, sink));
         }
     };
-    let Ok(core) = Core::open(alloc, hash, script) else {
-        return without_core(NO_MEMORY);
+    let core = match Core::open(alloc, hash, script, shelf) {
+        Ok(core) => core,
+        Err(unopened) => return not_opened(unopened),
     };
-    let core = run_actors(rt, alloc, core, gate);
-    let status = match print(alloc, &core, sink) {
-        Ok(()) => journal_status(core.journal()),
-        Err(AllFault::Fault) => SINK_FAILED,
-        Err(AllFault::Memory) => NO_MEMORY,
-    };
+    let mut core = run_actors(rt, alloc, core, gate);
+    let (status, dump) = print_all(alloc, &mut core, sink, asks_dump(words));
+    // For its contract.
+    let _ = core.journal();
     Ended {
         status,
         core: Some(core),
+        unopened: None,
+        dump,
     }
 }

@@ -15,7 +15,7 @@ pub const SOURCE_FAILED: u8 = 4;
 /// The sink failed.
 pub const SINK_FAILED: u8 = 5;
 
-/// The store failed in a line. The store in memory has no faults, so it isn't given at present.
+/// The store failed, in a line or before the run.
 pub const STORE_FAILED: u8 = 6;
 
 /// The journal shows a clash or a zero hash.

@@ -1,41 +1,48 @@
 use crate::run::ledger_run;
 use actor_pool::OpenGate;
 use half_hash::TinyHash;
+use node_backend::MemShelf;
 use run_io::{MemSink, MemSource};
 use std::test::Fail;
 
-/// The words, a script, the read and the write that fail (0 for none), and what must come of it.
+/// The words, a script, the read, the write and the shelf's call that fail (0 for none), and what must
+/// come of it.
 type Case = (
     &'static [&'static str],
     &'static str,
+    u64,
     u64,
     u64,
     u8,
     &'static str,
 );
 
-const CASES: [Case; 12] = [
-    (&["replay"], "", 0, 0, 0, NOTHING),
-    (&["replay"], SHORT, 0, 0, 0, ANSWERED),
-    (&["replay"], "0 want 11 7\n", 0, 0, 3, "refused 1 8\n"),
-    (&["replay"], "0 bogin\n", 0, 0, 3, "refused 1 5\n"),
-    (&["replay"], SPACES, 0, 0, 0, TWO_ANSWERS),
-    (&["replay"], OTHER_ACTOR, 0, 0, 3, "refused 2 3\n"),
-    (&["replay"], UNENDED, 0, 0, 0, TWO_ANSWERS),
-    (&["replay"], ZERO, 0, 0, 3, "refused 1 10\n"),
-    (&["replay"], SHORT, 1, 0, 4, ""),
-    (&["replay"], "", 0, 1, 5, ""),
+const CASES: [Case; 14] = [
+    (&["replay"], "", 0, 0, 0, 0, NOTHING),
+    (&["replay"], SHORT, 0, 0, 0, 0, ANSWERED),
+    (&["replay"], "0 want 11 7\n", 0, 0, 0, 3, "refused 1 8\n"),
+    (&["replay"], "0 bogin\n", 0, 0, 0, 3, "refused 1 5\n"),
+    (&["replay"], SPACES, 0, 0, 0, 0, TWO_ANSWERS),
+    (&["replay"], OTHER_ACTOR, 0, 0, 0, 3, "refused 2 3\n"),
+    (&["replay"], UNENDED, 0, 0, 0, 0, TWO_ANSWERS),
+    (&["replay"], ZERO, 0, 0, 0, 3, "refused 1 10\n"),
+    (&["replay"], SHORT, 1, 0, 0, 4, ""),
+    (&["replay"], "", 0, 1, 0, 5, ""),
+    (&["replay"], SHORT, 0, 0, 1, 6, ""),
+    (&["replay"], SHORT, 0, 0, 2, 6, ""),
     (
         &["swarm"],
         "",
+        0,
         0,
         0,
         2,
         "usage: ledger_run replay | swarm\n",
     ),
     (
-        &["replay", "--quiet"],
+        &["replay", "--dump", "--dump"],
         "",
+        0,
         0,
         0,
         2,
@@ -68,10 +75,11 @@ const ZERO: &str = "0 want 00000000000000000000000000000000000000000000000000000
 #[test]
 fn scripts_and_their_ends(rt: HostRuntime) -> Result<(), Fail> {
     let alloc = rt.alloc();
-    for (words, script, failing_read, failing_write, status, printed) in &CASES {
+    for (words, script, failing_read, failing_write, failing_call, status, printed) in &CASES {
         let bytes = Vec::from_slice(alloc, script.as_bytes())?;
         let mut source = MemSource::new(bytes, 7, vec![in alloc; *failing_read]?);
         let mut sink = MemSink::new(alloc, 4096, vec![in alloc; *failing_write]?)?;
+        let shelf = MemShelf::new(alloc, Vec::new(alloc), vec![in alloc; *failing_call]?);
         let ended = ledger_run(
             &rt,
             alloc,
@@ -79,6 +87,7 @@ fn scripts_and_their_ends(rt: HostRuntime) -> Result<(), Fail> {
             TinyHash,
             &mut source,
             &mut sink,
+            shelf,
             &OpenGate,
         );
         assert_eq!(rt; ended.status, *status);

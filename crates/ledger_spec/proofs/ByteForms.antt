@@ -100,7 +100,8 @@ compressed_bytes front n all e =
     (hash_by_chunks (λ h. IsTrue (are_bytes h)) chunks (chunk_bytes (length front / 33) front all) refl))
     (compressed_read_is front n e).parts
 
-typed_bytes : (half : Half) (front : Bytes) (type : ℕ) (n : Held) → IsTrue (are_bytes front) → read_typed half front type ≡ Ok n → HasByteForm n
+typed_bytes : (half : Half) (front : Bytes) (type : ℕ) (n : Held) → IsTrue (are_bytes front) → read_typed half front type ≡ Ok n
+    → HasByteForm n
 typed_bytes half front type n all e =
     ⊎_elim (λ bare. bare_bytes (half (leaf_form Set zero_hash front)) front n all bare)
     (λ e1. ⊎_elim (λ state. state_bytes front n all state)

@@ -19,7 +19,8 @@ parts_of_state key bytes b whole e =
     let front : length b - 32 ≡ length (leaf_prefix State ++ bytes) = omega (arith, size) in
     record {
       size = size;
-      key_at = ap (λ n. drop n b) front ∙ ap (drop (length (leaf_prefix State ++ bytes))) e ∙ drop-append_seam (leaf_prefix State ++ bytes) key;
+      key_at =
+          ap (λ n. drop n b) front ∙ ap (drop (length (leaf_prefix State ++ bytes))) e ∙ drop-append_seam (leaf_prefix State ++ bytes) key;
       data_at = ap (drop 4) (ap (λ n. take n b) front ∙ ap (take (length (leaf_prefix State ++ bytes))) e ∙ take-append_seam (leaf_prefix State ++ bytes) key);
     }
 
@@ -35,7 +36,10 @@ pub item_of_state : (half : Half) (n : Held) (b : Bytes) → IsTrue (starts_with
 item_of_state half (leaf State key bytes) b starts f =
     let p : AreParts key bytes b = parts_of_state key bytes b f.0.key_size f.1 in
     (omega (arith, p.size), rw (p.key_at, p.data_at) f.0)
-item_of_state half (leaf Tx key bytes) b starts f = absurd (no_false (subst (λ x. IsTrue (starts_with nat_eq x (leaf_prefix State))) f.1 starts))
-item_of_state half (leaf Set key bytes) b starts f = absurd (no_false (subst (λ x. IsTrue (starts_with nat_eq x (leaf_prefix State))) f.1 starts))
-item_of_state half (inner hashes) b starts f = absurd (no_false (subst IsTrue (ap (λ x. starts_with nat_eq x (leaf_prefix State)) f.1 ∙ inner_no_state (concat hashes)) starts))
+item_of_state half (leaf Tx key bytes) b starts f =
+    absurd (no_false (subst (λ x. IsTrue (starts_with nat_eq x (leaf_prefix State))) f.1 starts))
+item_of_state half (leaf Set key bytes) b starts f =
+    absurd (no_false (subst (λ x. IsTrue (starts_with nat_eq x (leaf_prefix State))) f.1 starts))
+item_of_state half (inner hashes) b starts f =
+    absurd (no_false (subst IsTrue (ap (λ x. starts_with nat_eq x (leaf_prefix State)) f.1 ∙ inner_no_state (concat hashes)) starts))
 item_of_state half (header bytes) b starts f = absurd (no_false (subst (λ x. IsTrue (starts_with nat_eq x (leaf_prefix State))) f.1 starts))

@@ -53,7 +53,8 @@ sight_same half rules m n h up = seen_at (m h) refl
     seen_at (Some form) e = inr (ap (sight_of half rules) (up h form e))
 
 -- a place where nothing is missing has the same walk below it
-pub branches_same : (place : Place) (f g : List Hash → List Met) (x : Sight) → ((hashes : List Hash) → filter_map found (f hashes) ≡ [] → g hashes ≡ f hashes)
+pub branches_same : (place : Place) (f g : List Hash → List Met) (x : Sight)
+    → ((hashes : List Hash) → filter_map found (f hashes) ≡ [] → g hashes ≡ f hashes)
     → filter_map found (branches_of x f) ≡ [] → branches_of x g ≡ branches_of x f
 branches_same place f g missing same clean = refl
 branches_same place f g (broken fault) same clean = refl
@@ -62,7 +63,8 @@ branches_same place f g (sound (leaf kind key bytes)) same clean = refl
 branches_same place f g (sound (header bytes)) same clean = refl
 
 -- a place where nothing is found isn't missing
-pub not_missing : (place : Place) (h : Hash) (parent : Option (List Hash)) (x : Sight) (rest : List Met) → filter_map found (met place h parent x ∷ rest) ≡ []
+pub not_missing : (place : Place) (h : Hash) (parent : Option (List Hash)) (x : Sight) (rest : List Met)
+    → filter_map found (met place h parent x ∷ rest) ≡ []
     → (finding_at place x ≡ None) × (filter_map found rest ≡ [])
 not_missing place h parent missing rest clean = absurd (no_cons clean)
 not_missing place h parent (broken fault) rest clean = absurd (no_cons clean)
@@ -89,7 +91,8 @@ place_same false place h parent x y f g (inr e) same clean =
 pub end_same : (z : Bool) (place : Place) (h : Hash) (parent : Option (List Hash)) (x y : Sight) → (x ≡ missing) ⊎ (y ≡ x)
     → filter_map found (if z then [] else met place h parent x ∷ []) ≡ [] → (if z then [] else met place h parent y ∷ []) ≡ (if z then [] else met place h parent x ∷ [])
 end_same true place h parent x y seen clean = refl
-end_same false place h parent x y (inl e) clean = absurd (no_none (subst (λ s. finding_at place s ≡ None) e (not_missing place h parent x [] clean).0))
+end_same false place h parent x y (inl e) clean =
+    absurd (no_none (subst (λ s. finding_at place s ≡ None) e (not_missing place h parent x [] clean).0))
 end_same false place h parent x y (inr e) clean = ap (λ s. met place h parent s ∷ []) e
 
 -- a walk that finds nothing is the same in a larger store
@@ -114,7 +117,8 @@ unfolding walk_map
 map_same half m n kind root up clean = walk_same half m n kind 64 None [] root up clean
 
 -- the same of the two maps of a header that is seen
-pub maps_same : (half : Half) (m n : Lookup) (x : Sight) → Grows m n → filter_map found (maps_of half m x) ≡ [] → maps_of half n x ≡ maps_of half m x
+pub maps_same : (half : Half) (m n : Lookup) (x : Sight) → Grows m n → filter_map found (maps_of half m x) ≡ []
+    → maps_of half n x ≡ maps_of half m x
 maps_same half m n missing up clean = refl
 maps_same half m n (broken fault) up clean = refl
 maps_same half m n (sound (inner hashes)) up clean = refl
@@ -135,14 +139,16 @@ header_sight_same m n t up = seen_at (m t) refl
 -- a ledger's walk from a header that is seen so
 pub ledger_same : (half : Half) (m n : Lookup) (t : Hash) (x y : Sight) → Grows m n → (x ≡ missing) ⊎ (y ≡ x)
     → filter_map found (met Header t None x ∷ maps_of half m x) ≡ [] → met Header t None y ∷ maps_of half n y ≡ met Header t None x ∷ maps_of half m x
-ledger_same half m n t x y up (inl e) clean = absurd (no_none (subst (λ s. finding_at Header s ≡ None) e (not_missing Header t None x (maps_of half m x) clean).0))
+ledger_same half m n t x y up (inl e) clean =
+    absurd (no_none (subst (λ s. finding_at Header s ≡ None) e (not_missing Header t None x (maps_of half m x) clean).0))
 ledger_same half m n t x y up (inr e) clean =
     ap (λ s. met Header t None s ∷ maps_of half n s) e ∙ ap (λ rest. met Header t None x ∷ rest) (maps_same half m n x up (not_missing Header t None x (maps_of half m x) clean).1)
 
 -- a whole ledger is whole in a larger store
 pub whole_grows : (half : Half) (m n : Lookup) (t : Hash) → Grows m n → Whole half m t → Whole half n t
 unfolding walk_ledger
-whole_grows half m n t up clean = ap (filter_map found) (ledger_same half m n t (header_sight (m t)) (header_sight (n t)) up (header_sight_same m n t up) clean) ∙ clean
+whole_grows half m n t up clean =
+    ap (filter_map found) (ledger_same half m n t (header_sight (m t)) (header_sight (n t)) up (header_sight_same m n t up) clean) ∙ clean
 
 -- a stored header stays as it is
 pub header_grows : (m n : Lookup) (t : Hash) (P : Bytes → Type 0) → Grows m n → IsSomeAnd (header_in m t) P → IsSomeAnd (header_in n t) P
@@ -155,4 +161,5 @@ header_grows m n t P up some = at (m t) refl some
 -- a whole ledger has its header in the store
 pub whole_stored : (half : Half) (m : Lookup) (t : Hash) → Whole half m t → m t ≡ None → ⊥
 unfolding walk_ledger
-whole_stored half m t clean none = no_cons (sym (ap (λ o. filter_map found (met Header t None (header_sight o) ∷ maps_of half m (header_sight o))) none) ∙ clean)
+whole_stored half m t clean none =
+    no_cons (sym (ap (λ o. filter_map found (met Header t None (header_sight o) ∷ maps_of half m (header_sight o))) none) ∙ clean)

@@ -66,7 +66,8 @@ pub some_not_all : (hs : List (List ℕ)) → IsTrue (list_any is_nonzero hs) �
 some_not_all hs some = not-true (list_all is_zero hs) (sym (any_nonzero hs) ∙ some)
 
 -- one more hash read
-pub read_step : (hs : List (List ℕ)) (b : ℕ) (h rest front body : List ℕ) → b < length hs → rest ≡ drop (32 * b) body → front ≡ take 32 rest → h ≡ front
+pub read_step : (hs : List (List ℕ)) (b : ℕ) (h rest front body : List ℕ) → b < length hs → rest ≡ drop (32 * b) body → front ≡ take 32 rest
+    → h ≡ front
     → take b hs ≡ hashes_of b body → take (b + 1) (set hs b h) ≡ hashes_of (b + 1) body
 read_step hs b h rest front body lt left piece read before =
     take_more_set hs b h lt
@@ -85,7 +86,8 @@ read_all hs n b body size end read =
     sym (take_all b hs within) ∙ read ∙ ap (λ m. hashes_of m body) end
 
 -- one more hash written
-pub write_step : (body h : List ℕ) (hs : List (List ℕ)) (b at k : ℕ) → at ≡ b * 32 → k ≡ 32 → at ≤ length body → length h ≡ 32 → b < length hs → h ≡ get_or hs b zero_hash
+pub write_step : (body h : List ℕ) (hs : List (List ℕ)) (b at k : ℕ) → at ≡ b * 32 → k ≡ 32 → at ≤ length body → length h ≡ 32
+    → b < length hs → h ≡ get_or hs b zero_hash
     → take (32 * b) body ≡ concat (take b hs) → take (32 * (b + 1)) (put_mid at k body h) ≡ concat (take (b + 1) hs)
 write_step body h hs b at k place width within size lt is before =
     let end : 32 * (b + 1) ≡ at + length h = omega arith in
@@ -96,7 +98,8 @@ write_step body h hs b at k place width within size lt is before =
     ∙ ap (λ t. concat (take b hs) ++ t) is
     ∙ sym (concat_more hs b zero_hash lt)
 
-pub write_all : (body : List ℕ) (hs : List (List ℕ)) (n b : ℕ) → length hs ≡ n → length body ≡ 32 * n → b ≡ n → take (32 * b) body ≡ concat (take b hs) → body ≡ concat hs
+pub write_all : (body : List ℕ) (hs : List (List ℕ)) (n b : ℕ) → length hs ≡ n → length body ≡ 32 * n → b ≡ n
+    → take (32 * b) body ≡ concat (take b hs) → body ≡ concat hs
 write_all body hs n b count size end written =
     let all : length body ≤ 32 * b = omega arith in
     let both : length hs ≤ b = omega arith in
@@ -112,7 +115,8 @@ write_size body h at k wide within size =
 head_size : (h : List ℕ) (hs : List (List ℕ)) → IsTrue (list_all (λ h. length h == 32) (h ∷ hs)) → length h ≡ 32
 head_size h hs sizes = eqb-true (length h) 32 (and_parts (length h == 32) (list_all (λ h. length h == 32) hs) sizes).0
 
-tail_sizes : (h : List ℕ) (hs : List (List ℕ)) → IsTrue (list_all (λ h. length h == 32) (h ∷ hs)) → IsTrue (list_all (λ h. length h == 32) hs)
+tail_sizes : (h : List ℕ) (hs : List (List ℕ)) → IsTrue (list_all (λ h. length h == 32) (h ∷ hs))
+    → IsTrue (list_all (λ h. length h == 32) hs)
 tail_sizes h hs sizes = (and_parts (length h == 32) (list_all (λ h. length h == 32) hs) sizes).1
 
 pub length-concat : (hs : List (List ℕ)) → IsTrue (list_all (λ h. length h == 32) hs) → length (concat hs) ≡ 32 * length hs

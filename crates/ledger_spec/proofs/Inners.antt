@@ -37,6 +37,7 @@ pub not_inner_empty : (b : Bytes) → list_any is_nonzero (hashes_of 16 (drop 4 
 unfolding inner_of
 not_inner_empty b other = cond-false _ _ _ (three_third (starts_with nat_eq b inner_prefix) (length b == 516) (list_any is_nonzero (hashes_of 16 (drop 4 b))) other)
 
-pub inner_of_is : (b : Bytes) → starts_with nat_eq b inner_prefix ≡ true → length b ≡ 516 → list_any is_nonzero (hashes_of 16 (drop 4 b)) ≡ true → inner_of b ≡ Some (hashes_of 16 (drop 4 b))
+pub inner_of_is : (b : Bytes) → starts_with nat_eq b inner_prefix ≡ true → length b ≡ 516
+    → list_any is_nonzero (hashes_of 16 (drop 4 b)) ≡ true → inner_of b ≡ Some (hashes_of 16 (drop 4 b))
 unfolding inner_of
 inner_of_is b prefix size some = cond-true _ _ _ (three_true (starts_with nat_eq b inner_prefix) (length b == 516) (list_any is_nonzero (hashes_of 16 (drop 4 b))) prefix (eq-eqb (length b) 516 size) some)

@@ -7,3 +7,4 @@ pub mod Hashes
 pub mod Inners
 pub mod Readings
 pub mod ByteForms
+pub mod Owning

@@ -26,7 +26,8 @@ pub ok_same : {X E : Type 0} {x y : X} → ◌≡◌ {A = Result X E} (Ok x) (Ok
 ok_same e = cc
 
 -- a result behind a test that refuses
-pub past_test : {X : Type 0} (b : Bool) (cause : ℕ) (r : Result X ℕ) (x : X) → (if b then Err cause else r) ≡ Ok x → (b ≡ false) × (r ≡ Ok x)
+pub past_test : {X : Type 0} (b : Bool) (cause : ℕ) (r : Result X ℕ) (x : X) → (if b then Err cause else r) ≡ Ok x
+    → (b ≡ false) × (r ≡ Ok x)
 past_test true cause r x e = absurd (err_ok e)
 past_test false cause r x e = (refl, e)
 
@@ -45,7 +46,8 @@ pub record IsLeafRead (kind : Kind) (key bytes : Bytes) (n : Held) : Type 0 wher
   pub item : IsItem key bytes
   pub node : leaf kind key bytes ≡ n
 
-leaf_read : (kind : Kind) (key bytes : Bytes) (n : Held) → length key ≡ 32 → checked_leaf kind key bytes ≡ Ok n → IsLeafRead kind key bytes n
+leaf_read : (kind : Kind) (key bytes : Bytes) (n : Held) → length key ≡ 32 → checked_leaf kind key bytes ≡ Ok n
+    → IsLeafRead kind key bytes n
 leaf_read kind key bytes n size e =
     let small : (nat_lt data_limit (length bytes) ≡ false) × _ = past_test (nat_lt data_limit (length bytes)) 11 _ n e in
     let nonzero : (is_zero key ≡ false) × (Ok (leaf kind key bytes) ≡ Ok n) = past_test (is_zero key) 10 (Ok (leaf kind key bytes)) n small.1 in
@@ -203,12 +205,14 @@ pub no_base_wanted : {g : Hash} {q : Option (List Hash)} → no_base ≡ wanted 
 no_base_wanted e = cc
 
 -- a place with its hash, where the hash isn't zero
-here_wanted : (z : Bool) (path : List ℕ) (h g : Hash) (parent q : Option (List Hash)) → is_zero h ≡ z → (if z then empty_branch path else wanted h parent) ≡ wanted g q → IsTrue (is_nonzero g)
+here_wanted : (z : Bool) (path : List ℕ) (h g : Hash) (parent q : Option (List Hash)) → is_zero h ≡ z
+    → (if z then empty_branch path else wanted h parent) ≡ wanted g q → IsTrue (is_nonzero g)
 here_wanted true path h g parent q is e = absurd (empty_wanted e)
 here_wanted false path h g parent q is e = ap not (sym (ap is_zero (wanted_same e)) ∙ is)
 
 -- a place below, where the way there is known
-below_wanted : (z : Bool) (path : List ℕ) (s : Spot) (g : Hash) (q : Option (List Hash)) → (if z then empty_branch path else s) ≡ wanted g q → s ≡ wanted g q
+below_wanted : (z : Bool) (path : List ℕ) (s : Spot) (g : Hash) (q : Option (List Hash)) → (if z then empty_branch path else s) ≡ wanted g q
+    → s ≡ wanted g q
 below_wanted true path s g q e = absurd (empty_wanted e)
 below_wanted false path s g q e = e
 
@@ -234,10 +238,12 @@ spot_wanted nodes path parent h (n ∷ rest) g q e =
     (below_wanted (is_zero h) path _ g q e)
 
 -- a hash that is wanted below a header
-header_wanted : (nodes : Lookup) (kind : Kind) (path : List ℕ) (o : Option Bytes) (g : Hash) (q : Option (List Hash)) → spot_below nodes kind path o ≡ wanted g q → IsTrue (is_nonzero g)
+header_wanted : (nodes : Lookup) (kind : Kind) (path : List ℕ) (o : Option Bytes) (g : Hash) (q : Option (List Hash))
+    → spot_below nodes kind path o ≡ wanted g q → IsTrue (is_nonzero g)
 header_wanted nodes kind path None g q e = absurd (no_base_wanted e)
 header_wanted nodes kind path (Some bytes) g q e = spot_wanted nodes [] None (header_root kind bytes) path g q e
 
 -- a hash that is wanted at a place of a ledger isn't zero
-pub wanted_nonzero : (nodes : Lookup) (t : Hash) (kind : Kind) (path : List ℕ) (g : Hash) (q : Option (List Hash)) → spot_of nodes t kind path ≡ wanted g q → IsTrue (is_nonzero g)
+pub wanted_nonzero : (nodes : Lookup) (t : Hash) (kind : Kind) (path : List ℕ) (g : Hash) (q : Option (List Hash))
+    → spot_of nodes t kind path ≡ wanted g q → IsTrue (is_nonzero g)
 wanted_nonzero nodes t kind path g q e = header_wanted nodes kind path (header_in nodes t) g q e

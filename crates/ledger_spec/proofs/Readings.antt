@@ -43,7 +43,8 @@ key_at p bytes key front whole =
     let at : length (p ++ bytes ++ key) - 32 ≡ length (p ++ bytes) = omega (arith, length-append (p ++ bytes) key, length-append p bytes) in
     ap (λ n. drop n (p ++ bytes ++ key)) at ∙ drop-append_seam (p ++ bytes) key
 
-pub data_at : (p bytes key : Bytes) → length p ≡ 4 → length key ≡ 32 → drop 4 (take (length (p ++ bytes ++ key) - 32) (p ++ bytes ++ key)) ≡ bytes
+pub data_at : (p bytes key : Bytes) → length p ≡ 4 → length key ≡ 32
+    → drop 4 (take (length (p ++ bytes ++ key) - 32) (p ++ bytes ++ key)) ≡ bytes
 data_at p bytes key front whole =
     let at : length (p ++ bytes ++ key) - 32 ≡ length (p ++ bytes) = omega (arith, length-append (p ++ bytes) key, length-append p bytes) in
     ap (λ n. drop 4 (take n (p ++ bytes ++ key))) at ∙ ap (drop 4) (take-append_seam (p ++ bytes) key)
@@ -126,7 +127,8 @@ three_true : (p q r : Bool) → p ≡ true → q ≡ true → r ≡ true → (p 
 three_true p q r a b c = rw (a, b, c) refl
 
 -- a form is seen as what it holds
-sees_keyed : (kind : Kind) (p key bytes b : Bytes) → leaf_prefix kind ≡ p → length p ≡ 4 → starts_with nat_eq b p ≡ true → IsItem key bytes → b ≡ p ++ bytes ++ key → keyed_leaf_of kind b ≡ Some (leaf kind key bytes)
+sees_keyed : (kind : Kind) (p key bytes b : Bytes) → leaf_prefix kind ≡ p → length p ≡ 4 → starts_with nat_eq b p ≡ true → IsItem key bytes
+    → b ≡ p ++ bytes ++ key → keyed_leaf_of kind b ≡ Some (leaf kind key bytes)
 unfolding keyed_leaf_of
 sees_keyed kind p key bytes b is front starts item e =
     let size : length b ≡ length bytes + 36 = ap length e ∙ size_of p bytes key front item.key_size in
@@ -137,7 +139,8 @@ sees_keyed kind p key bytes b is front starts item e =
     (ap (starts_with nat_eq b) is ∙ starts) (le-leb 36 (length b) (omega arith)) (le-leb (length b) (36 + data_limit) few) (ap is_nonzero at ∙ item.key_nonzero))
     ∙ ap (λ k. Some (leaf kind k (drop 4 (take (length b - 32) b)))) at ∙ ap (λ d. Some (leaf kind key d)) before
 
-sees_bare : (half : Half) (key bytes b : Bytes) → IsItem key bytes → key ≡ half b → b ≡ prefix_of Txn ++ bytes → bare_leaf_of half b ≡ Some (leaf Set key bytes)
+sees_bare : (half : Half) (key bytes b : Bytes) → IsItem key bytes → key ≡ half b → b ≡ prefix_of Txn ++ bytes
+    → bare_leaf_of half b ≡ Some (leaf Set key bytes)
 unfolding bare_leaf_of
 sees_bare half key bytes b item is e =
     let size : length b ≡ length (prefix_of Txn ++ bytes) = ap length e in
@@ -170,7 +173,8 @@ at_leaf half b i h =
     ∙ ap (λ o. option_or (option_map header o) (leaf_of half b)) h
 
 pub sees : (half : Half) (n : Held) (b : Bytes) → Form half n b → held_of half b ≡ Some n
-sees half (inner hashes) b f = ap (λ o. option_or (option_map inner o) (option_or (option_map header (header_of b)) (leaf_of half b))) (sees_inner hashes b f.0 f.1)
+sees half (inner hashes) b f =
+    ap (λ o. option_or (option_map inner o) (option_or (option_map header (header_of b)) (leaf_of half b))) (sees_inner hashes b f.0 f.1)
 sees half (header bytes) b f = at_header half b bytes (not_inner_prefix b (starts_as b _ inner_prefix f.1)) (sees_header bytes b f.0 f.1)
 sees half (leaf State key bytes) b f =
     let e : b ≡ prefix_of Mln ++ bytes ++ key = f.1 in

@@ -28,7 +28,8 @@ abbrev head10 : Held
 head10 = header (0 ∷ 0 ∷ 0 ∷ 10 ∷ replicate 72 0 ++ at 0xDE ++ replicate 10 0)
 
 abbrev with_root : Lookup
-with_root h = option_map {T = Hash × Bytes} (λ e. e.1) (find (λ e. same_bytes e.0 h) ((at 0xDD, form_of head10) ∷ (at 0xDE, form_of root10) ∷ []))
+with_root h =
+    option_map {T = Hash × Bytes} (λ e. e.1) (find (λ e. same_bytes e.0 h) ((at 0xDD, form_of head10) ∷ (at 0xDE, form_of root10) ∷ []))
 
 abbrev whole10 : Lookup
 whole10 h = option_map {T = Hash × Bytes} (λ e. e.1) (find (λ e. same_bytes e.0 h) ((at 0xDD, form_of head10) ∷ (at 0xDE, form_of root10) ∷ (at 0xFA, form_of leaf10) ∷ []))

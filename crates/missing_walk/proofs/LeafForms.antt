@@ -15,7 +15,8 @@ is_keyed kind b = starts_with nat_eq b (leaf_prefix kind) && nat_le 36 (length b
 abbrev is_bare : Bytes → Bool
 is_bare b = starts_with nat_eq b (leaf_prefix Set) && nat_le (length b) (4 + data_limit)
 
-passed : (t z : Bool) (n : Held) → true ≡ t → (if z then Some (without_data n) else None) ≡ option_map without_data (if t && z then Some n else None)
+passed : (t z : Bool) (n : Held) → true ≡ t
+    → (if z then Some (without_data n) else None) ≡ option_map without_data (if t && z then Some n else None)
 passed true true n e = refl
 passed true false n e = refl
 passed false z n e = cc

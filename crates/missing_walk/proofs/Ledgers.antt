@@ -1,5 +1,5 @@
 -- A ledger's findings, by what is seen at its header.
-use Rattle.std.proofs.Common.{◌≡◌, ℕ, ◌-◌, false, List, [], ◌++◌, length, None, Some, refl, sym, ap, ◌∙◌, subst}
+use Rattle.std.proofs.Common.{◌≡◌, ℕ, ◌-◌, false, List, [], ◌++◌, length, None, Some, sym, ap, ◌∙◌}
 use Rattle.std.specs.List.{filter_map, cons_option}
 use Rattle.std.proofs.lemmas.List.Elements.{filter_map-append}
 use Rattle.ledger_spec.specs.declared.Kind.{Kind}
@@ -11,14 +11,15 @@ use Rattle.ledger_spec.specs.Header.{state_root_of, tx_root_of}
 use Rattle.ledger_spec.specs.Forms.{header, header_of}
 use Rattle.ledger_spec.specs.Findings.{Sight, missing, broken, sound, Finding, lacks, breaks, finding_at, findings, walk, walk_map}
 use Rattle.ledger_spec.specs.Findings.{walk_ledger, header_sight, header_or_foreign, maps_of}
-use Rattle.missing_walk.specs.Sees.{Seen, is_over, noted, sees, found_in_maps, HasMissing}
+use Rattle.missing_walk.specs.Sees.{Seen, is_over, noted, sees, found_in_maps}
 use Rattle.tree_laws.specs.Walks.{finding_of, found_below}
-use Rattle.missing_walk.proofs.Noting.{sees-append, sees_one, keeps_missing, missing_noted}
+use Rattle.missing_walk.proofs.Noting.{sees-append, sees_one}
 
 maps_found : (half : Half) (nodes : Lookup) (bytes : Bytes)
     → found_in_maps half nodes bytes ≡ found_below half nodes State 64 None [] (state_root_of bytes) ++ found_below half nodes Tx 64 None [] (tx_root_of bytes)
 unfolding found_in_maps found_below walk_map
-maps_found half nodes bytes = filter_map-append finding_of (walk half nodes State 64 None [] (state_root_of bytes)) (walk half nodes Tx 64 None [] (tx_root_of bytes))
+maps_found half nodes bytes =
+    filter_map-append finding_of (walk half nodes State 64 None [] (state_root_of bytes)) (walk half nodes Tx 64 None [] (tx_root_of bytes))
 
 -- below a root
 from_root : (half : Half) (nodes : Lookup) (kind : Kind) (path : List ℕ) (h root : Hash) → path ≡ [] → h ≡ root
@@ -39,34 +40,19 @@ walked_maps half nodes bytes path state tx s mid after top state_is tx_is first 
     ∙ sym (sees-append s below_state below_tx)
     ∙ ap (sees s) (sym (maps_found half nodes bytes))
 
--- memory was refused in the first map
-pub refused_state : (half : Half) (nodes : Lookup) (bytes : Bytes) (path : List ℕ) (state : Hash) (s : Seen) → path ≡ [] → state ≡ state_root_of bytes
-    → HasMissing (sees s (found_below half nodes State (64 - length path) None path state)) → HasMissing (sees s (found_in_maps half nodes bytes))
-refused_state half nodes bytes path state s top state_is some =
-    let below_state : List Finding = found_below half nodes State 64 None [] (state_root_of bytes) in
-    let below_tx : List Finding = found_below half nodes Tx 64 None [] (tx_root_of bytes) in
-    let here : HasMissing (sees s below_state) = subst (λ xs. HasMissing (sees s xs)) (from_root half nodes State path state (state_root_of bytes) top state_is) some in
-    subst (λ t. HasMissing t) (sym (sees-append s below_state below_tx) ∙ ap (sees s) (sym (maps_found half nodes bytes))) (keeps_missing (sees s below_state) below_tx here)
-
--- and in the second
-pub refused_tx : (half : Half) (nodes : Lookup) (bytes : Bytes) (path : List ℕ) (state tx : Hash) (s mid : Seen)
-    → path ≡ [] → state ≡ state_root_of bytes → tx ≡ tx_root_of bytes
-    → mid ≡ sees s (found_below half nodes State (64 - length path) None path state)
-    → HasMissing (sees mid (found_below half nodes Tx (64 - length path) None path tx)) → HasMissing (sees s (found_in_maps half nodes bytes))
-refused_tx half nodes bytes path state tx s mid top state_is tx_is first some =
-    subst (λ t. HasMissing t) (walked_maps half nodes bytes path state tx s mid (sees mid (found_below half nodes Tx (64 - length path) None path tx)) top state_is tx_is first refl) some
-
 from_header : (half : Half) (nodes : Lookup) (target : Hash) (sight : Sight) → header_sight (nodes target) ≡ sight
     → findings half nodes target ≡ cons_option (finding_at Header sight) (filter_map finding_of (maps_of half nodes sight))
 unfolding walk_ledger
 from_header half nodes target sight e = ap (λ x. cons_option (finding_at Header x) (filter_map finding_of (maps_of half nodes x))) e
 
 module _ (half : Half) (nodes : Lookup) (target : Hash) (s : Seen) where
-  pub lacks_header : (after : Seen) → is_over s ≡ false → None ≡ nodes target → after ≡ noted s (lacks Header) → after ≡ sees s (findings half nodes target)
+  pub lacks_header : (after : Seen) → is_over s ≡ false → None ≡ nodes target → after ≡ noted s (lacks Header)
+      → after ≡ sees s (findings half nodes target)
   lacks_header after more none done =
       done ∙ sees_one s (lacks Header) more ∙ ap (sees s) (sym (from_header half nodes target missing (ap header_sight (sym none))))
 
-  pub foreign_header : (after : Seen) (form bytes : Bytes) → is_over s ≡ false → Some form ≡ nodes target → bytes ≡ form → None ≡ header_of bytes
+  pub foreign_header : (after : Seen) (form bytes : Bytes) → is_over s ≡ false → Some form ≡ nodes target → bytes ≡ form
+      → None ≡ header_of bytes
       → after ≡ noted s (breaks Header Foreign) → after ≡ sees s (findings half nodes target)
   foreign_header after form bytes more stored same none done =
       done ∙ sees_one s (breaks Header Foreign) more
@@ -77,13 +63,3 @@ module _ (half : Half) (nodes : Lookup) (target : Hash) (s : Seen) where
   unfolding found_in_maps
   sound_header after form bytes head stored same read done =
       done ∙ ap (sees s) (sym (from_header half nodes target (sound (header head)) (ap header_sight (sym stored) ∙ ap header_or_foreign (ap header_of (sym same) ∙ sym read))))
-
-  -- memory was refused for the header's place
-  pub refused_header : is_over s ≡ false → None ≡ nodes target → HasMissing (sees s (findings half nodes target))
-  refused_header more none = subst (λ t. HasMissing t) (lacks_header (noted s (lacks Header)) more none refl) (missing_noted s Header)
-
-  -- and below it
-  pub refused_maps : (form bytes head : Bytes) → Some form ≡ nodes target → bytes ≡ form → Some head ≡ header_of bytes
-      → HasMissing (sees s (found_in_maps half nodes head)) → HasMissing (sees s (findings half nodes target))
-  refused_maps form bytes head stored same read some =
-      subst (λ t. HasMissing t) (sound_header (sees s (found_in_maps half nodes head)) form bytes head stored same read refl) some

@@ -1,5 +1,5 @@
 -- What the walk's code keeps is what the definition finds, case by case.
-use Rattle.std.proofs.Common.{◌≡◌, ℕ, zero, suc, ◌+◌, ◌-◌, ◌<◌, ◌≤◌, ◌==◌, Bool, true, false, if◌then◌else◌, List, [], ◌∷◌, ◌++◌, length}
+use Rattle.std.proofs.Common.{◌≡◌, ℕ, suc, ◌+◌, ◌-◌, ◌<◌, ◌≤◌, ◌==◌, Bool, true, false, if◌then◌else◌, List, [], ◌∷◌, ◌++◌, length}
 use Rattle.std.proofs.Common.{Option, None, Some, refl, sym, ap, ◌∙◌, subst, arith, length-append}
 use Rattle.std.specs.List.{slice_index_or}
 use Rattle.std.specs.List.{cons_option}
@@ -9,22 +9,24 @@ use Rattle.ledger_spec.specs.declared.ShapeFault.{ShapeFault}
 use Rattle.ledger_spec.specs.declared.ShapeFault.TheVariants.{InnerAtBottom}
 use Rattle.ledger_spec.specs.Bytes.{Bytes, Hash, Half, Lookup, is_zero, zero_hash}
 use Rattle.ledger_spec.specs.Forms.{Held, inner, leaf, header}
-use Rattle.ledger_spec.specs.Findings.{Sight, missing, broken, sound, Met, sight_of, judged, seen_as, held_of, branches_of, Finding}
+use Rattle.ledger_spec.specs.Findings.{Sight, missing, broken, sound, Met, sight_of, judged, seen_as, held_of, branches_of}
 use Rattle.ledger_spec.specs.Findings.{lacks, breaks, finding_at}
 use Rattle.std.proofs.lemmas.Bool.Decides.{nat_tests}
 use Rattle.ledger_spec.specs.Rules.{fault_of}
 use Rattle.shamap_node.specs.declared.parts.Inner.{Inner}
-use Rattle.missing_walk.specs.Sees.{Seen, is_over, noted, sees, is_sound_leaf, LooksAs, HasMissing}
+use Rattle.missing_walk.specs.Sees.{Seen, is_over, noted, sees, is_sound_leaf, LooksAs, HasBelow}
+use Rattle.tree_laws.specs.Walks.{found_below, found_in}
 use Rattle.missing_walk.specs.declared.sight.Sight.{Sight as Look}
 use Rattle.missing_walk.specs.declared.sight.Sight.TheVariants as look
-use Rattle.missing_walk.proofs.Noting.{sees-append, sees_over, sees_one, keeps_missing, missing_noted}
-use Rattle.tree_laws.specs.Walks.{at_place, found_below, found_in}
+use Rattle.missing_walk.proofs.Noting.{sees-append, sees_over, sees_one}
+use Rattle.tree_laws.specs.Walks.{at_place}
 use Rattle.tree_laws.proofs.Below.{below_zero, below_end, below_inner, in_more, in_none}
 
 shows : (a b : Look) (sight : Sight) → a ≡ b → LooksAs a sight → LooksAs b sight
 shows a b sight e h = subst (λ x. LooksAs x sight) e h
 
-leaf_end : (sight : Sight) (place : Rattle.ledger_spec.specs.declared.Place.Place) → is_sound_leaf sight ≡ true → cons_option (finding_at place sight) [] ≡ []
+leaf_end : (sight : Sight) (place : Rattle.ledger_spec.specs.declared.Place.Place) → is_sound_leaf sight ≡ true
+    → cons_option (finding_at place sight) [] ≡ []
 leaf_end (sound (leaf kind key bytes)) place e = refl
 leaf_end (sound (inner hashes)) place e = cc
 leaf_end (sound (header bytes)) place e = cc
@@ -46,7 +48,8 @@ rules_pass : (rules : Held → Option ShapeFault) (held : Option Held) (n : Held
 rules_pass rules None n e = cc
 rules_pass rules (Some held) n e = let both = seen_through n held (rules held) e in rw (← both.0) both.1
 
-sight_pass : (half : Half) (rules : Held → Option ShapeFault) (form : Option Bytes) (n : Held) → sight_of half rules form ≡ sound n → rules n ≡ None
+sight_pass : (half : Half) (rules : Held → Option ShapeFault) (form : Option Bytes) (n : Held) → sight_of half rules form ≡ sound n
+    → rules n ≡ None
 sight_pass half rules None n e = cc
 sight_pass half rules (Some form) n e = rules_pass rules (held_of half form) n e
 
@@ -54,8 +57,20 @@ no_fault : (t : Bool) (fault : ShapeFault) → (if t then Some fault else None) 
 no_fault true fault e = cc
 no_fault false fault e = refl
 
+-- an inner node that belongs there has levels below it
+pub has_below : (half : Half) (kind : Kind) (parent : Option (List Hash)) (path : List ℕ) (form : Option Bytes) (seen : Look)
+    → LooksAs seen (sight_of half (λ n. fault_of n parent kind path) form) → HasBelow (length path) seen
+has_below half kind parent path form look.Missing shown = tt
+has_below half kind parent path form (look.Broken fault) shown = tt
+has_below half kind parent path form (look.Inner i) shown =
+    no_fault (length path == 64) InnerAtBottom (sight_pass half (λ n. fault_of n parent kind path) form (inner i.hashes) shown)
+has_below half kind parent path form look.Leaf shown = tt
+
 above_bottom : (n : ℕ) → n ≤ 64 → (n == 64) ≡ false → n < 64
 above_bottom n h e = grind (arith, nat_tests)
+
+pub above_inner : (seen : Look) (node : Inner) (n : ℕ) → seen ≡ look.Inner node → HasBelow n seen → n ≤ 64 → n < 64
+above_inner seen node n e below short = above_bottom n short (subst (HasBelow n) e below)
 
 module _ (half : Half) (nodes : Lookup) (kind : Kind) (left : ℕ) (parent : Option (List Hash)) (path : List ℕ) (h : Hash) (s : Seen) where
   pub walk_over : true ≡ is_over s → s ≡ sees s (found_below half nodes kind left parent path h)
@@ -64,7 +79,8 @@ module _ (half : Half) (nodes : Lookup) (kind : Kind) (left : ℕ) (parent : Opt
   pub walk_zero : true ≡ is_zero h → s ≡ sees s (found_below half nodes kind left parent path h)
   walk_zero none = ap (sees s) (sym (below_zero half nodes kind left parent path h (sym none)))
 
-  pub walk_missing : (seen : Look) (after : Seen) → false ≡ is_over s → false ≡ is_zero h → seen ≡ look.Missing → LooksAs seen (at_place half nodes kind parent path h)
+  pub walk_missing : (seen : Look) (after : Seen) → false ≡ is_over s → false ≡ is_zero h → seen ≡ look.Missing
+      → LooksAs seen (at_place half nodes kind parent path h)
       → after ≡ noted s (lacks (Node kind path)) → after ≡ sees s (found_below half nodes kind left parent path h)
   walk_missing seen after more nonzero e shown done =
       done ∙ sees_one s (lacks (Node kind path)) (sym more)
@@ -83,30 +99,14 @@ module _ (half : Half) (nodes : Lookup) (kind : Kind) (left : ℕ) (parent : Opt
       let is_leaf : is_sound_leaf (at_place half nodes kind parent path h) ≡ true = shows _ _ _ e shown in
       ap (sees s) (sym (below_end half nodes kind left parent path h (at_place half nodes kind parent path h) (sym nonzero) refl (leaf_bare _ is_leaf) ∙ leaf_end _ (Node kind path) is_leaf))
 
-  inner_above : (seen : Look) (node : Inner) → length path ≤ 64 → seen ≡ look.Inner node → LooksAs seen (at_place half nodes kind parent path h) → length path < 64
-  inner_above seen node short e shown =
-      let passes : (if length path == 64 then Some InnerAtBottom else None) ≡ None = sight_pass half (λ n. fault_of n parent kind path) (nodes h) (inner node.hashes) (shows _ _ _ e shown) in
-      above_bottom (length path) short (no_fault _ _ passes)
-
-  pub walk_inner : (seen : Look) (node : Inner) (after : Seen) → false ≡ is_zero h → seen ≡ look.Inner node → LooksAs seen (at_place half nodes kind parent path h)
-      → left ≡ 64 - length path → length path ≤ 64
+  pub walk_inner : (seen : Look) (node : Inner) (after : Seen) → false ≡ is_zero h → seen ≡ look.Inner node
+      → LooksAs seen (at_place half nodes kind parent path h)
+      → left ≡ 64 - length path → length path < 64
       → after ≡ sees s (found_in half nodes kind (63 - length path) node.hashes path 16) → after ≡ sees s (found_below half nodes kind left parent path h)
-  walk_inner seen node after nonzero e shown level short done =
-      let above : length path < 64 = inner_above seen node short e shown in
+  walk_inner seen node after nonzero e shown level above done =
       let next : left ≡ suc (63 - length path) = omega arith in
       done ∙ ap (sees s) (sym (ap (λ l. found_below half nodes kind l parent path h) next
       ∙ below_inner half nodes kind (63 - length path) parent path h node.hashes (sym nonzero) (sym (shows _ _ _ e shown))))
-
-  pub refused_missing : (seen : Look) → false ≡ is_over s → false ≡ is_zero h → seen ≡ look.Missing → LooksAs seen (at_place half nodes kind parent path h)
-      → HasMissing (sees s (found_below half nodes kind left parent path h))
-  refused_missing seen more nonzero e shown =
-      subst (λ t. HasMissing t) (walk_missing seen (noted s (lacks (Node kind path))) more nonzero e shown refl) (missing_noted s (Node kind path))
-
-  pub refused_inner : (seen : Look) (node : Inner) → false ≡ is_zero h → seen ≡ look.Inner node → LooksAs seen (at_place half nodes kind parent path h)
-      → left ≡ 64 - length path → length path ≤ 64
-      → HasMissing (sees s (found_in half nodes kind (63 - length path) node.hashes path 16)) → HasMissing (sees s (found_below half nodes kind left parent path h))
-  refused_inner seen node nonzero e shown level short some =
-      subst (λ t. HasMissing t) (walk_inner seen node (sees s (found_in half nodes kind (63 - length path) node.hashes path 16)) nonzero e shown level short refl) some
 
 -- one branch more
 pub walk_branch : (half : Half) (nodes : Lookup) (kind : Kind) (hashes : List Hash) (path below : List ℕ) (h : Hash) (n left : ℕ) (s mid after : Seen)
@@ -125,27 +125,6 @@ walk_branch half nodes kind hashes path below h n left s mid after so_far place 
     ∙ sym (sees-append s (found_in half nodes kind (63 - length path) hashes path n) _)
     ∙ ap (sees s) (sym (in_more half nodes kind (63 - length path) hashes path n (n + 1) (omega arith)))
 
-pub walk_none : (half : Half) (nodes : Lookup) (kind : Kind) (left : ℕ) (hashes : List Hash) (path : List ℕ) (s : Seen) → s ≡ sees s (found_in half nodes kind left hashes path 0)
+pub walk_none : (half : Half) (nodes : Lookup) (kind : Kind) (left : ℕ) (hashes : List Hash) (path : List ℕ) (s : Seen)
+    → s ≡ sees s (found_in half nodes kind left hashes path 0)
 walk_none half nodes kind left hashes path s = ap (sees s) (sym (in_none half nodes kind left hashes path))
-
-in_later : (half : Half) (nodes : Lookup) (kind : Kind) (left : ℕ) (hashes : List Hash) (path : List ℕ) (s : Seen) (n d : ℕ)
-    → HasMissing (sees s (found_in half nodes kind left hashes path n)) → HasMissing (sees s (found_in half nodes kind left hashes path (n + d)))
-in_later half nodes kind left hashes path s n zero h = let e : n ≡ n + 0 = omega arith in subst (λ m. HasMissing (sees s (found_in half nodes kind left hashes path m))) e h
-in_later half nodes kind left hashes path s n (suc d) h =
-    let e : n + suc d ≡ suc (n + d) = omega arith in
-    let piece : List Finding = found_below half nodes kind left (Some hashes) (path ++ (n + d) ∷ []) (slice_index_or hashes (n + d) zero_hash) in
-    subst (λ xs. HasMissing (sees s xs)) (sym (in_more half nodes kind left hashes path (n + d) (n + suc d) e))
-    (subst (λ t. HasMissing t) (sym (sees-append s (found_in half nodes kind left hashes path (n + d)) piece))
-    (keeps_missing (sees s (found_in half nodes kind left hashes path (n + d))) piece (in_later half nodes kind left hashes path s n d h)))
-
--- memory was refused in a branch
-pub refused_branch : (half : Half) (nodes : Lookup) (kind : Kind) (hashes : List Hash) (path below : List ℕ) (h : Hash) (n left : ℕ) (s mid : Seen)
-    → n < 16 → mid ≡ sees s (found_in half nodes kind (63 - length path) hashes path n)
-    → below ≡ path ++ n ∷ [] → h ≡ slice_index_or hashes n zero_hash → left ≡ 64 - length below
-    → HasMissing (sees mid (found_below half nodes kind left (Some hashes) below h))
-    → HasMissing (sees s (found_in half nodes kind (63 - length path) hashes path 16))
-refused_branch half nodes kind hashes path below h n left s mid within so_far place hash level some =
-    let here : HasMissing (sees s (found_in half nodes kind (63 - length path) hashes path (n + 1))) =
-    subst (λ t. HasMissing t) (walk_branch half nodes kind hashes path below h n left s mid (sees mid (found_below half nodes kind left (Some hashes) below h)) so_far place hash level refl) some in
-    let all : n + 1 + (15 - n) ≡ 16 = omega arith in
-    subst (λ m. HasMissing (sees s (found_in half nodes kind (63 - length path) hashes path m))) all (in_later half nodes kind (63 - length path) hashes path s (n + 1) (15 - n) here)

@@ -1,16 +1,23 @@
 -- What a search keeps while it runs, and how a finding changes it.
-use Rattle.std.specs.Prelude.{◌≡◌, ℕ, ◌<◌, ◌||◌, Bool, true, false, is_some, nat_le, if◌then◌else◌, List, [], ◌∷◌, ◌++◌, length, Option}
-use Rattle.std.specs.Prelude.{None, Some, Result, Ok, Err}
-use Rattle.std.specs.List.{filter_map}
+use Rattle.std.specs.Prelude.{◌≡◌, ℕ, ◌==◌, ◌≤◌, ◌||◌, Bool, true, false, is_some, nat_le, if◌then◌else◌, List, [], ◌∷◌, ◌++◌, length, Option}
+use Rattle.std.specs.Prelude.{None, Some, IfSome, IsTrue}
+use Rattle.std.specs.Option.{option_map}
+use Rattle.std.specs.List.{filter_map, flat_map, range_with_len, slice_index_or}
+use Rattle.ledger_spec.specs.declared.Kind.{Kind}
 use Rattle.ledger_spec.specs.declared.Place.{Place}
 use Rattle.ledger_spec.specs.declared.ShapeFault.{ShapeFault}
 use Rattle.ledger_spec.specs.declared.Kind.TheVariants.{State, Tx}
-use Rattle.ledger_spec.specs.Bytes.{Bytes, Half, Lookup}
-use Rattle.ledger_spec.specs.Header.{state_root_of, tx_root_of}
+use Rattle.ledger_spec.specs.Bytes.{Bytes, Hash, Half, Lookup, zero_hash}
+use Rattle.ledger_spec.specs.Header.{header_bytes, state_root_of, tx_root_of}
+use Rattle.ledger_spec.specs.Spots.{header_in}
+use Rattle.ledger_header.specs.declared.Header.{Header}
+use Rattle.ledger_header.specs.Fields.{fields, Reads}
 use Rattle.ledger_spec.specs.Forms.{Held, inner, leaf}
-use Rattle.ledger_spec.specs.Findings.{Sight, missing, broken, sound, walk_map, Finding, lacks, breaks}
-use Rattle.ledger_spec.specs.Findings.{missing_of, first_broken}
+use Rattle.ledger_spec.specs.Findings.{Sight, missing, broken, sound, Met, walk, walk_map, Finding, lacks, breaks, finding_at}
+use Rattle.ledger_spec.specs.Findings.{missing_of, first_broken, seen}
 use Rattle.tree_laws.specs.Walks.{finding_of}
+use Rattle.rotating_store.specs.Stores.{Store}
+use Rattle.own_forms.specs.Reading.{WasRead}
 use Rattle.missing_walk.specs.declared.Found.{Found}
 use Rattle.missing_walk.specs.declared.sight.Sight.{Sight as Look}
 use Rattle.missing_walk.specs.declared.sight.Sight.TheVariants as look
@@ -47,19 +54,23 @@ abbrev pub sees : Seen → List Finding → Seen
 sees s [] = s
 sees s (f ∷ rest) = sees (note s f) rest
 
--- a place is missing
-abbrev pub HasMissing : Seen → Type 0
-HasMissing s = 0 < length s.missing
+-- a part of the walk: the store was only read, and these findings were noted; no more places are noted than a search may find
+pub record Walks (tells : Bool) (s s' : Store) (f f' : Found) (all : List Finding) : Type 0 where
+  pub read : WasRead tells s s'
+  pub header : f'.header ≡ f.header
+  pub few : length f.missing ≤ most_missing → length f'.missing ≤ most_missing
+  pub found : IsTrue tells → shown f' ≡ sees (shown f) all
 
--- what a part of the walk does: it notes its findings, or memory was refused, and only for a missing place
-abbrev pub Notes : {T E : Type 0} → Result T E → Seen → Seen → List Finding → Type 0
-Notes (Ok x) before after found = after ≡ sees before found
-Notes (Err e) before after found = HasMissing (sees before found)
+-- the header that is stored under the target, its fields read by the definitions
+pub record IsHeaderOf (nodes : Lookup) (target : Hash) (head : Option Header) : Type 0 where
+  pub bytes : option_map (λ h. header_bytes (fields h)) head ≡ header_in nodes target
+  pub reads : IfSome head (λ h. Reads (header_bytes (fields h)) h)
 
--- the result shows the missing places and the broken one of these findings
-pub record IsSeen (found : List Finding) (f : Found) : Type 0 where
-  pub missing : f.missing ≡ filter_map missing_of found
-  pub broken : f.broken ≡ first_broken found
+-- what is found of a ledger: its header, the missing places and the broken one
+pub record Finds (half : Half) (nodes : Lookup) (target : Hash) (f : Found) : Type 0 where
+  pub header : IsHeaderOf nodes target f.header
+  pub missing : f.missing ≡ filter_map missing_of (seen half nodes target)
+  pub broken : f.broken ≡ first_broken (seen half nodes target)
 
 -- a leaf as one with no data; no rule of shape looks at the data
 abbrev pub without_data : Held → Held
@@ -76,6 +87,11 @@ LooksAs look.Missing s = s ≡ missing
 LooksAs (look.Broken fault) s = s ≡ broken fault
 LooksAs (look.Inner i) s = s ≡ sound (inner i.hashes)
 LooksAs look.Leaf s = is_sound_leaf s ≡ true
+
+-- an inner node that belongs there has levels below it
+abbrev pub HasBelow : ℕ → Look → Type 0
+HasBelow depth (look.Inner i) = (depth == 64) ≡ false
+HasBelow depth _ = Unit {0}
 
 -- the findings in the two maps that a header names
 unfoldable pub found_in_maps : Half → Lookup → Bytes → List Finding

@@ -2,7 +2,12 @@
 ghost use Rattle.std.specs.Prelude.{◌≡◌, ◌+◌, ◌&&◌, [], if◌then◌else◌, length, nat_eq, nat_le, None, Some};
 ghost use Rattle.std.specs.Option.{option_map};
 ghost use Rattle.std.specs.List.{starts_with};
+ghost use Rattle.std.specs.Prelude.{IsTrue, IfOk, IfErr};
 ghost use Rattle.std.specs.FinMap as map;
+ghost use Rattle.run_io.specs.Bytes.{Rose};
+ghost use Rattle.ledger_spec.specs.Own.{own_forms};
+ghost use Rattle.rotating_store.specs.Stores.{nodes_of};
+ghost use Rattle.own_forms.specs.Reading.{WasRead};
 ghost use Rattle.half_hash.specs.Prefix.{prefix_of};
 ghost use Rattle.ledger_spec.specs.declared.Kind.TheVariants as kinds;
 ghost use Rattle.ledger_spec.specs.Bytes.{is_nonzero};
@@ -10,13 +15,15 @@ ghost use Rattle.ledger_spec.specs.Forms.{leaf, leaf_prefix, data_limit, keyed_l
 ghost use Rattle.ledger_spec.specs.Rules.{fault_of};
 ghost use Rattle.ledger_spec.specs.Findings.{seen_as, judged, held_of, sight_of, sound as belongs};
 ghost use Rattle.shamap_node.specs.Nodes.{held, held_leaf, hashes_above};
-ghost use Rattle.missing_walk.specs.Sees.{LooksAs, without_data};
+ghost use Rattle.missing_walk.specs.Sees.{LooksAs, HasBelow, without_data};
 
 use half_hash::{Blob, Hash32, NodeHash, Prefix};
 use ledger_header::Header;
 use ledger_spec::{Kind, ShapeFault};
 use nib_path::NodeId;
-use node_table::NodeTable;
+use node_backend::{BackFault, Shelf};
+use own_forms::own_form;
+use rotating_store::RotStore;
 use shamap_node::{DATA_LIMIT, Inner, Item, Leaf, Node, inner_of, shape};
 use std::alloc::Global;
 
@@ -28,25 +35,28 @@ pub(crate) enum Sight {
     Leaf,
 }
 
-/// What is seen at a place below this parent, in a map of this kind, at this path. It takes no memory: the
-/// allocator is that of the empty data of a leaf.
-pub(crate) fn look<H: NodeHash>(
+/// What is seen at a place below this parent, in a map of this kind, at this path.
+pub(crate) fn look<H: NodeHash, Sh: Shelf>(
     alloc: Global,
-    nodes: &NodeTable,
+    store: &mut RotStore<Sh>,
     kind: Kind,
     parent: Option<&Inner>,
     id: &NodeId,
     hash: &Hash32,
-) -> Sight
-    ensures { LooksAs result (sight_of H.half (λ n. fault_of n (hashes_above parent.entry) kind id.now) (map.get nodes.now hash.now)) }
+) -> Result<Sight, BackFault>
+    ensures sight { IsTrue Sh.B.tells → IfOk result (λ s. LooksAs s (sight_of H.half
+        (λ n. fault_of n (hashes_above parent.entry) kind id.now) (own_forms H.half (map.get (nodes_of store.old)) hash.now))) }
+    ensures inner { IfOk result (HasBelow (length id.now)) }
+    ensures read { WasRead Sh.B.tells store.old store.new }
+    ensures fault { IfErr result (λ e. e ≡ BackFault.Fault → Rose store.old.faults store.new.faults) }
 {
-    match nodes.get(hash) {
-        Some(form) => judge::<H>(alloc, form.bytes(), kind, parent, id),
-        None => Sight::Missing,
+    match own_form::<H, Sh>(alloc, store, hash)? {
+        Some(form) => Ok(judge::<H>(alloc, form.bytes(), kind, parent, id)),
+        None => Ok(Sight::Missing),
     }
 }
 
-// What is seen where this form is stored.
+// What is seen where this form is stored. It takes no memory: the allocator is that of the empty data of a leaf.
 fn judge<H: NodeHash>(
     alloc: Global,
     form: &[u8],

@@ -34,7 +34,8 @@ nibbles-low [] k = refl
 nibbles-low (b ∷ bs) zero = refl
 nibbles-low (b ∷ bs) (suc k) = rw (double-suc k) (nibbles-low bs k)
 
-pub nibbles-set_high : (bs : List ℕ) (k n : ℕ) → nibbles (slice_set bs k (n * 16 + slice_index bs k % 16)) ≡ slice_set (nibbles bs) (2 * k) n
+pub nibbles-set_high : (bs : List ℕ) (k n : ℕ)
+    → nibbles (slice_set bs k (n * 16 + slice_index bs k % 16)) ≡ slice_set (nibbles bs) (2 * k) n
 nibbles-set_high [] k n = refl
 nibbles-set_high (b ∷ bs) zero n =
     let high : (n * 16 + b % 16) / 16 ≡ n = omega arith in
@@ -42,7 +43,8 @@ nibbles-set_high (b ∷ bs) zero n =
     λ i. high i ∷ low i ∷ nibbles bs
 nibbles-set_high (b ∷ bs) (suc k) n = rw (double-suc k) (ap (λ (r : List ℕ). b / 16 ∷ b % 16 ∷ r) (nibbles-set_high bs k n))
 
-pub nibbles-set_low : (bs : List ℕ) (k n : ℕ) → n < 16 → nibbles (slice_set bs k (slice_index bs k / 16 * 16 + n)) ≡ slice_set (nibbles bs) (suc (2 * k)) n
+pub nibbles-set_low : (bs : List ℕ) (k n : ℕ) → n < 16
+    → nibbles (slice_set bs k (slice_index bs k / 16 * 16 + n)) ≡ slice_set (nibbles bs) (suc (2 * k)) n
 nibbles-set_low [] k n h = refl
 nibbles-set_low (b ∷ bs) zero n h =
     let high : (b / 16 * 16 + n) / 16 ≡ b / 16 = omega arith in
@@ -98,7 +100,8 @@ list_all-take p (suc d) [] h = refl
 list_all-take p (suc d) (n ∷ ns) h =
     let both = and_parts (p n) (list_all p ns) h in and_from _ _ both.0 (list_all-take p d ns both.1)
 
-pub list_all-append_zeros : (ns : List ℕ) (k : ℕ) → IsTrue (list_all (λ n. nat_lt n 16) ns) → IsTrue (list_all (λ n. nat_lt n 16) (ns ++ replicate k 0))
+pub list_all-append_zeros : (ns : List ℕ) (k : ℕ) → IsTrue (list_all (λ n. nat_lt n 16) ns)
+    → IsTrue (list_all (λ n. nat_lt n 16) (ns ++ replicate k 0))
 list_all-append_zeros [] zero h = refl
 list_all-append_zeros [] (suc k) h = list_all-append_zeros [] k h
 list_all-append_zeros (n ∷ ns) k h =

@@ -32,7 +32,8 @@ pub first_set_from-end : (i : ℕ) (ns : List ℕ) → length ns ≤ i → first
 first_set_from-end i ns h = ap (position_from (λ n. nat_lt 0 n) i) (drop_all i ns h)
 
 -- an ID with zeros behind the depth
-pub zeros-IsNodeId : (id : List ℕ) (d : ℕ) → length id ≡ 32 → d ≤ 64 → first_set_from d (nibbles id) ≡ None → IsNodeId (record { depth = d; id = id })
+pub zeros-IsNodeId : (id : List ℕ) (d : ℕ) → length id ≡ 32 → d ≤ 64 → first_set_from d (nibbles id) ≡ None
+    → IsNodeId (record { depth = d; id = id })
 zeros-IsNodeId id d full h e =
     let n : length (drop d (nibbles id)) ≡ 64 - d = omega (arith, length-drop d (nibbles id), length-nibbles id) in
     record {
@@ -105,14 +106,16 @@ length-id_of : (p : List ℕ) → IsPath p → length (id_of p) ≡ 32
 length-id_of p h = length-packed 32 (p ++ replicate (64 - length p) 0) (length-filled p h)
 
 pub nibbles-id_of : (p : List ℕ) → IsPath p → nibbles (id_of p) ≡ p ++ replicate (64 - length p) 0
-nibbles-id_of p h = nibbles-packed 32 (p ++ replicate (64 - length p) 0) (length-filled p h) (list_all-append_zeros p (64 - length p) h.nibbles_below)
+nibbles-id_of p h =
+    nibbles-packed 32 (p ++ replicate (64 - length p) 0) (length-filled p h) (list_all-append_zeros p (64 - length p) h.nibbles_below)
 
 -- the fields that a path gives are seen as that path, so two paths that give the same fields are the same
 pub path_of-inside_of : (p : List ℕ) → IsPath p → path_of (inside_of p) ≡ p
 path_of-inside_of p h = ap (take (length p)) (nibbles-id_of p h) ∙ take_at p (replicate (64 - length p) 0) (length p) refl
 
 -- what `==` says of two node IDs
-pub same_path-Decides : (p q : List ℕ) → IsPath p → IsPath q → Decides (nat_eq (length p) (length q) && bytes_eq (id_of p) (id_of q)) (p ≡ q)
+pub same_path-Decides : (p q : List ℕ) → IsPath p → IsPath q
+    → Decides (nat_eq (length p) (length q) && bytes_eq (id_of p) (id_of q)) (p ≡ q)
 same_path-Decides p q h k =
     let ids = bytes_eq-Decides (id_of p) (id_of q) in
     let there : (nat_eq (length p) (length q) && bytes_eq (id_of p) (id_of q)) ≡ true → p ≡ q = λ t.

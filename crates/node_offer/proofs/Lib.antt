@@ -1,2 +1,4 @@
-pub mod Storing
 pub mod Walking
+pub mod Storing
+pub mod Kept
+pub mod Wanted

@@ -1,12 +1,14 @@
 -- One step of the way to a place.
 use Rattle.std.proofs.Common.{◌≡◌, ◌+◌, ◌-◌, ◌<◌, ℕ, List, [], ◌∷◌, ◌++◌, length, take, drop, get_or, replicate, Option, Some, Result, Ok}
-use Rattle.std.proofs.Common.{Err, sym, ap, ◌∙◌, arith, length-append}
+use Rattle.std.specs.FinMap as map
+use Rattle.ledger_spec.specs.Own.{own_forms}
+use Rattle.std.proofs.Common.{Err, sym, ap, subst, ◌∙◌, arith, length-append}
 use Rattle.std.specs.Prelude.{slice_index}
 use Rattle.std.specs.List.{slice_index_or}
 use Rattle.std.proofs.lemmas.List.{length-replicate, take_more, drop_more, take-append-le, get_or_append_left}
 use Rattle.nib_path.specs.Paths.{nibbles, nibble_of, id_of, IsPath}
 use Rattle.nib_path.proofs.Nibbles.{nibbles-packed, list_all-append_zeros}
-use Rattle.ledger_spec.specs.Bytes.{Hash, Lookup, zero_hash}
+use Rattle.ledger_spec.specs.Bytes.{Hash, Half, Lookup, Nodes, zero_hash}
 use Rattle.ledger_spec.specs.Spots as way
 use Rattle.ledger_spec.specs.Spots.{spot_from, spot_of, spot_below, header_in, header_root}
 use Rattle.shamap_node.specs.declared.parts.Inner.{Inner}
@@ -49,7 +51,16 @@ goes_on nodes path key d n parent h next at i total is lt id before nibble branc
     ∙ walk_on nodes path d parent h at (Ok i) total lt (before ∙ ap (λ k. take d (nibbles k)) id ∙ at_is path d is lt) step so_far
 
 -- what stands in the way there
-pub ends : (nodes : Lookup) (path key : List ℕ) (d : ℕ) (parent : Option (List Hash)) (h : Hash) (at : List ℕ) (s : Spot) (total : way.Spot) → IsPath path → d < length path → key ≡ id_of path → at ≡ take d (nibbles key)
+pub ends : (nodes : Lookup) (path key : List ℕ) (d : ℕ) (parent : Option (List Hash)) (h : Hash) (at : List ℕ) (s : Spot) (total : way.Spot)
+    → IsPath path → d < length path → key ≡ id_of path → at ≡ take d (nibbles key)
     → ((on : List Hash → way.Spot) → step_of (Err s) on ≡ step_down at on h (nodes h)) → spot_from nodes (take d path) parent h (drop d path) ≡ total → spot s ≡ total
 ends nodes path key d parent h at s total is lt id before step so_far =
     walk_on nodes path d parent h at (Err s) total lt (before ∙ ap (λ k. take d (nibbles k)) id ∙ at_is path d is lt) step so_far
+
+-- a step over the store as it was read on the way
+pub step_at : (half : Half) (n n' : Nodes) (at : List ℕ) (h : Hash) (r r' : Result Inner Spot) → n' ≡ n → r ≡ r'
+    → ((on : List Hash → way.Spot) → step_of r on ≡ step_down at on h (own_forms half (map.get n') h))
+    → (on : List Hash → way.Spot) → step_of r' on ≡ step_down at on h (own_forms half (map.get n) h)
+step_at half n n' at h r r' same is step =
+    subst (λ x. (on : List Hash → way.Spot) → step_of r' on ≡ step_down at on h (own_forms half (map.get x) h)) same
+    (subst (λ x. (on : List Hash → way.Spot) → step_of x on ≡ step_down at on h (own_forms half (map.get n') h)) is step)

@@ -1,26 +1,45 @@
--- What an offer stores, and the clash that it may meet.
-use Rattle.std.specs.Prelude.{◌≡◌, Bool, true, false, is_some, if◌then◌else◌, List, [], ◌∷◌, Option, None, Some, Result, Ok, Err}
+-- What an offer stores, and why it isn't judged.
+use Rattle.std.specs.Prelude.{◌≡◌, ◌≢◌, ◌⊎◌, is_some, if◌then◌else◌, List, [], ◌∷◌, None, Some, Result, Ok, Err}
 use Rattle.std.specs.FinMap as map
-use Rattle.ledger_spec.specs.Bytes.{Bytes, Hash, Half, Nodes, same_bytes}
+use Rattle.ledger_spec.specs.Bytes.{Bytes, Hash, Half}
 use Rattle.ledger_spec.specs.Offers.{Clash}
-use Rattle.node_offer.specs.declared.store.OfferFault.{OfferFault}
-use Rattle.node_offer.specs.declared.store.OfferFault.TheVariants as faults
+use Rattle.rotating_store.specs.Stores.{Store, nodes_of, Counted, with_pair}
+use Rattle.rotating_store.specs.Puts.{MayStore}
+use Rattle.node_offer.specs.declared.fault.OfferFault.{OfferFault}
+use Rattle.node_offer.specs.declared.fault.OfferFault.TheVariants as faults
+use Rattle.node_offer.specs.declared.store.Stored.{Stored}
+use Rattle.node_offer.specs.declared.store.Stored.TheVariants as stored
 
--- the outcome is the clash that the fault carries; want of memory tells nothing of it
-abbrev pub HasClash : {X : Type 0} → Result X Clash → OfferFault → Type 0
-HasClash outcome (faults.Clash h old new) = outcome ≡ Err (record { hash = h; old = old; new = new })
-HasClash outcome faults.Memory = Unit {0}
+-- the store with a form under its hash, in the writable map; a form that is held is not written again
+abbrev pub with_form : Half → Store → Bytes → Store
+with_form half s form = if is_some (map.get (nodes_of s) (half form)) then s else with_pair s (half form) form
 
--- whether a form is new under its hash, given what is stored there
-abbrev pub stored_form : Hash → Bytes → Option Bytes → Result Bool Clash
-stored_form h form None = Ok true
-stored_form h form (Some old) = if same_bytes old form then Ok false else Err (record { hash = h; old = old; new = form })
+abbrev pub with_forms : Half → Store → List Bytes → Store
+with_forms half s [] = s
+with_forms half s (form ∷ forms) = with_forms half (with_form half s form) forms
 
--- with a form under its hash; a form that is there is not written again
-abbrev pub with_node : Half → Nodes → Bytes → Nodes
-with_node half nodes form = if is_some (map.get nodes (half form)) then nodes else map.insert nodes (half form) form
+-- these forms were stored under their hashes and, but for the counts, nothing else changed
+abbrev pub HasForms : Half → List Bytes → Store → Store → Type 0
+HasForms half forms s s' = Counted (with_forms half s forms) s'
 
--- with forms under their hashes
-abbrev pub with_nodes : Half → Nodes → List Bytes → Nodes
-with_nodes half nodes [] = nodes
-with_nodes half nodes (form ∷ forms) = with_nodes half (with_node half nodes form) forms
+-- why there is no outcome, and what is stored then: a clash is the outcome and stores nothing; after a fault, or for want of memory,
+-- nothing is stored, or what the outcome stores
+abbrev pub Refuses : {X : Type 0} → Half → Result X Clash → List Bytes → Store → OfferFault → Store → Type 0
+Refuses half outcome forms s (faults.Clash h old new) s' = (outcome ≡ Err (record { hash = h; old = old; new = new })) × Counted s s'
+Refuses half outcome forms s faults.Fault s' = Counted s s' ⊎ HasForms half forms s s'
+Refuses half outcome forms s faults.Memory s' = Counted s s' ⊎ HasForms half forms s s'
+
+-- no clash
+abbrev pub IsPlain : OfferFault → Type 0
+IsPlain (faults.Clash h old new) = ⊥
+IsPlain _ = Unit {0}
+
+-- what is held under the hash decides: nothing, this form, or another one; but first the form's own hash
+abbrev pub Stores : Half → Store → Hash → Bytes → Result Stored OfferFault → Store → Type 0
+Stores half s h form (Ok stored.New) s' = (half form ≡ h) × (map.get (nodes_of s) h ≡ None) × Counted (with_pair s h form) s'
+Stores half s h form (Ok stored.Same) s' = (half form ≡ h) × (map.get (nodes_of s) h ≡ Some form) × Counted s s'
+Stores half s h form (Ok (stored.WrongHash found)) s' = (half form ≢ h) × (found ≡ half form) × Counted s s'
+Stores half s h form (Err (faults.Clash hash old new)) s' =
+    (half form ≡ h) × (hash ≡ h) × (new ≡ form) × (map.get (nodes_of s) h ≡ Some old) × (old ≢ form) × Counted s s'
+Stores half s h form (Err faults.Fault) s' = (half form ≡ h) × MayStore s h form s'
+Stores half s h form (Err faults.Memory) s' = (half form ≡ h) × MayStore s h form s'

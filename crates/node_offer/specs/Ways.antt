@@ -1,11 +1,15 @@
 -- What the answers on the way to a place stand for.
-use Rattle.std.specs.Prelude.{ℕ, Bool, true, false, if◌then◌else◌, List, Option, None, Some, Result, Ok, Err}
+use Rattle.std.specs.Prelude.{ℕ, if◌then◌else◌, List, Option, None, Some, Result, Ok, Err}
 use Rattle.ledger_spec.specs.Bytes.{Bytes, Hash, is_zero}
 use Rattle.ledger_spec.specs.Spots as way
 use Rattle.ledger_spec.specs.Spots.{into}
 use Rattle.shamap_node.specs.declared.parts.Inner.{Inner}
 use Rattle.ledger_spec.specs.declared.outcomes.Offered.{Offered}
 use Rattle.ledger_spec.specs.declared.outcomes.Offered.TheVariants as offered
+use Rattle.ledger_spec.specs.declared.outcomes.HeadOffered.{HeadOffered}
+use Rattle.ledger_spec.specs.declared.outcomes.HeadOffered.TheVariants as head
+use Rattle.node_offer.specs.declared.store.Stored.{Stored}
+use Rattle.node_offer.specs.declared.store.Stored.TheVariants as stored
 use Rattle.node_offer.specs.declared.spots.Spot.{Spot}
 use Rattle.node_offer.specs.declared.spots.Spot.TheVariants as spots
 
@@ -30,8 +34,15 @@ abbrev pub step_of : Result Inner Spot → (List Hash → way.Spot) → way.Spot
 step_of (Ok inner) on = on inner.hashes
 step_of (Err s) on = spot s
 
--- what became of a node with the wanted hash: whether it is new, and the rule that it breaks
-abbrev pub offered_as : Bool → Option ℕ → Offered
-offered_as false rule = offered.Duplicate
-offered_as true None = offered.Good
-offered_as true (Some number) = offered.Malformed number
+-- what became of a node that was to have this hash, and the rule that it breaks
+abbrev pub offered_as : Hash → Option ℕ → Stored → Offered
+offered_as wanted rule (stored.WrongHash found) = offered.BadHash wanted found
+offered_as wanted rule stored.Same = offered.Duplicate
+offered_as wanted None stored.New = offered.Good
+offered_as wanted (Some number) stored.New = offered.Malformed number
+
+-- what became of a header of the right length
+abbrev pub head_as : Stored → HeadOffered
+head_as stored.New = head.Good
+head_as stored.Same = head.Duplicate
+head_as (stored.WrongHash found) = head.BadHash found

@@ -2,15 +2,18 @@
 //! is the one that is wanted there.
 #![tactic(auto)]
 
+mod fault;
 mod header;
+mod laws;
 mod node;
 mod spots;
 mod store;
 
+pub use fault::OfferFault;
 pub use header::offer_header;
+pub use laws::a_wanted_node_is_never_bad;
 pub use node::offer;
 pub use spots::{Spot, place};
-pub use store::OfferFault;
 
 #[cfg(test)]
 mod tests;

@@ -1,5 +1,5 @@
 //! A node that a peer offers for a place.
-ghost use Rattle.std.specs.Prelude.{◌≡◌, Err, IfErr, IfOk, Ok, OnErr, OnOk};
+ghost use Rattle.std.specs.Prelude.{◌≡◌, IsTrue, IfErr, IfOk, Ok};
 ghost use Rattle.std.specs.FinMap as map;
 ghost use Rattle.std.specs.Option.{option_map};
 ghost use Rattle.ledger_spec.specs.Rules.{fault_of, rule_number};
@@ -7,91 +7,126 @@ ghost use Rattle.ledger_spec.specs.Spots as way;
 ghost use Rattle.ledger_spec.specs.Wire.{read_wire};
 ghost use Rattle.shamap_node.specs.Nodes.{held};
 ghost use Rattle.ledger_spec.specs.Offers.{node_outcome, spot_outcome, stored_by};
-ghost use Rattle.node_offer.specs.Stored.{HasClash, with_nodes};
-ghost use Rattle.node_offer.specs.Ways.{hashes_of_parent, offered_as};
+ghost use Rattle.run_io.specs.Bytes.{Rose};
+ghost use Rattle.ledger_spec.specs.Own.{AreStored};
+ghost use Rattle.rotating_store.specs.Stores.{nodes_of};
+ghost use Rattle.own_forms.specs.Reading.{IsLater};
+ghost use Rattle.node_offer.specs.Stored.{HasForms, Refuses};
+ghost use Rattle.node_offer.specs.Ways.{hashes_of_parent, offered_as, spot as spot_means};
 
+use crate::fault::OfferFault;
 use crate::spots::{Spot, place};
-use crate::store::{OfferFault, put, same};
+use crate::store::{Stored, put};
 use half_hash::{Hash32, NodeHash};
 use ledger_spec::Offered;
 use nib_path::NodeId;
-use node_table::NodeTable;
+use node_backend::Shelf;
 use node_wire::{WireFault, decode_wire, wire_code};
-use shamap_node::{Inner, Kind, Node, encode_form, hash_of, shape};
+use rotating_store::RotStore;
+use shamap_node::{Inner, Kind, Node, encode_form, shape};
 use std::alloc::Global;
 
 /// Judges the node that these bytes are the wire form of, offered for a place of a ledger's map, and stores its form under its hash
 /// where it is the node that is wanted there, also where it breaks a rule of shape. The first of these that applies is the answer: bad
 /// bytes, what stands in the way to the place, another hash than the wanted one, a clash, a node that is stored, a broken rule, good.
-pub fn offer<H: NodeHash>(
+/// After a fault, or for want of memory, a node that would be stored may be, and nothing else. What is said of the outcome holds where
+/// all that is stored are forms under their own hashes.
+pub fn offer<H: NodeHash, Sh: Shelf>(
     alloc: Global,
-    nodes: &mut NodeTable,
+    store: &mut RotStore<Sh>,
     target: &Hash32,
     kind: Kind,
     id: &NodeId,
     blob: &[u8],
 ) -> Result<Offered, OfferFault>
-    ensures outcome { IfOk result (λ o. node_outcome H.half (map.get nodes.old) target.now kind id.now blob.now ≡ Ok o) }
-    ensures clash { IfErr result (HasClash (node_outcome H.half (map.get nodes.old) target.now kind id.now blob.now)) }
+    ensures outcome { IsTrue Sh.B.tells → AreStored H.half (map.get (nodes_of store.old))
+        → IfOk result (λ o. node_outcome H.half (map.get (nodes_of store.old)) target.now kind id.now blob.now ≡ Ok o) }
 
     // a node that is good, or that breaks a rule, is stored under its hash, and nothing else changes
-    ensures stored { IfOk result (λ o. nodes.new ≡ with_nodes H.half nodes.old (stored_by (read_wire H.half blob.now) (Ok o))) }
-    ensures err { OnErr result (nodes.new ≡ nodes.old) }
+    ensures stored { IsTrue Sh.B.tells
+        → IfOk result (λ o. HasForms H.half (stored_by (read_wire H.half blob.now) (Ok o)) store.old store.new) }
+    ensures err { IsTrue Sh.B.tells → AreStored H.half (map.get (nodes_of store.old))
+        → IfErr result (λ e. Refuses H.half (node_outcome H.half (map.get (nodes_of store.old)) target.now kind id.now blob.now)
+        (stored_by (read_wire H.half blob.now) (node_outcome H.half (map.get (nodes_of store.old)) target.now kind id.now blob.now))
+        store.old e store.new) }
+    ensures later { IsLater store.old store.new }
+    ensures fault { IfErr result (λ e. e ≡ OfferFault.Fault → Rose store.old.faults store.new.faults) }
 {
     let node = match decode_wire::<H>(alloc, blob) {
         Ok(node) => node,
         Err(WireFault::Memory) => return Err(OfferFault::Memory),
         Err(fault) => return Ok(Offered::BadWire(wire_code(&fault))),
     };
-    match place(nodes, target, kind, id) {
+    let spot = place::<H, Sh>(alloc, store, target, kind, id)?;
+    Ok(offer_to::<H, Sh>(alloc, store, &node, spot, kind, id)?)
+}
+
+// The same for a node, by what its place is.
+fn offer_to<H: NodeHash, Sh: Shelf>(
+    alloc: Global,
+    store: &mut RotStore<Sh>,
+    node: &Node,
+    spot: Spot,
+    kind: Kind,
+    id: &NodeId,
+) -> Result<Offered, OfferFault>
+    ensures outcome { IsTrue Sh.B.tells → IfOk result (λ o.
+        spot_outcome H.half (map.get (nodes_of store.old)) kind id.now (held node.now) (spot_means spot) ≡ Ok o) }
+    ensures stored { IsTrue Sh.B.tells → IfOk result (λ o. HasForms H.half (stored_by (Ok (held node.now)) (Ok o)) store.old store.new) }
+    ensures err { IsTrue Sh.B.tells → IfErr result (λ e. Refuses H.half
+        (spot_outcome H.half (map.get (nodes_of store.old)) kind id.now (held node.now) (spot_means spot))
+        (stored_by (Ok (held node.now)) (spot_outcome H.half (map.get (nodes_of store.old)) kind id.now (held node.now) (spot_means spot)))
+        store.old e store.new) }
+    ensures later { IsLater store.old store.new }
+    ensures fault { IfErr result (λ e. e ≡ OfferFault.Fault → Rose store.old.faults store.new.faults) }
+{
+    match spot {
         Spot::NoBase => Ok(Offered::NoBase),
         Spot::NoParent(at) => Ok(Offered::NoParent(at)),
         Spot::EmptyBranch(at) => Ok(Offered::EmptyBranch(at)),
         Spot::UnderLeaf(at) => Ok(Offered::UnderLeaf(at)),
         Spot::Wanted { hash, parent } => {
-            Ok(offer_at::<H>(alloc, nodes, &node, &hash, parent, kind, id)?)
+            Ok(offer_at::<H, Sh>(alloc, store, node, &hash, parent, kind, id)?)
         }
     }
 }
 
 // The same for a node, at a place where this hash is wanted.
-fn offer_at<H: NodeHash>(
+fn offer_at<H: NodeHash, Sh: Shelf>(
     alloc: Global,
-    nodes: &mut NodeTable,
+    store: &mut RotStore<Sh>,
     node: &Node,
     wanted: &Hash32,
     parent: Option<Inner>,
     kind: Kind,
     id: &NodeId,
 ) -> Result<Offered, OfferFault>
-    ensures outcome { IfOk result (λ o.
-        spot_outcome H.half (map.get nodes.old) kind id.now (held node.now) (way.wanted wanted.now (hashes_of_parent parent)) ≡ Ok o) }
-    ensures clash { IfErr result
-        (HasClash (spot_outcome H.half (map.get nodes.old) kind id.now (held node.now) (way.wanted wanted.now (hashes_of_parent parent)))) }
-    ensures stored { IfOk result (λ o. nodes.new ≡ with_nodes H.half nodes.old (stored_by (Ok (held node.now)) (Ok o))) }
-    ensures err { OnErr result (nodes.new ≡ nodes.old) }
+    ensures outcome { IsTrue Sh.B.tells → IfOk result (λ o.
+        spot_outcome H.half (map.get (nodes_of store.old)) kind id.now (held node.now) (way.wanted wanted.now (hashes_of_parent parent)) ≡ Ok o) }
+    ensures stored { IsTrue Sh.B.tells → IfOk result (λ o. HasForms H.half (stored_by (Ok (held node.now)) (Ok o)) store.old store.new) }
+    ensures err { IsTrue Sh.B.tells → IfErr result (λ e. Refuses H.half
+        (spot_outcome H.half (map.get (nodes_of store.old)) kind id.now (held node.now) (way.wanted wanted.now (hashes_of_parent parent)))
+        (stored_by (Ok (held node.now))
+        (spot_outcome H.half (map.get (nodes_of store.old)) kind id.now (held node.now) (way.wanted wanted.now (hashes_of_parent parent))))
+        store.old e store.new) }
+    ensures later { IsLater store.old store.new }
+    ensures fault { IfErr result (λ e. e ≡ OfferFault.Fault → Rose store.old.faults store.new.faults) }
 {
-    let found = hash_of::<H>(node);
-    if !same(&found.bytes, &wanted.bytes) {
-        return Ok(Offered::BadHash {
-            wanted: *wanted,
-            found,
-        });
-    }
     let rule = rule_broken(node, parent, kind, id);
     let form = encode_form(alloc, node)?;
-    let new = put(alloc, nodes, wanted, form)?;
-    Ok(stored_as(new, rule))
+    let stored = put::<H, Sh>(alloc, store, wanted, form.bytes())?;
+    Ok(stored_as(stored, *wanted, rule))
 }
 
-// What became of a node with the wanted hash.
-fn stored_as(new: bool, rule: Option<u8>) -> Offered
-    ensures { result ≡ offered_as new rule }
+// What became of a node that was to have this hash.
+fn stored_as(stored: Stored, wanted: Hash32, rule: Option<u8>) -> Offered
+    ensures { result ≡ offered_as wanted rule stored }
 {
-    match rule {
-        _ if !new => Offered::Duplicate,
-        None => Offered::Good,
-        Some(number) => Offered::Malformed(number),
+    match (stored, rule) {
+        (Stored::WrongHash(found), _) => Offered::BadHash { wanted, found },
+        (Stored::Same, _) => Offered::Duplicate,
+        (Stored::New, None) => Offered::Good,
+        (Stored::New, Some(number)) => Offered::Malformed(number),
     }
 }
 

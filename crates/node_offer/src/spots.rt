@@ -1,17 +1,27 @@
 //! The way from a ledger's header to a place in one of its maps.
-ghost use Rattle.std.specs.Prelude.{◌≡◌, [], None, List};
+ghost use Rattle.std.specs.Prelude.{◌≡◌, [], None, List, IsTrue, IfOk, IfErr};
 ghost use Rattle.std.specs.FinMap as map;
-ghost use Rattle.std.specs.Option.{option_map};
+ghost use Rattle.std.specs.Option.{option_map, option_map_or};
+ghost use Rattle.ledger_spec.specs.Forms.{header_of, inner_of as inner_form};
 ghost use Rattle.ledger_spec.specs.Bytes.{Hash};
 ghost use Rattle.ledger_spec.specs.Spots as way;
 ghost use Rattle.ledger_spec.specs.Spots.{header_in, header_root, spot_from, spot_of};
+ghost use Rattle.run_io.specs.Bytes.{Rose};
+ghost use Rattle.ledger_spec.specs.Own.{own_forms};
+ghost use Rattle.rotating_store.specs.Stores.{nodes_of};
+ghost use Rattle.own_forms.specs.Reading.{WasRead};
+ghost use Rattle.node_offer.specs.Stored.{IsPlain};
 ghost use Rattle.node_offer.specs.Ways.{spot, step_down, step_of};
 
-use half_hash::Hash32;
+use crate::fault::OfferFault;
+use half_hash::{Hash32, NodeHash};
 use ledger_header::Header;
 use nib_path::{NodeId, nibble};
-use node_table::NodeTable;
+use node_backend::{BackFault, Shelf};
+use own_forms::own_form;
+use rotating_store::RotStore;
 use shamap_node::{Inner, Kind, inner_of};
+use std::alloc::Global;
 
 /// What a place in a ledger's map is.
 #[derive(Clone, Copy, Debug)]
@@ -28,22 +38,51 @@ pub enum Spot {
     UnderLeaf(NodeId),
 }
 
-/// What the place is, by the nodes that are stored. The first thing in the way, from the root on, is the answer. It takes no memory.
-pub fn place(nodes: &NodeTable, target: &Hash32, kind: Kind, id: &NodeId) -> Spot
-    ensures { spot result ≡ spot_of (map.get nodes.now) target.now kind id.now }
+/// What the place is, by the nodes that are held. The first thing in the way, from the root on, is the answer. It asks each backend
+/// at most once for each place on the way.
+pub fn place<H: NodeHash, Sh: Shelf>(
+    alloc: Global,
+    store: &mut RotStore<Sh>,
+    target: &Hash32,
+    kind: Kind,
+    id: &NodeId,
+) -> Result<Spot, OfferFault>
+    ensures spot { IsTrue Sh.B.tells
+        → IfOk result (λ s. spot s ≡ spot_of (own_forms H.half (map.get (nodes_of store.old))) target.now kind id.now) }
+    ensures read { WasRead Sh.B.tells store.old store.new }
+    ensures fault { IfErr result (λ e. e ≡ OfferFault.Fault → Rose store.old.faults store.new.faults) }
+    ensures kind { IfErr result IsPlain }
 {
-    match root_in(nodes, target, kind) {
-        None => Spot::NoBase,
-        Some(root) => walk(nodes, root, id),
+    let root = root_in::<H, Sh>(alloc, store, target, kind)?;
+    match root {
+        None => Ok(Spot::NoBase),
+        Some(root) => Ok(walk::<H, Sh>(alloc, store, root, id)?),
     }
 }
 
-// The root of the map of this kind, of the header that is stored under the target.
-fn root_in(nodes: &NodeTable, target: &Hash32, kind: Kind) -> Option<Hash32>
-    ensures { result ≡ option_map (header_root kind) (header_in (map.get nodes.now) target.now) }
+// The root of the map of this kind, of the header that is held under the target.
+fn root_in<H: NodeHash, Sh: Shelf>(
+    alloc: Global,
+    store: &mut RotStore<Sh>,
+    target: &Hash32,
+    kind: Kind,
+) -> Result<Option<Hash32>, BackFault>
+    ensures root { IsTrue Sh.B.tells → IfOk result (λ root. root
+        ≡ option_map (header_root kind) (header_in (own_forms H.half (map.get (nodes_of store.old))) target.now)) }
+    ensures read { WasRead Sh.B.tells store.old store.new }
+    ensures fault { IfErr result (λ e. e ≡ BackFault.Fault → Rose store.old.faults store.new.faults) }
 {
-    let form = nodes.get(target)?;
-    let header = Header::from_form(form.bytes())?;
+    match own_form::<H, Sh>(alloc, store, target)? {
+        None => Ok(None),
+        Some(form) => Ok(root_of(form.bytes(), kind)),
+    }
+}
+
+// The same, of the header whose form this is.
+fn root_of(form: &[u8], kind: Kind) -> Option<Hash32>
+    ensures { result ≡ option_map (header_root kind) (header_of form.now) }
+{
+    let header = Header::from_form(form)?;
     Some(match kind {
         Kind::State => header.state_root,
         Kind::Tx => header.tx_root,
@@ -52,8 +91,16 @@ fn root_in(nodes: &NodeTable, target: &Hash32, kind: Kind) -> Option<Hash32>
 }
 
 // The place, from the root on.
-fn walk(nodes: &NodeTable, root: Hash32, id: &NodeId) -> Spot
-    ensures { spot result ≡ spot_from (map.get nodes.now) [] None root id.now }
+fn walk<H: NodeHash, Sh: Shelf>(
+    alloc: Global,
+    store: &mut RotStore<Sh>,
+    root: Hash32,
+    id: &NodeId,
+) -> Result<Spot, BackFault>
+    ensures spot { IsTrue Sh.B.tells
+        → IfOk result (λ s. spot s ≡ spot_from (own_forms H.half (map.get (nodes_of store.old))) [] None root id.now) }
+    ensures read { WasRead Sh.B.tells store.old store.new }
+    ensures fault { IfErr result (λ e. e ≡ BackFault.Fault → Rose store.old.faults store.new.faults) }
 {
     id.known();
     let key = id.id();
@@ -61,31 +108,46 @@ fn walk(nodes: &NodeTable, root: Hash32, id: &NodeId) -> Spot
     let mut parent = None;
     for depth in 0..id.depth() {
         let at = NodeId::of_key(&key, depth);
-        match step(nodes, &hash, at) {
+        match step::<H, Sh>(alloc, store, &hash, at)? {
             Ok(inner) => {
                 hash = inner.branch(nibble(&key, depth));
                 parent = Some(inner);
             }
-            Err(spot) => return spot,
+            Err(spot) => return Ok(spot),
         }
     }
     if hash.is_zero() {
-        return Spot::EmptyBranch(*id);
+        return Ok(Spot::EmptyBranch(*id));
     }
-    Spot::Wanted { hash, parent }
+    Ok(Spot::Wanted { hash, parent })
 }
 
-// The inner node that is stored at a place on the way, or what stands in the way there.
-fn step(nodes: &NodeTable, hash: &Hash32, at: NodeId) -> Result<Inner, Spot>
-    ensures { (on : List Hash → way.Spot) → step_of result on ≡ step_down at on hash.now (map.get nodes.now hash.now) }
+// The inner node that is held at a place on the way, or what stands in the way there.
+fn step<H: NodeHash, Sh: Shelf>(
+    alloc: Global,
+    store: &mut RotStore<Sh>,
+    hash: &Hash32,
+    at: NodeId,
+) -> Result<Result<Inner, Spot>, BackFault>
+    ensures step { IsTrue Sh.B.tells → IfOk result (λ s. (on : List Hash → way.Spot)
+        → step_of s on ≡ step_down at on hash.now (own_forms H.half (map.get (nodes_of store.old)) hash.now)) }
+    ensures read { WasRead Sh.B.tells store.old store.new }
+    ensures fault { IfErr result (λ e. e ≡ BackFault.Fault → Rose store.old.faults store.new.faults) }
 {
     if hash.is_zero() {
-        return Err(Spot::EmptyBranch(at));
+        return Ok(Err(Spot::EmptyBranch(at)));
     }
-    let Some(form) = nodes.get(hash) else {
-        return Err(Spot::NoParent(at));
-    };
-    match inner_of(form.bytes()) {
+    match own_form::<H, Sh>(alloc, store, hash)? {
+        None => Ok(Err(Spot::NoParent(at))),
+        Some(form) => Ok(inner_at(form.bytes(), at)),
+    }
+}
+
+// The inner node whose form this is, which is held at this place, or what stands in the way there.
+fn inner_at(form: &[u8], at: NodeId) -> Result<Inner, Spot>
+    ensures { (on : List Hash → way.Spot) → step_of result on ≡ option_map_or on (inner_form form.now) (way.under_leaf at) }
+{
+    match inner_of(form) {
         Some(inner) => Ok(inner),
         None => Err(Spot::UnderLeaf(at)),
     }

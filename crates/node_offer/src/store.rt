@@ -1,67 +1,52 @@
 //! Storing a form under its hash.
-ghost use Rattle.std.specs.Prelude.{◌≡◌, if◌then◌else◌, Err, IfErr, IfOk, Ok, OnErr};
-ghost use Rattle.std.specs.FinMap as map;
-ghost use Rattle.ledger_spec.specs.Bytes.{same_bytes};
-ghost use Rattle.node_offer.specs.Stored.{HasClash, stored_form};
-ghost use Rattle.node_offer.specs.declared.store.OfferFault.TheVariants as faults;
+ghost use Rattle.std.specs.Prelude.{◌≡◌, IsTrue, IfErr};
+ghost use Rattle.run_io.specs.Bytes.{Rose};
+ghost use Rattle.own_forms.specs.Reading.{IsLater};
+ghost use Rattle.node_offer.specs.Stored.{Stores};
+ghost use Rattle.node_offer.specs.Faults.{refused_by};
 
-use half_hash::{Blob, Hash32, Memory};
-use node_table::NodeTable;
+use crate::fault::OfferFault;
+use half_hash::{Hash32, NodeHash};
+use node_backend::Shelf;
+use rotating_store::{Put, RotStore, StoreFault};
 use std::alloc::Global;
 
-/// Why an offer was not judged.
-#[derive(Debug, Drop)]
-pub enum OfferFault {
-    /// Another form is stored under the hash.
-    Clash {
-        hash: Hash32,
-        /// The form that is stored.
-        old: Blob,
-        /// The form that was offered.
-        new: Blob,
-    },
-    /// Memory was refused.
-    Memory,
+/// What became of a form.
+pub(crate) enum Stored {
+    /// It is stored.
+    New,
+    /// It was stored before.
+    Same,
+    /// It has this other hash.
+    WrongHash(Hash32),
 }
 
-impl From<Memory> for OfferFault {
-    ghost from_gives = { λ _ fault. fault ≡ faults.Memory };
-
-    fn from(_: Memory) -> OfferFault {
-        OfferFault::Memory
-    }
-}
-
-/// Whether the two byte strings are one.
-pub(crate) fn same(a: &[u8], b: &[u8]) -> bool
-    ensures { result ≡ same_bytes a.now b.now }
-{
-    a == b
-}
-
-/// Stores the form under the hash, unless it is there, and says whether it is new.
-pub(crate) fn put(
+/// Stores the form under the hash, where that is its own, unless it is there.
+pub(crate) fn put<H: NodeHash, Sh: Shelf>(
     alloc: Global,
-    nodes: &mut NodeTable,
+    store: &mut RotStore<Sh>,
     hash: &Hash32,
-    form: Blob,
-) -> Result<bool, OfferFault>
-    ensures new { IfOk result (λ new. stored_form hash.now form (map.get nodes.old hash.now) ≡ Ok new) }
-    ensures clash { IfErr result (HasClash (stored_form hash.now form (map.get nodes.old hash.now))) }
-    ensures after { IfOk result (λ new. nodes.new ≡ (if new then map.insert nodes.old hash.now form else nodes.old)) }
-    ensures err { OnErr result (nodes.new ≡ nodes.old) }
+    form: &[u8],
+) -> Result<Stored, OfferFault>
+    ensures stores { IsTrue Sh.B.tells → Stores H.half store.old hash.now form.now result store.new }
+    ensures later { IsLater store.old store.new }
+    ensures fault { IfErr result (λ e. e ≡ OfferFault.Fault → Rose store.old.faults store.new.faults) }
 {
-    if let Some(old) = nodes.get(hash) {
-        if same(old.bytes(), form.bytes()) {
-            return Ok(false);
-        }
-        let old = Blob::from_slice(alloc, old.bytes())?;
-        return Err(OfferFault::Clash {
-            hash: *hash,
-            old,
-            new: form,
-        });
+    match store.put::<H>(alloc, hash, form) {
+        Ok(Put::New) => Ok(Stored::New),
+        Ok(Put::Same) => Ok(Stored::Same),
+        Err(fault) => refused(fault),
     }
-    nodes.insert(*hash, form)?;
-    Ok(true)
+}
+
+// What became of a form that the store refused.
+fn refused(fault: StoreFault) -> Result<Stored, OfferFault>
+    ensures { result ≡ refused_by fault }
+{
+    match fault {
+        StoreFault::WrongHash { found, .. } => Ok(Stored::WrongHash(found)),
+        StoreFault::Clash { hash, old, new } => Err(OfferFault::Clash { hash, old, new }),
+        StoreFault::Fault => Err(OfferFault::Fault),
+        StoreFault::Memory => Err(OfferFault::Memory),
+    }
 }

@@ -2,10 +2,20 @@ use crate::{OfferFault, Spot, offer, offer_header, place};
 use half_hash::{Hash32, TinyHash};
 use ledger_spec::{HeadOffered, Offered};
 use nib_path::NodeId;
-use node_table::NodeTable;
+use node_backend::MemShelf;
+use rotating_store::RotStore;
 use shamap_node::Kind;
 use std::alloc::Global;
 use std::test::Fail;
+
+// A store whose writable backend fails in these calls.
+fn opened(alloc: Global, failing: &[u64]) -> Result<RotStore<MemShelf>, Fail> {
+    let mut plans = Vec::new(alloc);
+    plans.push(Vec::new(alloc))?;
+    plans.push(Vec::from_slice(alloc, failing)?)?;
+    let shelf = MemShelf::new(alloc, plans, Vec::new(alloc));
+    Ok(RotStore::open(alloc, shelf).ok().ok_or("no store")?)
+}
 
 // A byte and 31 zeros.
 fn tiny(first: u8) -> Hash32 {
@@ -63,6 +73,7 @@ fn word(outcome: &Offered) -> (&'static str, u8) {
 fn fault_word(fault: &OfferFault) -> (&'static str, u8) {
     match fault {
         OfferFault::Clash { hash, .. } => ("clash", hash.bytes[0]),
+        OfferFault::Fault => ("fault", 0),
         OfferFault::Memory => ("memory", 0),
     }
 }
@@ -70,14 +81,19 @@ fn fault_word(fault: &OfferFault) -> (&'static str, u8) {
 // Offers a node of the account state below the header [DD].
 fn offered(
     alloc: Global,
-    nodes: &mut NodeTable,
+    store: &mut RotStore<MemShelf>,
     place: &NodeId,
     blob: &[u8],
 ) -> (&'static str, u8) {
-    match offer::<TinyHash>(alloc, nodes, &tiny(0xDD), Kind::State, place, blob) {
+    match offer::<TinyHash, MemShelf>(alloc, store, &tiny(0xDD), Kind::State, place, blob) {
         Ok(outcome) => word(&outcome),
         Err(fault) => fault_word(&fault),
     }
+}
+
+// What a place below the header [DD] is.
+fn placed(alloc: Global, store: &mut RotStore<MemShelf>, kind: Kind, id: &NodeId) -> Option<Spot> {
+    place::<TinyHash, MemShelf>(alloc, store, &tiny(0xDD), kind, id).ok()
 }
 
 fn head_word(outcome: &HeadOffered) -> (&'static str, usize) {
@@ -90,17 +106,21 @@ fn head_word(outcome: &HeadOffered) -> (&'static str, usize) {
 }
 
 // Offers a header for [DD].
-fn head_offered(alloc: Global, nodes: &mut NodeTable, bytes: &[u8]) -> (&'static str, usize) {
-    match offer_header::<TinyHash>(alloc, nodes, &tiny(0xDD), bytes) {
+fn head_offered(
+    alloc: Global,
+    store: &mut RotStore<MemShelf>,
+    bytes: &[u8],
+) -> (&'static str, usize) {
+    match offer_header::<TinyHash, MemShelf>(alloc, store, &tiny(0xDD), bytes) {
         Ok(outcome) => head_word(&outcome),
         Err(fault) => (fault_word(&fault).0, 0),
     }
 }
 
 #[test]
-fn headers(rt: HostRuntime) {
+fn headers(rt: HostRuntime) -> Result<(), Fail> {
     let alloc = rt.alloc();
-    let mut nodes = NodeTable::new(alloc);
+    let mut store = opened(alloc, &[])?;
     let good = header();
     let mut changed = good;
     changed[117] = 1;
@@ -112,19 +132,20 @@ fn headers(rt: HostRuntime) {
         (&changed, "bad hash", 0xDE),
     ];
     for (bytes, want, number) in steps {
-        let got = head_offered(alloc, &mut nodes, bytes);
+        let got = head_offered(alloc, &mut store, bytes);
         assert!(rt; got.0 == want && got.1 == number, "{want}");
     }
+    Ok(())
 }
 
 #[test]
-fn nodes_of_a_ledger(rt: HostRuntime) {
+fn nodes_of_a_ledger(rt: HostRuntime) -> Result<(), Fail> {
     let alloc = rt.alloc();
-    let mut nodes = NodeTable::new(alloc);
+    let mut store = opened(alloc, &[])?;
     let (root, good, swapped) = (root(), leaf(1, 2, 0x10), leaf(2, 1, 0x10));
-    let early = offered(alloc, &mut nodes, &NodeId::root(), &root);
+    let early = offered(alloc, &mut store, &NodeId::root(), &root);
     assert!(rt; early.0 == "no base");
-    let head = head_offered(alloc, &mut nodes, &header());
+    let head = head_offered(alloc, &mut store, &header());
     assert!(rt; head.0 == "good");
     let steps: [(u8, u8, &[u8], &str, u8); 11] = [
         (0x10, 0, b"", "bad wire", 1),
@@ -140,26 +161,45 @@ fn nodes_of_a_ledger(rt: HostRuntime) {
         (0x10, 2, &good, "under leaf", 1),
     ];
     for (key, depth, blob, want, number) in steps {
-        let got = offered(alloc, &mut nodes, &at(key, depth), blob);
+        let got = offered(alloc, &mut store, &at(key, depth), blob);
         assert!(rt; got.0 == want && got.1 == number, "{want}");
     }
+    Ok(())
 }
 
 #[test]
-fn a_leaf_elsewhere_and_places(rt: HostRuntime) {
+fn a_leaf_elsewhere_and_places(rt: HostRuntime) -> Result<(), Fail> {
     let alloc = rt.alloc();
-    let mut nodes = NodeTable::new(alloc);
-    let head = head_offered(alloc, &mut nodes, &header());
-    let top = offered(alloc, &mut nodes, &NodeId::root(), &root());
+    let mut store = opened(alloc, &[])?;
+    let head = head_offered(alloc, &mut store, &header());
+    let top = offered(alloc, &mut store, &NodeId::root(), &root());
     assert!(rt; head.0 == "good" && top.0 == "good");
-    let below = place(&nodes, &tiny(0xDD), Kind::State, &at(0x10, 1));
-    assert!(rt; matches!(&below, Spot::Wanted { hash, parent: Some(_) } if hash.bytes[0] == 0xFA));
-    let none = place(&nodes, &tiny(0xDD), Kind::Tx, &NodeId::root());
-    assert!(rt; matches!(&none, Spot::EmptyBranch(_)));
+    let below = placed(alloc, &mut store, Kind::State, &at(0x10, 1));
+    assert!(rt;
+        matches!(&below, Some(Spot::Wanted { hash, parent: Some(_) }) if hash.bytes[0] == 0xFA)
+    );
+    let none = placed(alloc, &mut store, Kind::Tx, &NodeId::root());
+    assert!(rt; matches!(&none, Some(Spot::EmptyBranch(_))));
     // the key does not lie under branch 1
     let elsewhere = leaf(0x10, 0, 0x03);
-    let first = offered(alloc, &mut nodes, &at(0x10, 1), &elsewhere);
+    let first = offered(alloc, &mut store, &at(0x10, 1), &elsewhere);
     assert!(rt; first.0 == "malformed" && first.1 == 2);
-    let again = offered(alloc, &mut nodes, &at(0x10, 1), &elsewhere);
+    let again = offered(alloc, &mut store, &at(0x10, 1), &elsewhere);
     assert!(rt; again.0 == "duplicate");
+    Ok(())
+}
+
+#[test]
+fn a_call_that_fails_stores_nothing(rt: HostRuntime) -> Result<(), Fail> {
+    let alloc = rt.alloc();
+    let mut store = opened(alloc, &[1, 3, 7])?;
+    for want in ["fault", "fault", "good", "duplicate"] {
+        let got = head_offered(alloc, &mut store, &header());
+        assert!(rt; got.0 == want, "{want}");
+    }
+    for want in ["fault", "good", "duplicate"] {
+        let got = offered(alloc, &mut store, &NodeId::root(), &root());
+        assert!(rt; got.0 == want, "root {want}");
+    }
+    Ok(())
 }

@@ -20,7 +20,8 @@ pub writing_start : (old : Option (List ℕ)) (bytes : List ℕ) → Writing old
 writing_start None bytes = tt
 writing_start (Some held) bytes = ([], refl, ap Some (sym (append-nil held)))
 
-pub writing_step : (old mid new : Option (List ℕ)) (rest bytes : List ℕ) (n : ℕ) → Writing old mid rest bytes → Wrote mid new (take n rest) → Writing old new (drop n rest) bytes
+pub writing_step : (old mid new : Option (List ℕ)) (rest bytes : List ℕ) (n : ℕ) → Writing old mid rest bytes → Wrote mid new (take n rest)
+    → Writing old new (drop n rest) bytes
 writing_step None mid new rest bytes n w more = tt
 writing_step (Some held) mid new rest bytes n w more =
     let P : Option (List ℕ) → Type 0 = λ m. Wrote m new (take n rest) in (
@@ -29,7 +30,8 @@ writing_step (Some held) mid new rest bytes n w more =
       subst P w.2 more ∙ ap Some (append_assoc held w.0 (take n rest)),
     )
 
-pub writing_part : (old mid new : Option (List ℕ)) (rest bytes : List ℕ) → Writing old mid rest bytes → WrotePart mid new rest → WrotePart old new bytes
+pub writing_part : (old mid new : Option (List ℕ)) (rest bytes : List ℕ) → Writing old mid rest bytes → WrotePart mid new rest
+    → WrotePart old new bytes
 writing_part None mid new rest bytes w part = tt
 writing_part (Some held) mid new rest bytes w part =
     let P : Option (List ℕ) → Type 0 = λ m. WrotePart m new rest in
@@ -52,7 +54,8 @@ pub reading_start : (input : Option (List ℕ)) → Reading input [] input
 reading_start None = tt
 reading_start (Some bytes) = (refl, refl)
 
-pub reading_step : (input mid new : Option (List ℕ)) (held buf : List ℕ) (n room : ℕ) → Reading input held mid → IfSome mid (λ bytes. Takes bytes n buf room new) → Reading input (held ++ take n buf) new
+pub reading_step : (input mid new : Option (List ℕ)) (held buf : List ℕ) (n room : ℕ) → Reading input held mid
+    → IfSome mid (λ bytes. Takes bytes n buf room new) → Reading input (held ++ take n buf) new
 reading_step None mid new held buf n room r t = tt
 reading_step (Some bytes) mid new held buf n room r t =
     let P : Option (List ℕ) → Type 0 = λ m. IfSome m (λ b. Takes b n buf room new) in
@@ -63,12 +66,15 @@ reading_step (Some bytes) mid new held buf n room r t =
     )
 
 -- all that is wanted was read
-pub reading_full : (input now : Option (List ℕ)) (held : List ℕ) (most : ℕ) → length held ≡ most → Reading input held now → IfSome input (λ bytes. held ≡ take most bytes)
+pub reading_full : (input now : Option (List ℕ)) (held : List ℕ) (most : ℕ) → length held ≡ most → Reading input held now
+    → IfSome input (λ bytes. held ≡ take most bytes)
 reading_full None now held most is r = tt
 reading_full (Some bytes) now held most is r = r.0 ∙ ap (λ (i : ℕ). take i bytes) is
 
 -- the input ended
-pub reading_ended : (input mid new : Option (List ℕ)) (held buf : List ℕ) (n room most : ℕ) → Reading input held mid → IfSome mid (λ bytes. Takes bytes n buf room new) → n ≡ 0 → 0 < room → length held ≤ most → IfSome input (λ bytes. held ≡ take most bytes)
+pub reading_ended : (input mid new : Option (List ℕ)) (held buf : List ℕ) (n room most : ℕ) → Reading input held mid
+    → IfSome mid (λ bytes. Takes bytes n buf room new) → n ≡ 0 → 0 < room → length held ≤ most
+    → IfSome input (λ bytes. held ≡ take most bytes)
 reading_ended None mid new held buf n room most r t none some le = tt
 reading_ended (Some bytes) mid new held buf n room most r t none some le =
     let P : Option (List ℕ) → Type 0 = λ m. IfSome m (λ b. Takes b n buf room new) in
@@ -82,7 +88,8 @@ took_full None now held most is r = tt
 took_full (Some bytes) now held most is r = r.1 ∙ ap Some (ap (λ (i : ℕ). drop i bytes) is)
 
 -- nothing is left where the input ended
-pub took_ended : (input mid new : Option (List ℕ)) (held buf : List ℕ) (n room most : ℕ) → Reading input held mid → IfSome mid (λ bytes. Takes bytes n buf room new) → n ≡ 0 → 0 < room → length held ≤ most → Took input new most
+pub took_ended : (input mid new : Option (List ℕ)) (held buf : List ℕ) (n room most : ℕ) → Reading input held mid
+    → IfSome mid (λ bytes. Takes bytes n buf room new) → n ≡ 0 → 0 < room → length held ≤ most → Took input new most
 took_ended None mid new held buf n room most r t none some le = tt
 took_ended (Some bytes) mid new held buf n room most r t none some le =
     let P : Option (List ℕ) → Type 0 = λ m. IfSome m (λ b. Takes b n buf room new) in
@@ -92,7 +99,8 @@ took_ended (Some bytes) mid new held buf n room most r t none some le =
     k.left ∙ ap Some (drop-drop n (length held) bytes ∙ gone)
 
 -- a read that fails takes a front of what is left
-pub took_part : (input mid new : Option (List ℕ)) (held : List ℕ) (room most : ℕ) → Reading input held mid → TookPart mid new room → length held + room ≤ most → TookPart input new most
+pub took_part : (input mid new : Option (List ℕ)) (held : List ℕ) (room most : ℕ) → Reading input held mid → TookPart mid new room
+    → length held + room ≤ most → TookPart input new most
 took_part None mid new held room most r t le = tt
 took_part (Some bytes) mid new held room most r t le =
     let P : Option (List ℕ) → Type 0 = λ m. TookPart m new room in
@@ -101,11 +109,13 @@ took_part (Some bytes) mid new held room most r t le =
     (length held + k.0, omega arith, k.2 ∙ ap Some (drop-drop k.0 (length held) bytes))
 
 -- what was taken is held, though the flush after it failed
-pub wrote_unflushed : (old mid new : Option (List ℕ)) (n : ℕ) (piece : List ℕ) → Appends old mid (take n piece) → Keeps mid new → WrotePart old new piece
+pub wrote_unflushed : (old mid new : Option (List ℕ)) (n : ℕ) (piece : List ℕ) → Appends old mid (take n piece) → Keeps mid new
+    → WrotePart old new piece
 wrote_unflushed None mid new n piece more same = tt
 wrote_unflushed (Some held) None new n piece more same = absurd more
 wrote_unflushed (Some held) (Some wrote) None n piece more same = absurd same
-wrote_unflushed (Some held) (Some wrote) (Some kept) n piece more same = (take n piece, (drop n piece, take-append-drop n piece), ap Some (same ∙ more))
+wrote_unflushed (Some held) (Some wrote) (Some kept) n piece more same =
+    (take n piece, (drop n piece, take-append-drop n piece), ap Some (same ∙ more))
 
 pub wrote_nothing : (old : Option (List ℕ)) → Wrote old old []
 wrote_nothing None = tt
@@ -113,10 +123,12 @@ wrote_nothing (Some held) = ap Some (sym (append-nil held))
 
 pub wrote_more : (old mid new : Option (List ℕ)) (a b : List ℕ) → Wrote old mid a → Wrote mid new b → Wrote old new (a ++ b)
 wrote_more None mid new a b x y = tt
-wrote_more (Some held) mid new a b x y = let P : Option (List ℕ) → Type 0 = λ m. Wrote m new b in subst P x y ∙ ap Some (append_assoc held a b)
+wrote_more (Some held) mid new a b x y =
+    let P : Option (List ℕ) → Type 0 = λ m. Wrote m new b in subst P x y ∙ ap Some (append_assoc held a b)
 
 -- a front of the text was written, and then a part of what follows
-pub wrote_part : (old mid new : Option (List ℕ)) (a b text : List ℕ) → Wrote old mid a → WrotePart mid new b → IsPrefix (a ++ b) text → WrotePart old new text
+pub wrote_part : (old mid new : Option (List ℕ)) (a b text : List ℕ) → Wrote old mid a → WrotePart mid new b → IsPrefix (a ++ b) text
+    → WrotePart old new text
 wrote_part None mid new a b text x y whole = tt
 wrote_part (Some held) mid new a b text x y whole =
     let P : Option (List ℕ) → Type 0 = λ m. WrotePart m new b in

@@ -45,7 +45,8 @@ digit_read c i v e = by (hex_digit_value c) refl e
     by None is e = absurd (err_ok e)
 
 -- a step that gave something, and the step before it
-after_step : {A B : Type 0} (r : Result A FromHexError) (f : A → Result B FromHexError) (y : B) → (r >>= f) ≡ Ok y → (x : A) × (r ≡ Ok x) × (f x ≡ Ok y)
+after_step : {A B : Type 0} (r : Result A FromHexError) (f : A → Result B FromHexError) (y : B) → (r >>= f) ≡ Ok y
+    → (x : A) × (r ≡ Ok x) × (f x ≡ Ok y)
 after_step (Ok x) f y e = (x, refl, e)
 after_step (Err cause) f y e = absurd (err_ok e)
 

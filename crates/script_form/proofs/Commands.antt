@@ -25,10 +25,12 @@ other_word : (a b : Bytes) → slice_index a 0 ≢ slice_index b 0 → a ≡ b �
 other_word a b differ same = differ (ap (λ (w : Bytes). slice_index w 0) same)
 
 -- the arguments of the words are those of one command
-says_it : (call args : List Bytes) (verb : Bytes) (c : Command) → call ≡ verb ∷ args → CallSays call c → (verb ≡ word_of c) × AreArguments args c
+says_it : (call args : List Bytes) (verb : Bytes) (c : Command) → call ≡ verb ∷ args → CallSays call c
+    → (verb ≡ word_of c) × AreArguments args c
 says_it call args verb c is says = let P : List Bytes → Type 0 = λ ws. CallSays ws c in subst P is says
 
-pub found_one : (call args : List Bytes) (verb : Bytes) (c : Command) → call ≡ verb ∷ args → word_of c ≡ verb → AreArguments args c → CallSays call c
+pub found_one : (call args : List Bytes) (verb : Bytes) (c : Command) → call ≡ verb ∷ args → word_of c ≡ verb → AreArguments args c
+    → CallSays call c
 found_one call args verb c is word are = let P : List Bytes → Type 0 = λ ws. CallSays ws c in subst P (sym is) (sym word, are)
 
 -- the words differ in their first letters
@@ -39,16 +41,22 @@ differ a b apart same = absurd (other_word a b apart same)
 pub record NoCommand (args : List Bytes) (verb : Bytes) : Type 0 where
   pub want : verb ≡ codes "want" → (t : Hash) (seq : ℕ) → AreArguments args (command.Want t seq) → ⊥
   pub peer : verb ≡ codes "peer" → (p : ℕ) (t : Hash) → AreArguments args (command.Peer p t) → ⊥
-  pub base : verb ≡ codes "base" → (p : ℕ) (t : Hash) (head : Bytes) (state tx : Option Bytes) → AreArguments args (command.Base p t head state tx) → ⊥
-  pub node : verb ≡ codes "node" → (p : ℕ) (t : Hash) (kind : Kind) (path : List ℕ) (blob : Bytes) → AreArguments args (command.Node p t kind path blob) → ⊥
+  pub base : verb ≡ codes "base" → (p : ℕ) (t : Hash) (head : Bytes) (state tx : Option Bytes)
+      → AreArguments args (command.Base p t head state tx) → ⊥
+  pub node : verb ≡ codes "node" → (p : ℕ) (t : Hash) (kind : Kind) (path : List ℕ) (blob : Bytes)
+      → AreArguments args (command.Node p t kind path blob) → ⊥
   pub check : verb ≡ codes "check" → (t : Hash) → AreArguments args (command.Check t) → ⊥
   pub tick : verb ≡ codes "tick" → (t : Hash) → AreArguments args (command.Tick t) → ⊥
 
 pub no_command : (call args : List Bytes) (verb : Bytes) → call ≡ verb ∷ args → NoCommand args verb → (c : Command) → CallSays call c → ⊥
-no_command call args verb is none (command.Want t seq) says = let s = says_it call args verb (command.Want t seq) is says in none.want s.0 t seq s.1
-no_command call args verb is none (command.Peer p t) says = let s = says_it call args verb (command.Peer p t) is says in none.peer s.0 p t s.1
-no_command call args verb is none (command.Base p t head state tx) says = let s = says_it call args verb (command.Base p t head state tx) is says in none.base s.0 p t head state tx s.1
-no_command call args verb is none (command.Node p t kind path blob) says = let s = says_it call args verb (command.Node p t kind path blob) is says in none.node s.0 p t kind path blob s.1
+no_command call args verb is none (command.Want t seq) says =
+    let s = says_it call args verb (command.Want t seq) is says in none.want s.0 t seq s.1
+no_command call args verb is none (command.Peer p t) says =
+    let s = says_it call args verb (command.Peer p t) is says in none.peer s.0 p t s.1
+no_command call args verb is none (command.Base p t head state tx) says =
+    let s = says_it call args verb (command.Base p t head state tx) is says in none.base s.0 p t head state tx s.1
+no_command call args verb is none (command.Node p t kind path blob) says =
+    let s = says_it call args verb (command.Node p t kind path blob) is says in none.node s.0 p t kind path blob s.1
 no_command call args verb is none (command.Check t) says = let s = says_it call args verb (command.Check t) is says in none.check s.0 t s.1
 no_command call args verb is none (command.Tick t) says = let s = says_it call args verb (command.Tick t) is says in none.tick s.0 t s.1
 no_command call args verb is none (command.View v t) says = (says_it call args verb (command.View v t) is says).1
@@ -71,10 +79,14 @@ only_want args none = record { want = λ _. none; peer = differ _ _ (λ e. absur
 pub only_peer : (args : List Bytes) → ((p : ℕ) (t : Hash) → AreArguments args (command.Peer p t) → ⊥) → NoCommand args (codes "peer")
 only_peer args none = record { want = differ _ _ (λ e. absurd (omega arith)); peer = λ _. none; base = differ _ _ (λ e. absurd (omega arith)); node = differ _ _ (λ e. absurd (omega arith)); check = differ _ _ (λ e. absurd (omega arith)); tick = differ _ _ (λ e. absurd (omega arith)) }
 
-pub only_base : (args : List Bytes) → ((p : ℕ) (t : Hash) (head : Bytes) (state tx : Option Bytes) → AreArguments args (command.Base p t head state tx) → ⊥) → NoCommand args (codes "base")
+pub only_base : (args : List Bytes)
+    → ((p : ℕ) (t : Hash) (head : Bytes) (state tx : Option Bytes) → AreArguments args (command.Base p t head state tx) → ⊥)
+    → NoCommand args (codes "base")
 only_base args none = record { want = differ _ _ (λ e. absurd (omega arith)); peer = differ _ _ (λ e. absurd (omega arith)); base = λ _. none; node = differ _ _ (λ e. absurd (omega arith)); check = differ _ _ (λ e. absurd (omega arith)); tick = differ _ _ (λ e. absurd (omega arith)) }
 
-pub only_node : (args : List Bytes) → ((p : ℕ) (t : Hash) (kind : Kind) (path : List ℕ) (blob : Bytes) → AreArguments args (command.Node p t kind path blob) → ⊥) → NoCommand args (codes "node")
+pub only_node : (args : List Bytes)
+    → ((p : ℕ) (t : Hash) (kind : Kind) (path : List ℕ) (blob : Bytes) → AreArguments args (command.Node p t kind path blob) → ⊥)
+    → NoCommand args (codes "node")
 only_node args none = record { want = differ _ _ (λ e. absurd (omega arith)); peer = differ _ _ (λ e. absurd (omega arith)); base = differ _ _ (λ e. absurd (omega arith)); node = λ _. none; check = differ _ _ (λ e. absurd (omega arith)); tick = differ _ _ (λ e. absurd (omega arith)) }
 
 pub only_check : (args : List Bytes) → ((t : Hash) → AreArguments args (command.Check t) → ⊥) → NoCommand args (codes "check")
@@ -84,18 +96,21 @@ pub only_tick : (args : List Bytes) → ((t : Hash) → AreArguments args (comma
 only_tick args none = record { want = differ _ _ (λ e. absurd (omega arith)); peer = differ _ _ (λ e. absurd (omega arith)); base = differ _ _ (λ e. absurd (omega arith)); node = differ _ _ (λ e. absurd (omega arith)); check = differ _ _ (λ e. absurd (omega arith)); tick = λ _. none }
 
 -- what one command's reader found, or that it found nothing
-pub found : {Q : Type 0} (words args : List Bytes) (verb : Bytes) (r : Option Command) → words ≡ verb ∷ args → IfSome r (λ c. (word_of c ≡ verb) × AreArguments args c) → IfNone r Q
+pub found : {Q : Type 0} (words args : List Bytes) (verb : Bytes) (r : Option Command) → words ≡ verb ∷ args
+    → IfSome r (λ c. (word_of c ≡ verb) × AreArguments args c) → IfNone r Q
     → (Q → (c : Command) → CallSays words c → ⊥) → MatchOption r ((c : Command) → CallSays words c → ⊥) (CallSays words)
 found words args verb None is some none nothing = nothing none
 found words args verb (Some c) is some none nothing = found_one words args verb c is some.0 some.1
 
-pub found_ok : {Q : Type 0} (words args : List Bytes) (verb : Bytes) (r : Result (Option Command) Memory) → words ≡ verb ∷ args → IfOk r (λ f. IfSome f (λ c. (word_of c ≡ verb) × AreArguments args c)) → IfOk r (λ f. IfNone f Q)
+pub found_ok : {Q : Type 0} (words args : List Bytes) (verb : Bytes) (r : Result (Option Command) Memory) → words ≡ verb ∷ args
+    → IfOk r (λ f. IfSome f (λ c. (word_of c ≡ verb) × AreArguments args c)) → IfOk r (λ f. IfNone f Q)
     → (Q → (c : Command) → CallSays words c → ⊥) → IfOk r (λ f. MatchOption f ((c : Command) → CallSays words c → ⊥) (CallSays words))
 found_ok words args verb (Ok f) is some none nothing = found words args verb f is some none nothing
 found_ok words args verb (Err e) is some none nothing = tt
 
 -- one part that is no text of bytes
-pub no_part : (given : List (Bor Bytes)) (d : Bor Bytes) → length given ≡ 1 → ((bytes : Bytes) → IsBlob (get_or given 0 d).now bytes → ⊥) → (state tx : Option Bytes) → AreParts (texts given) state tx → ⊥
+pub no_part : (given : List (Bor Bytes)) (d : Bor Bytes) → length given ≡ 1 → ((bytes : Bytes) → IsBlob (get_or given 0 d).now bytes → ⊥)
+    → (state tx : Option Bytes) → AreParts (texts given) state tx → ⊥
 no_part [] d one none state tx are = absurd (omega arith)
 no_part (w ∷ []) d one none None None are = are
 no_part (w ∷ []) d one none None (Some x) are = are
@@ -103,13 +118,15 @@ no_part (w ∷ []) d one none (Some x) None are = none x are
 no_part (w ∷ []) d one none (Some x) (Some y) are = are
 no_part (w ∷ v ∷ rest) d one none state tx are = absurd (omega arith)
 
-pub third_word : (words : List (Bor Bytes)) (d : Bor Bytes) (a b x : Bytes) (rest : List Bytes) → texts words ≡ a ∷ b ∷ x ∷ rest → x ≡ (get_or words 2 d).now
+pub third_word : (words : List (Bor Bytes)) (d : Bor Bytes) (a b x : Bytes) (rest : List Bytes) → texts words ≡ a ∷ b ∷ x ∷ rest
+    → x ≡ (get_or words 2 d).now
 third_word [] d a b x rest is = cc
 third_word (u ∷ []) d a b x rest is = cc
 third_word (u ∷ v ∷ []) d a b x rest is = cc
 third_word (u ∷ v ∷ w ∷ more) d a b x rest is = let e : w.now ≡ x = cc in sym e
 
-pub fifth_word : (words : List (Bor Bytes)) (d : Bor Bytes) (p q r s x : Bytes) (rest : List Bytes) → texts words ≡ p ∷ q ∷ r ∷ s ∷ x ∷ rest → x ≡ (get_or words 4 d).now
+pub fifth_word : (words : List (Bor Bytes)) (d : Bor Bytes) (p q r s x : Bytes) (rest : List Bytes) → texts words ≡ p ∷ q ∷ r ∷ s ∷ x ∷ rest
+    → x ≡ (get_or words 4 d).now
 fifth_word [] d p q r s x rest is = cc
 fifth_word (a ∷ []) d p q r s x rest is = cc
 fifth_word (a ∷ b ∷ []) d p q r s x rest is = cc

@@ -9,7 +9,8 @@ use Rattle.std.proofs.lemmas.List.Elements.{filter-append}
 use Rattle.script_form.specs.Words.{pieces, words_of, lines_of, text_of}
 
 -- the first separator is at i
-pub cut_at : (separator : ℕ) (bytes : List ℕ) (i : ℕ) → i < length bytes → ((k : ℕ) → k < i → get_or bytes k 0 ≢ separator) → get_or bytes i 0 ≡ separator
+pub cut_at : (separator : ℕ) (bytes : List ℕ) (i : ℕ) → i < length bytes → ((k : ℕ) → k < i → get_or bytes k 0 ≢ separator)
+    → get_or bytes i 0 ≡ separator
     → pieces separator bytes ≡ take i bytes ∷ pieces separator (drop (i + 1) bytes)
 cut_at separator [] i lt before at = absurd (omega arith)
 cut_at separator (x ∷ xs) zero lt before at = let is : (x == separator) ≡ true = grind (arith, nat_tests) in rw is refl
@@ -20,7 +21,8 @@ cut_at separator (x ∷ xs) (suc i) lt before at =
     rw (other, next, cut_at separator xs i (omega arith) (λ k l. before (suc k) (omega arith)) at) refl
 
 -- there is none
-pub cut_none : (separator : ℕ) (bytes : List ℕ) → ((k : ℕ) → k < length bytes → get_or bytes k 0 ≢ separator) → pieces separator bytes ≡ bytes ∷ []
+pub cut_none : (separator : ℕ) (bytes : List ℕ) → ((k : ℕ) → k < length bytes → get_or bytes k 0 ≢ separator)
+    → pieces separator bytes ≡ bytes ∷ []
 cut_none separator [] before = refl
 cut_none separator (x ∷ xs) before =
     let apart : x ≢ separator = before 0 (omega arith) in
@@ -35,7 +37,8 @@ words_cut text i lt before at =
     ∙ filter-append (λ w. nat_lt 0 (length w)) (take i text ∷ []) (pieces 32 (drop (i + 1) text))
 
 -- there is no space
-pub words_end : (text : List ℕ) → ((k : ℕ) → k < length text → get_or text k 0 ≢ 32) → words_of text ≡ filter (λ w. nat_lt 0 (length w)) (text ∷ [])
+pub words_end : (text : List ℕ) → ((k : ℕ) → k < length text → get_or text k 0 ≢ 32)
+    → words_of text ≡ filter (λ w. nat_lt 0 (length w)) (text ∷ [])
 words_end text before = ap (filter (λ w. nat_lt 0 (length w))) (cut_none 32 text before)
 
 -- the words so far and those of the rest are those of the whole
@@ -46,7 +49,8 @@ pub cuts_start : (text : List ℕ) → Cuts text [] text
 cuts_start text = record { cut = refl }
 
 -- one piece more, which is a word or is empty
-pub cuts_word : (text : List ℕ) (so_far : List (Bor (List ℕ))) (word : Bor (List ℕ)) (rest : List ℕ) (i : ℕ) → Cuts text so_far rest → i < length rest
+pub cuts_word : (text : List ℕ) (so_far : List (Bor (List ℕ))) (word : Bor (List ℕ)) (rest : List ℕ) (i : ℕ) → Cuts text so_far rest
+    → i < length rest
     → ((k : ℕ) → k < i → get_or rest k 0 ≢ 32) → get_or rest i 0 ≡ 32 → word.now ≡ take i rest → nat_lt 0 (length word.now) ≡ true
     → Cuts text (so_far ++ word ∷ []) (drop (i + 1) rest)
 cuts_word text so_far word rest i c lt before at is some = record {
@@ -98,7 +102,8 @@ line_at (x ∷ xs) (suc i) lt before at =
     let next : suc i + 1 ≡ suc (i + 1) = omega arith in
     rw (other, next, line_at xs i (omega arith) (λ k l. before (suc k) (omega arith)) at) refl
 
-pub text_at : (bytes : List ℕ) (i : ℕ) → i < length bytes → ((k : ℕ) → k < i → get_or bytes k 0 ≢ 10) → get_or bytes i 0 ≡ 10 → text_of (take (i + 1) bytes) ≡ take i bytes
+pub text_at : (bytes : List ℕ) (i : ℕ) → i < length bytes → ((k : ℕ) → k < i → get_or bytes k 0 ≢ 10) → get_or bytes i 0 ≡ 10
+    → text_of (take (i + 1) bytes) ≡ take i bytes
 text_at [] i lt before at = absurd (omega arith)
 text_at (x ∷ xs) zero lt before at = let is : (x == 10) ≡ true = grind (arith, nat_tests) in rw is refl
 text_at (x ∷ xs) (suc i) lt before at =

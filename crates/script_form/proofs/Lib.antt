@@ -9,3 +9,6 @@ pub mod Scripts
 pub mod Servable
 pub mod Shapes
 pub mod Waits
+pub mod Finding
+pub mod Fitting
+pub mod Stores

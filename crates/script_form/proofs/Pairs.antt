@@ -21,7 +21,8 @@ bad_digit byte i none = at (hex_digit_value byte) none
     at (Some x) e = cc
 
 -- two digits
-good_pair : (high low h l i : ℕ) → IfSome (hex_digit_value high) (λ x. h ≡ x) → IfSome (hex_digit_value low) (λ x. l ≡ x) → is_hex_digit high ≡ true → is_hex_digit low ≡ true
+good_pair : (high low h l i : ℕ) → IfSome (hex_digit_value high) (λ x. h ≡ x) → IfSome (hex_digit_value low) (λ x. l ≡ x)
+    → is_hex_digit high ≡ true → is_hex_digit low ≡ true
     → pair_value high low i ≡ Ok (h * 16 + l)
 good_pair high low h l i is also one two = rw (good_digit high h i is one, good_digit low l (i + 1) also two) refl
 
@@ -32,7 +33,8 @@ bad_high high low i none = let bad = bad_digit high i none in (bad.0, rw bad.1 r
 bad_low : (high low i : ℕ) → is_hex_digit low ≡ false → (e : FromHexError) × (pair_value high low i ≡ Err e)
 bad_low high low i none = at (value_at high i) (bad_digit low (i + 1) none)
   where
-    at : (r : Result ℕ FromHexError) → ((e : FromHexError) × (value_at low (i + 1) ≡ Err e)) → (e : FromHexError) × ((r >>= (λ h. value_at low (i + 1) >>= (λ l. Ok (h * 16 + l)))) ≡ Err e)
+    at : (r : Result ℕ FromHexError) → ((e : FromHexError) × (value_at low (i + 1) ≡ Err e))
+        → (e : FromHexError) × ((r >>= (λ h. value_at low (i + 1) >>= (λ l. Ok (h * 16 + l)))) ≡ Err e)
     at (Ok x) bad = (bad.0, rw bad.1 refl)
     at (Err e) bad = (e, refl)
 
@@ -43,7 +45,8 @@ refused r e is bytes says = err_ok (sym is ∙ says)
 pub record Decodes (good : Bool) (word out : List ℕ) (i : ℕ) : Type 0 where
   pub read : MatchBool good (decode_pairs 0 word ≡ prepend (take i out) (decode_pairs (2 * i) (drop (2 * i) word))) ((bytes : List ℕ) → decode_pairs 0 word ≡ Ok bytes → ⊥)
 
-pub decodes_more : (good one two : Bool) (word out : List ℕ) (i high low h l : ℕ) → Decodes good word out i → 2 * i + 1 < length word → i < length out
+pub decodes_more : (good one two : Bool) (word out : List ℕ) (i high low h l : ℕ) → Decodes good word out i → 2 * i + 1 < length word
+    → i < length out
     → high ≡ get_or word (2 * i) 0 → low ≡ get_or word (2 * i + 1) 0 → one ≡ is_hex_digit high → two ≡ is_hex_digit low
     → IfSome (hex_digit_value high) (λ x. h ≡ x) → IfSome (hex_digit_value low) (λ x. l ≡ x) → Decodes ((good && one) && two) word (slice_set out i (h * 16 + l)) (i + 1)
 decodes_more false one two word out i high low h l d fits room at next first second is also = record { read = d.read }

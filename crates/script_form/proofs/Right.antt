@@ -63,7 +63,8 @@ right_count [] (word ∷ words) right = absurd right
 right_count (a ∷ arguments) [] right = absurd right
 
 -- no word has a cause that no argument has
-never : (c : Cause) → ((a : Argument) (word : Bytes) → IsWrong c a word → ⊥) → (arguments : List Argument) (words : List Bytes) → HasWrong c arguments words → ⊥
+never : (c : Cause) → ((a : Argument) (word : Bytes) → IsWrong c a word → ⊥) → (arguments : List Argument) (words : List Bytes)
+    → HasWrong c arguments words → ⊥
 never c each [] [] wrong = wrong
 never c each [] (word ∷ words) wrong = wrong
 never c each (a ∷ arguments) [] wrong = wrong
@@ -81,7 +82,8 @@ must_be_right argument.Kind word free not = free cause.BadKindOrId not
 must_be_right argument.Id word free not = free cause.BadKindOrId (λ p is. not (p, is))
 must_be_right argument.Blob word free not = free cause.BadHex (λ b is. not (b, is))
 
-must_be_rights : (arguments : List Argument) (words : List Bytes) → length words ≡ length arguments → ((c : Cause) → HasWrong c arguments words → ⊥) → (AreRight arguments words → ⊥) → ⊥
+must_be_rights : (arguments : List Argument) (words : List Bytes) → length words ≡ length arguments
+    → ((c : Cause) → HasWrong c arguments words → ⊥) → (AreRight arguments words → ⊥) → ⊥
 must_be_rights [] [] e free not = not tt
 must_be_rights [] (word ∷ words) e free not = absurd (omega arith)
 must_be_rights (a ∷ arguments) [] e free not = absurd (omega arith)
@@ -112,16 +114,20 @@ form_says form.Node args right = absurd (omega (arith, right_count (arguments_in
 form_says form.Check args right = absurd (omega (arith, right_count (arguments_in form.Check) args right))
 form_says form.Tick args right = absurd (omega (arith, right_count (arguments_in form.Tick) args right))
 
-base_said : (n t h : Bytes) (parts : List Bytes) (p : ℕ) (target : Hash) (head : Bytes) (state tx : Option Bytes) → IsNumber n 65535 p → IsTarget t target → IsBlob h head → AreParts parts state tx
+base_said : (n t h : Bytes) (parts : List Bytes) (p : ℕ) (target : Hash) (head : Bytes) (state tx : Option Bytes) → IsNumber n 65535 p
+    → IsTarget t target → IsBlob h head → AreParts parts state tx
     → (f : Form) × (codes "base" ≡ word_in f) × AreRight (arguments_in f) (n ∷ t ∷ h ∷ parts)
 base_said n t h [] p target head None None number is blob are = (form.Base, refl, ((p, number), ((target, is), ((head, blob), tt))))
-base_said n t h (s ∷ []) p target head (Some state) None number is blob are = (form.BaseState, refl, ((p, number), ((target, is), ((head, blob), ((state, are), tt)))))
+base_said n t h (s ∷ []) p target head (Some state) None number is blob are =
+    (form.BaseState, refl, ((p, number), ((target, is), ((head, blob), ((state, are), tt)))))
 base_said n t h _ p target head _ _ number is blob are = absurd are
 
 -- the arguments of a command are right
 form_said : (args : List Bytes) (c : Command) → AreArguments args c → (f : Form) × (word_of c ≡ word_in f) × AreRight (arguments_in f) args
-form_said args (command.Want t seq) are = (form.Want, refl, subst (AreRight (arguments_in form.Want)) (sym are.2) ((t, are.3), ((seq, are.4), tt)))
-form_said args (command.Peer p t) are = (form.Peer, refl, subst (AreRight (arguments_in form.Peer)) (sym are.2) ((p, are.3), ((t, are.4), tt)))
+form_said args (command.Want t seq) are =
+    (form.Want, refl, subst (AreRight (arguments_in form.Want)) (sym are.2) ((t, are.3), ((seq, are.4), tt)))
+form_said args (command.Peer p t) are =
+    (form.Peer, refl, subst (AreRight (arguments_in form.Peer)) (sym are.2) ((p, are.3), ((t, are.4), tt)))
 form_said args (command.Base p t head state tx) are =
     let said = base_said are.0 are.1 are.2 are.3 p t head state tx are.5 are.6 are.7 are.8 in
     (said.0, said.1, subst (AreRight (arguments_in said.0)) (sym are.4) said.2)
@@ -131,7 +137,8 @@ form_said args (command.Check t) are = (form.Check, refl, subst (AreRight (argum
 form_said args (command.Tick t) are = (form.Tick, refl, subst (AreRight (arguments_in form.Tick)) (sym are.1) ((t, are.2), tt))
 form_said args _ are = absurd are
 
-other_form : (f g : Form) (word : Bytes) (args : List Bytes) (c : Cause) → word ≡ word_in f → AreRight (arguments_in f) args → word ≡ word_in g → length args ≡ length (arguments_in g) → HasWrong c (arguments_in g) args → ⊥
+other_form : (f g : Form) (word : Bytes) (args : List Bytes) (c : Cause) → word ≡ word_in f → AreRight (arguments_in f) args
+    → word ≡ word_in g → length args ≡ length (arguments_in g) → HasWrong c (arguments_in g) args → ⊥
 other_form f g word args c is right also count wrong =
     let same : g ≡ f = one_form g f (sym also ∙ is) (sym count ∙ right_count (arguments_in f) args right) in
     none_wrong c (arguments_in f) args right (subst (λ (x : Form). HasWrong c (arguments_in x) args) same wrong)
@@ -146,7 +153,8 @@ call_fine (word ∷ args) said says c has =
     let f = form_said args said says.1 in other_form f.0 has.0 word args c (says.0 ∙ f.1) f.2 has.1 has.2 has.3
 
 -- a call's words have no other causes
-pub call_never : (call : List Bytes) (c : Cause) → ((a : Argument) (word : Bytes) → IsWrong c a word → ⊥) → c ≢ cause.UnknownCommand → c ≢ cause.ArgumentCount → CallHas call c → ⊥
+pub call_never : (call : List Bytes) (c : Cause) → ((a : Argument) (word : Bytes) → IsWrong c a word → ⊥) → c ≢ cause.UnknownCommand
+    → c ≢ cause.ArgumentCount → CallHas call c → ⊥
 call_never [] cause.UnknownCommand each one two has = one refl
 call_never [] c each one two has = has
 call_never (word ∷ args) cause.UnknownCommand each one two has = one refl

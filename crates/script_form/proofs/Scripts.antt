@@ -1,28 +1,37 @@
 -- How the reading of lines goes on.
 use Rattle.std.proofs.Common.{◌≡◌, ◌⊎◌, ℕ, Option, Some, None, ◌+◌, ◌-◌, ◌<◌, ◌≤◌, List, [], ◌∷◌, ◌++◌, length, map, take, drop}
-use Rattle.std.proofs.Common.{get_or, inl, inr, refl, sym, ◌∙◌, ap, subst, arith, append_assoc, length-append, true, false, cond}
+use Rattle.std.proofs.Common.{get_or, inl, inr, refl, sym, ◌∙◌, ap, subst, arith, append_assoc, length-append, Bool, true, false, cond}
 use Rattle.std.specs.Prelude.{flat_map}
-use Rattle.std.specs.List.{All}
+use Rattle.std.specs.List.{All, Contains}
 use Rattle.std.specs.List.Sorted.{IsNonDecreasing}
 use Rattle.std.specs.Option.{IfSome}
 use Rattle.std.proofs.lemmas.List.{append-nil, drop_all, length-take, length-take-le, length-drop, map-append}
 use Rattle.std.proofs.lemmas.List.Concat.{flat_map-append}
 use Rattle.std.proofs.lemmas.List.Sorted.{IsNonDecreasingBy-push}
 use Rattle.std.proofs.lemmas.List.Elements.{All-push, All-weaker, All-map}
+use Rattle.std.proofs.lemmas.List.Elements.{Contains-append_left, Contains-append_right, Contains-push, Contains-push_cases}
+use Rattle.std.proofs.lemmas.Bool.Decides.{nat_tests}
 use Rattle.run_io.specs.Bytes.{Took}
-use Rattle.ledger_spec.specs.Bytes.{Bytes}
+use Rattle.ledger_spec.specs.Bytes.{Bytes, Hash, Half}
+use Rattle.ledger_spec.specs.Own.{IsStoredAt}
 use Rattle.ledger_machine.specs.declared.commands.Line.{Line}
+use Rattle.ledger_machine.specs.declared.commands.Record.{Record}
+use Rattle.ledger_machine.specs.Records.{hashes_of, AreDistinct, AreRecords}
 use Rattle.script_form.specs.declared.cause.Cause.{Cause}
 use Rattle.script_form.specs.declared.cause.Cause.TheVariants as cause
 use Rattle.script_form.specs.Servable.{AreServable}
 use Rattle.script_form.specs.Words.{lines_of, text_of, words_of}
-use Rattle.script_form.specs.Causes.{most_bytes, is_skipped, commands_from, size_of, TextHas, Has, IsFine, AreFine, number_of}
-use Rattle.script_form.specs.Grammar.{Says, AreLines, IsScript, IsRefused}
-use Rattle.script_form.specs.Judging.{IsFineText, IsFirstOfText}
+use Rattle.script_form.specs.Records.{Earlier, earlier_in, is_store, hash_in, hashes_in, SaysRecord}
+use Rattle.script_form.specs.Causes.{most_bytes, is_skipped, is_command, commands_from, earlier_of, size_of, LineHas, Has, IsFine, AreFine}
+use Rattle.script_form.specs.Causes.{IsFirstOf, number_of}
+use Rattle.script_form.specs.Grammar.{Says, AreSaid, SaysAsRecord, SaysAsLine, IsScript, IsRefused}
+use Rattle.script_form.specs.Judging.{IsFineLine}
+use Rattle.script_form.proofs.Said.{no_store}
 use Rattle.script_form.proofs.Servable.{Known, known, nothing_servable, servable_more}
 
 -- one line more, split elsewhere
-split_last : (lines before after : List Bytes) (line l : Bytes) → lines ++ line ∷ [] ≡ before ++ l ∷ after → ((before ≡ lines) × (l ≡ line)) ⊎ ((rest : List Bytes) × (lines ≡ before ++ l ∷ rest))
+split_last : (lines before after : List Bytes) (line l : Bytes) → lines ++ line ∷ [] ≡ before ++ l ∷ after
+    → ((before ≡ lines) × (l ≡ line)) ⊎ ((rest : List Bytes) × (lines ≡ before ++ l ∷ rest))
 split_last [] [] after line l e = inl (refl, cc)
 split_last [] (b ∷ []) after line l e = cc
 split_last [] (b ∷ d ∷ before) after line l e = cc
@@ -35,14 +44,17 @@ split_last (x ∷ lines) (b ∷ before) after line l e =
       | inr more ↦ inr (more.0, ap (λ (w : Bytes). w ∷ lines) head ∙ ap (λ (ws : List Bytes). b ∷ ws) more.1)
     ]
 
-none_fine : AreFine []
-none_fine [] line after e = cc
-none_fine (b ∷ before) line after e = cc
+none_fine : (half : Half) → AreFine half []
+none_fine half [] line after e = cc
+none_fine half (b ∷ before) line after e = cc
 
-fine_more : (lines : List Bytes) (line : Bytes) → AreFine lines → IsFine lines line → AreFine (lines ++ line ∷ [])
-fine_more lines line are fine before l after e =
+fine_more : (half : Half) (lines : List Bytes) (line : Bytes) → AreFine half lines → IsFine half lines line
+    → AreFine half (lines ++ line ∷ [])
+fine_more half lines line are fine before l after e =
     elim (split_last lines before after line l e) [
-      | inl last ↦ let P : List Bytes → Type 0 = λ b. IsFine b l in subst P (sym last.0) (subst (IsFine lines) (sym last.1) fine)
+      | inl last ↦
+          let P : List Bytes → Type 0 = λ b. IsFine half b l in
+          let Q : Bytes → Type 0 = λ b. IsFine half lines b in subst P (sym last.0) (subst Q (sym last.1) fine)
       | inr more ↦ are before l more.0 more.1
     ]
 
@@ -50,70 +62,155 @@ size_more : (lines : List Bytes) (line : Bytes) → size_of (lines ++ line ∷ [
 size_more lines line =
     ap length (flat_map-append (λ (l : Bytes). l) lines (line ∷ [])) ∙ length-append (flat_map (λ (l : Bytes). l) lines) (line ++ []) ∙ ap (λ (n : ℕ). size_of lines + n) (ap length (append-nil line))
 
-commands_skip : (n : ℕ) (lines : List Bytes) (line : Bytes) → is_skipped (words_of (text_of line)) ≡ true → commands_from n (lines ++ line ∷ []) ≡ commands_from n lines
-commands_skip n [] line skipped = rw skipped refl
-commands_skip n (x ∷ lines) line skipped =
-    elim (is_skipped (words_of (text_of x))) as (λ b. cond b (commands_from (n + 1) (lines ++ line ∷ [])) (n ∷ commands_from (n + 1) (lines ++ line ∷ [])) ≡ cond b (commands_from (n + 1) lines) (n ∷ commands_from (n + 1) lines)) [
-      | true ↦ commands_skip (n + 1) lines line skipped
-      | false ↦ ap (λ (ns : List ℕ). n ∷ ns) (commands_skip (n + 1) lines line skipped)
+-- ---- of which kind a line is
+skipped_no_command : (words : List Bytes) → is_skipped words ≡ true → is_command words ≡ false
+skipped_no_command words skipped = rw skipped refl
+
+skipped_no_store : (words : List Bytes) → is_skipped words ≡ true → is_store words ≡ false
+skipped_no_store [] skipped = refl
+skipped_no_store ([] ∷ words) skipped = refl
+skipped_no_store ((x ∷ word) ∷ words) skipped = let hash : x ≡ 35 = grind (arith, nat_tests, skipped) in rw hash refl
+
+store_no_command : (words : List Bytes) → is_store words ≡ true → is_command words ≡ false
+store_no_command words store = at (is_command words) refl
+  where
+    at : (b : Bool) → is_command words ≡ b → b ≡ false
+    at true e = no_store words store e
+    at false e = refl
+
+command_no_store : (words : List Bytes) → is_command words ≡ true → is_store words ≡ false
+command_no_store words stands = at (is_store words) refl
+  where
+    at : (b : Bool) → is_store words ≡ b → b ≡ false
+    at true e = no_store words e stands
+    at false e = refl
+
+-- ---- what one line more leaves to the next
+commands_skip : (n : ℕ) (lines : List Bytes) (line : Bytes) → is_command (words_of (text_of line)) ≡ false
+    → commands_from n (lines ++ line ∷ []) ≡ commands_from n lines
+commands_skip n [] line other = rw other refl
+commands_skip n (x ∷ lines) line other =
+    elim (is_command (words_of (text_of x))) as (λ b. cond b (n ∷ commands_from (n + 1) (lines ++ line ∷ [])) (commands_from (n + 1) (lines ++ line ∷ [])) ≡ cond b (n ∷ commands_from (n + 1) lines) (commands_from (n + 1) lines)) [
+      | true ↦ ap (λ (ns : List ℕ). n ∷ ns) (commands_skip (n + 1) lines line other)
+      | false ↦ commands_skip (n + 1) lines line other
     ]
 
-commands_more : (n : ℕ) (lines : List Bytes) (line : Bytes) (m : ℕ) → is_skipped (words_of (text_of line)) ≡ false → m ≡ n + length lines → commands_from n (lines ++ line ∷ []) ≡ commands_from n lines ++ m ∷ []
+commands_more : (n : ℕ) (lines : List Bytes) (line : Bytes) (m : ℕ) → is_command (words_of (text_of line)) ≡ true → m ≡ n + length lines
+    → commands_from n (lines ++ line ∷ []) ≡ commands_from n lines ++ m ∷ []
 commands_more n [] line m stands is = let same : m ≡ n = omega arith in rw (stands, same) refl
 commands_more n (x ∷ lines) line m stands is =
     let more = commands_more (n + 1) lines line m stands (omega (arith, is)) in
-    elim (is_skipped (words_of (text_of x))) as (λ b. cond b (commands_from (n + 1) (lines ++ line ∷ [])) (n ∷ commands_from (n + 1) (lines ++ line ∷ [])) ≡ cond b (commands_from (n + 1) lines) (n ∷ commands_from (n + 1) lines) ++ m ∷ []) [
-      | true ↦ more
-      | false ↦ ap (λ (ns : List ℕ). n ∷ ns) more
+    elim (is_command (words_of (text_of x))) as (λ b. cond b (n ∷ commands_from (n + 1) (lines ++ line ∷ [])) (commands_from (n + 1) (lines ++ line ∷ [])) ≡ cond b (n ∷ commands_from (n + 1) lines) (commands_from (n + 1) lines) ++ m ∷ []) [
+      | true ↦ ap (λ (ns : List ℕ). n ∷ ns) more
+      | false ↦ more
     ]
 
-lines_skip : (before texts : List Bytes) (lines : List Line) (line : Bytes) → AreLines before texts lines → is_skipped (words_of (text_of line)) ≡ true → AreLines before (texts ++ line ∷ []) lines
-lines_skip before [] [] line are skipped = (skipped, tt)
-lines_skip before [] (l ∷ lines) line are skipped = absurd are
-lines_skip before (x ∷ texts) [] line are skipped = (are.0, lines_skip (before ++ x ∷ []) texts [] line are.1 skipped)
-lines_skip before (x ∷ texts) (l ∷ lines) line are skipped =
-    elim are [
-      | inl none ↦ inl (none.0, lines_skip (before ++ x ∷ []) texts (l ∷ lines) line none.1 skipped)
-      | inr one ↦ inr (one.0, one.1, lines_skip (before ++ x ∷ []) texts lines line one.2 skipped)
+no_hash : (words : List Bytes) → is_store words ≡ false → hash_in words ≡ []
+no_hash [] other = refl
+no_hash (word ∷ []) other = refl
+no_hash (word ∷ hash ∷ words) other = rw other refl
+
+its_hash : (words : List Bytes) (r : Record) → is_store words ≡ true → SaysRecord (drop 1 words) r → hash_in words ≡ r.hash ∷ []
+its_hash [] r store says = cc
+its_hash (word ∷ args) r store says =
+    let P : List Bytes → Type 0 = λ ws. hash_in (word ∷ ws) ≡ r.hash ∷ [] in
+    subst P (sym says.words) (rw (store, says.hash_says.value) refl)
+
+hashes_more : (lines : List Bytes) (line : Bytes) (hashes : List Hash) → hash_in (words_of (text_of line)) ≡ hashes
+    → hashes_in (lines ++ line ∷ []) ≡ hashes_in lines ++ hashes
+hashes_more lines line hashes is =
+    flat_map-append (λ (l : Bytes). hash_in (words_of (text_of l))) lines (line ∷ [])
+    ∙ ap (λ (hs : List Hash). hashes_in lines ++ hs) (append-nil (hash_in (words_of (text_of line))) ∙ is)
+
+hashes_skip : (lines : List Bytes) (line : Bytes) → is_store (words_of (text_of line)) ≡ false
+    → hashes_in (lines ++ line ∷ []) ≡ hashes_in lines
+hashes_skip lines line other = hashes_more lines line [] (no_hash (words_of (text_of line)) other) ∙ append-nil (hashes_in lines)
+
+-- ---- what the lines say
+module _ {X : Type 0} (is_one : List Bytes → Bool) (OneSays : List Bytes → Bytes → X → Type 0) where
+  said_skip : (before texts : List Bytes) (xs : List X) (line : Bytes) → AreSaid is_one OneSays before texts xs
+      → is_one (words_of (text_of line)) ≡ false → AreSaid is_one OneSays before (texts ++ line ∷ []) xs
+  said_skip before [] [] line are other = (other, tt)
+  said_skip before [] (x ∷ xs) line are other = absurd are
+  said_skip before (t ∷ texts) [] line are other = (are.0, said_skip (before ++ t ∷ []) texts [] line are.1 other)
+  said_skip before (t ∷ texts) (x ∷ xs) line are other =
+      elim are [
+        | inl none ↦ inl (none.0, said_skip (before ++ t ∷ []) texts (x ∷ xs) line none.1 other)
+        | inr one ↦ inr (one.0, one.1, said_skip (before ++ t ∷ []) texts xs line one.2 other)
+      ]
+
+  said_more : (before texts whole : List Bytes) (xs : List X) (line : Bytes) (x : X) → whole ≡ before ++ texts
+      → AreSaid is_one OneSays before texts xs → is_one (words_of (text_of line)) ≡ true → OneSays whole (text_of line) x
+      → AreSaid is_one OneSays before (texts ++ line ∷ []) (xs ++ x ∷ [])
+  said_more before [] whole [] line x is are stands says =
+      let same : whole ≡ before = is ∙ append-nil before in
+      let P : List Bytes → Type 0 = λ w. OneSays w (text_of line) x in
+      inr (stands, subst P same says, tt)
+  said_more before [] whole (k ∷ xs) line x is are stands says = absurd are
+  said_more before (t ∷ texts) whole [] line x is are stands says =
+      inl (are.0, said_more (before ++ t ∷ []) texts whole [] line x (is ∙ sym (append_assoc before (t ∷ []) texts)) are.1 stands says)
+  said_more before (t ∷ texts) whole (k ∷ xs) line x is are stands says =
+      let next = is ∙ sym (append_assoc before (t ∷ []) texts) in
+      elim are [
+        | inl none ↦ inl (none.0, said_more (before ++ t ∷ []) texts whole (k ∷ xs) line x next none.1 stands says)
+        | inr one ↦ inr (one.0, one.1, said_more (before ++ t ∷ []) texts whole xs line x next one.2 stands says)
+      ]
+
+-- ---- one record more
+distinct_more : (hashes : List Hash) (h : Hash) → AreDistinct hashes → (Contains hashes h → ⊥) → AreDistinct (hashes ++ h ∷ [])
+distinct_more [] h are new = (none, tt)
+  where
+    none : Contains {X = Hash} [] h → ⊥
+    none is = let lt : is.0 < 0 = is.1 in absurd (omega (arith, lt))
+distinct_more (x ∷ hashes) h are new = (not_there, distinct_more hashes h are.1 (λ is. new (Contains-append_right (x ∷ []) hashes h is)))
+  where
+    not_there : Contains (hashes ++ h ∷ []) x → ⊥
+    not_there is = elim (Contains-push_cases hashes h x is) [
+      | inl there ↦ are.0 there
+      | inr same ↦
+          let P : Hash → Type 0 = λ y. Contains (x ∷ hashes) y in
+          new (subst P (sym same) (Contains-append_left (x ∷ []) hashes x (Contains-push [] x)))
     ]
 
-lines_more : (before texts whole : List Bytes) (lines : List Line) (line : Bytes) (l : Line) → whole ≡ before ++ texts → AreLines before texts lines → is_skipped (words_of (text_of line)) ≡ false
-    → Says (commands_from 1 whole) (length whole + 1) (text_of line) l → AreLines before (texts ++ line ∷ []) (lines ++ l ∷ [])
-lines_more before [] whole [] line l is are stands says =
-    let same : whole ≡ before = is ∙ append-nil before in
-    let P : List Bytes → Type 0 = λ w. Says (commands_from 1 w) (length w + 1) (text_of line) l in
-    inr (stands, subst P same says, tt)
-lines_more before [] whole (k ∷ lines) line l is are stands says = absurd are
-lines_more before (x ∷ texts) whole [] line l is are stands says =
-    inl (are.0, lines_more (before ++ x ∷ []) texts whole [] line l (is ∙ sym (append_assoc before (x ∷ []) texts)) are.1 stands says)
-lines_more before (x ∷ texts) whole (k ∷ lines) line l is are stands says =
-    let next = is ∙ sym (append_assoc before (x ∷ []) texts) in
-    elim are [
-      | inl none ↦ inl (none.0, lines_more (before ++ x ∷ []) texts whole (k ∷ lines) line l next none.1 stands says)
-      | inr one ↦ inr (one.0, one.1, lines_more (before ++ x ∷ []) texts whole lines line l next one.2 stands says)
-    ]
+records_more : (half : Half) (records : List Record) (r : Record) → AreRecords half records → IsStoredAt half r.hash r.form
+    → (Contains (hashes_of records) r.hash → ⊥) → AreRecords half (records ++ r ∷ [])
+records_more half records r are own new =
+    let P : List Hash → Type 0 = λ hs. AreDistinct hs in
+    record {
+      own = All-push (λ x. IsStoredAt half x.hash x.form) records r are.own own;
+      distinct =
+          subst P (sym (map-append (λ (x : Record). x.hash) records (r ∷ [])))
+          (distinct_more (hashes_of records) r.hash are.distinct new);
+    }
 
-numbers_below : (lines : List Line) (ns : List ℕ) (n : ℕ) → map (λ l. l.number) lines ≡ ns → All (λ l. l.number < n) lines → All (λ m. m < n) ns
-numbers_below lines ns n same below = subst (λ (w : List ℕ). All (λ m. m < n) w) same (All-map (λ m. m < n) (λ (x : Line). x.number) lines below)
+numbers_below : (lines : List Line) (ns : List ℕ) (n : ℕ) → map (λ l. l.number) lines ≡ ns → All (λ l. l.number < n) lines
+    → All (λ m. m < n) ns
+numbers_below lines ns n same below =
+    subst (λ (w : List ℕ). All (λ m. m < n) w) same (All-map (λ m. m < n) (λ (x : Line). x.number) lines below)
 
 rises_more : (ns : List ℕ) (n : ℕ) → IsNonDecreasing ns → All (λ m. m < n) ns → IsNonDecreasing (ns ++ n ∷ [])
 rises_more ns n rises below = IsNonDecreasingBy-push (λ x. x) ns n rises (λ d some. let last : get_or ns (length ns - 1) d < n = below (length ns - 1) d (omega arith) in omega arith)
 
-has_of_text : (before : List Bytes) (line : Bytes) (c : Cause) → TextHas (commands_from 1 before) (text_of line) c → Has before line c
-has_of_text before line cause.ScriptTooLong has = absurd has
-has_of_text before line c has = has
+has_of_line : (half : Half) (before : List Bytes) (line : Bytes) (c : Cause) → LineHas half (earlier_of before) (text_of line) c
+    → Has half before line c
+has_of_line half before line cause.ScriptTooLong has = absurd (elim has [ inl of_text ↦ of_text | inr of_words ↦ of_words.1 ])
+has_of_line half before line c has = has
 
-text_of_has : (before : List Bytes) (line : Bytes) (c : Cause) → size_of before + length line ≤ most_bytes → Has before line c → TextHas (commands_from 1 before) (text_of line) c
-text_of_has before line cause.ScriptTooLong within has = absurd (omega (arith, within, has))
-text_of_has before line c within has = has
+line_of_has : (half : Half) (before : List Bytes) (line : Bytes) (c : Cause) → size_of before + length line ≤ most_bytes
+    → Has half before line c → LineHas half (earlier_of before) (text_of line) c
+line_of_has half before line cause.ScriptTooLong within has = absurd (omega (arith, within, has))
+line_of_has half before line c within has = has
 
--- what was read of the bytes: some lines, and the rest
-pub record Reads (bytes : Bytes) (lines : List Line) (earlier : List ℕ) (n : ℕ) (rest : Bytes) : Type 0 where
+-- what was read of the bytes: some records and lines, and the rest
+pub record Reads (half : Half) (bytes : Bytes) (records : List Record) (lines : List Line) (earlier : List ℕ) (n : ℕ) (rest : Bytes)
+    : Type 0 where
   pub done : List Bytes
   pub cut : lines_of bytes ≡ done ++ lines_of rest
-  pub fine : AreFine done
-  pub says : AreLines [] done lines
+  pub fine : AreFine half done
+  pub stored : AreSaid is_store SaysAsRecord [] done records
+  pub says : AreSaid is_command SaysAsLine [] done lines
   pub numbers : earlier ≡ commands_from 1 done
+  pub hashes : hashes_of records ≡ hashes_in done
   pub same : map (λ l. l.number) lines ≡ earlier
   pub place : n ≡ length done + 1
   pub size : length bytes ≡ size_of done + length rest
@@ -123,14 +220,17 @@ pub record Reads (bytes : Bytes) (lines : List Line) (earlier : List ℕ) (n : �
   pub below : All (λ l. l.number < n) lines
   pub rises : IsNonDecreasing earlier
   pub servable : AreServable lines
+  pub own : AreRecords half records
 
-pub reads_start : (bytes : Bytes) → Reads bytes [] [] 1 bytes
-reads_start bytes = record {
+pub reads_start : (half : Half) (bytes : Bytes) → Reads half bytes [] [] [] 1 bytes
+reads_start half bytes = record {
   done = [];
   cut = refl;
-  fine = none_fine;
+  fine = none_fine half;
+  stored = tt;
   says = tt;
   numbers = refl;
+  hashes = refl;
   same = refl;
   place = omega arith;
   size = omega arith;
@@ -140,9 +240,15 @@ reads_start bytes = record {
   below = λ k d lt. absurd (omega arith);
   rises = λ i j d le lt. absurd (omega arith);
   servable = nothing_servable;
+  own = record { own = λ k d lt. absurd (omega arith); distinct = tt };
 }
 
-module _ (bytes : Bytes) (lines : List Line) (earlier : List ℕ) (n : ℕ) (rest : Bytes) (r : Reads bytes lines earlier n rest) where
+module _ (half : Half) (bytes : Bytes) (records : List Record) (lines : List Line) (earlier : List ℕ) (n : ℕ) (rest : Bytes) (r : Reads half bytes records lines earlier n rest) where
+  same_earlier : earlier_in earlier records ≡ earlier_of r.done
+  same_earlier =
+      ap (λ (ns : List ℕ). record { commands = ns; hashes = hashes_of records }) r.numbers
+      ∙ ap (λ (hs : List Hash). record { commands = commands_from 1 r.done; hashes = hs }) r.hashes
+
   -- the next line's text, and how many bytes the line has
   module _ (text : Bytes) (k : ℕ) (is : text ≡ text_of (take k rest)) (cut : lines_of rest ≡ take k rest ∷ lines_of (drop k rest)) (some : 0 < k) (within : k ≤ length rest) where
     long : length (take k rest) ≡ k
@@ -154,21 +260,32 @@ module _ (bytes : Bytes) (lines : List Line) (earlier : List ℕ) (n : ℕ) (res
     fits : length bytes - length rest + k ≤ most_bytes → size_of r.done + length (take k rest) ≤ most_bytes
     fits room = omega (arith, r.size, room, long)
 
-    fine_next : length bytes - length rest + k ≤ most_bytes → IsFineText earlier text → IsFine r.done (take k rest)
-    fine_next room fine c has =
-        let P : List ℕ → Type 0 = λ e. IsFineText e (text_of (take k rest)) in
-        let whole = subst P r.numbers (subst (IsFineText earlier) is fine) in
-        whole c (text_of_has r.done (take k rest) c (fits room) has)
+    over : (P : Earlier → Bytes → Type 0) → P (earlier_in earlier records) text → P (earlier_of r.done) (text_of (take k rest))
+    over P p =
+        let Q : Earlier → Type 0 = λ e. P e (text_of (take k rest)) in
+        let S : Bytes → Type 0 = λ t. P (earlier_in earlier records) t in
+        subst Q same_earlier (subst S is p)
 
-    pub reads_skip : length bytes - length rest + k ≤ most_bytes → IsFineText earlier text → is_skipped (words_of text) ≡ true → Reads bytes lines earlier (n + 1) (drop k rest)
+    fine_next : length bytes - length rest + k ≤ most_bytes → IsFineLine half (earlier_in earlier records) text
+        → IsFine half r.done (take k rest)
+    fine_next room fine c has = over (λ e t. IsFineLine half e t) fine c (line_of_has half r.done (take k rest) c (fits room) has)
+
+    here : (P : List Bytes → Type 0) → P (words_of text) → P (words_of (text_of (take k rest)))
+    here P p = let Q : Bytes → Type 0 = λ t. P (words_of t) in subst Q is p
+
+    pub reads_skip : length bytes - length rest + k ≤ most_bytes → IsFineLine half (earlier_in earlier records) text
+        → is_skipped (words_of text) ≡ true → Reads half bytes records lines earlier (n + 1) (drop k rest)
     reads_skip room fine skipped =
-        let here = subst (λ (t : Bytes). is_skipped (words_of t) ≡ true) is skipped in
+        let words = words_of (text_of (take k rest)) in
+        let skip = here (λ w. is_skipped w ≡ true) skipped in
         record {
           done = r.done ++ take k rest ∷ [];
           cut = cut_next;
-          fine = fine_more r.done (take k rest) r.fine (fine_next room fine);
-          says = lines_skip [] r.done lines (take k rest) r.says here;
-          numbers = r.numbers ∙ sym (commands_skip 1 r.done (take k rest) here);
+          fine = fine_more half r.done (take k rest) r.fine (fine_next room fine);
+          stored = said_skip is_store SaysAsRecord [] r.done records (take k rest) r.stored (skipped_no_store words skip);
+          says = said_skip is_command SaysAsLine [] r.done lines (take k rest) r.says (skipped_no_command words skip);
+          numbers = r.numbers ∙ sym (commands_skip 1 r.done (take k rest) (skipped_no_command words skip));
+          hashes = r.hashes ∙ sym (hashes_skip r.done (take k rest) (skipped_no_store words skip));
           same = r.same;
           place = omega (arith, r.place, length-append r.done (take k rest ∷ []));
           size = omega (arith, r.size, size_more r.done (take k rest), long, length-drop k rest, within);
@@ -178,24 +295,62 @@ module _ (bytes : Bytes) (lines : List Line) (earlier : List ℕ) (n : ℕ) (res
           below = All-weaker (λ l. l.number < n) (λ l. l.number < n + 1) (λ l less. omega (arith, less)) lines r.below;
           rises = r.rises;
           servable = r.servable;
+          own = r.own;
         }
 
-    pub reads_line : (l : Line) → length bytes ≤ most_bytes + 1 → length bytes - length rest + k ≤ most_bytes → IsFineText earlier text → is_skipped (words_of text) ≡ false → Says earlier n text l
-        → Reads bytes (lines ++ l ∷ []) (earlier ++ n ∷ []) (n + 1) (drop k rest)
-    reads_line l small room fine stands says =
-        let here = subst (λ (t : Bytes). is_skipped (words_of t) ≡ false) is stands in
+    pub reads_record : (one : Record) → length bytes - length rest + k ≤ most_bytes → IsFineLine half (earlier_in earlier records) text
+        → is_store (words_of text) ≡ true → SaysRecord (drop 1 (words_of text)) one → IsStoredAt half one.hash one.form
+        → Reads half bytes (records ++ one ∷ []) lines earlier (n + 1) (drop k rest)
+    reads_record one room fine store says own =
+        let words = words_of (text_of (take k rest)) in
+        let stands = here (λ w. is_store w ≡ true) store in
+        let one_says = here (λ w. SaysRecord (drop 1 w) one) says in
+        let new : Contains (hashes_of records) one.hash → ⊥ = λ old. fine cause.BadRecord (inr (store, inr (one, says, inr old))) in
+        record {
+          done = r.done ++ take k rest ∷ [];
+          cut = cut_next;
+          fine = fine_more half r.done (take k rest) r.fine (fine_next room fine);
+          stored = said_more is_store SaysAsRecord [] r.done r.done records (take k rest) one refl r.stored stands one_says;
+          says = said_skip is_command SaysAsLine [] r.done lines (take k rest) r.says (store_no_command words stands);
+          numbers = r.numbers ∙ sym (commands_skip 1 r.done (take k rest) (store_no_command words stands));
+          hashes =
+              map-append (λ (x : Record). x.hash) records (one ∷ []) ∙ ap (λ (hs : List Hash). hs ++ one.hash ∷ []) r.hashes
+              ∙ sym (hashes_more r.done (take k rest) (one.hash ∷ []) (its_hash words one stands one_says));
+          same = r.same;
+          place = omega (arith, r.place, length-append r.done (take k rest ∷ []));
+          size = omega (arith, r.size, size_more r.done (take k rest), long, length-drop k rest, within);
+          room = omega (arith, size_more r.done (take k rest), fits room);
+          few = omega (arith, r.few, length-drop k rest, some, within);
+          count = omega (arith, r.count);
+          below = All-weaker (λ l. l.number < n) (λ l. l.number < n + 1) (λ l less. omega (arith, less)) lines r.below;
+          rises = r.rises;
+          servable = r.servable;
+          own = records_more half records one r.own own new;
+        }
+
+    pub reads_line : (l : Line) → length bytes ≤ most_bytes + 1 → length bytes - length rest + k ≤ most_bytes
+        → IsFineLine half (earlier_in earlier records) text → is_command (words_of text) ≡ true → Says earlier n text l
+        → Reads half bytes records (lines ++ l ∷ []) (earlier ++ n ∷ []) (n + 1) (drop k rest)
+    reads_line l small room fine command says =
+        let words = words_of (text_of (take k rest)) in
+        let stands = here (λ w. is_command w ≡ true) command in
         let below : All (λ x. x.number < l.number) lines = All-weaker (λ x. x.number < n) (λ x. x.number < l.number) (λ x less. omega (arith, less, says.numbered)) lines r.below in
-        let P : List ℕ → ℕ → Type 0 = λ e m. Says e m (text_of (take k rest)) l in
         let text_says : Says earlier n (text_of (take k rest)) l = subst (λ (t : Bytes). Says earlier n t l) is says in
         let numbered_says = subst (λ (m : ℕ). Says earlier m (text_of (take k rest)) l) r.place text_says in
         let whole_says = subst (λ (e : List ℕ). Says e (length r.done + 1) (text_of (take k rest)) l) r.numbers numbered_says in
         record {
           done = r.done ++ take k rest ∷ [];
           cut = cut_next;
-          fine = fine_more r.done (take k rest) r.fine (fine_next room fine);
-          says = lines_more [] r.done r.done lines (take k rest) l refl r.says here whole_says;
-          numbers = ap (λ (e : List ℕ). e ++ n ∷ []) r.numbers ∙ sym (commands_more 1 r.done (take k rest) n here (omega (arith, r.place)));
-          same = map-append (λ (x : Line). x.number) lines (l ∷ []) ∙ ap (λ (e : List ℕ). e ++ l.number ∷ []) r.same ∙ ap (λ (m : ℕ). earlier ++ m ∷ []) says.numbered;
+          fine = fine_more half r.done (take k rest) r.fine (fine_next room fine);
+          stored = said_skip is_store SaysAsRecord [] r.done records (take k rest) r.stored (command_no_store words stands);
+          says = said_more is_command SaysAsLine [] r.done r.done lines (take k rest) l refl r.says stands whole_says;
+          numbers =
+              ap (λ (e : List ℕ). e ++ n ∷ []) r.numbers
+              ∙ sym (commands_more 1 r.done (take k rest) n stands (omega (arith, r.place)));
+          hashes = r.hashes ∙ sym (hashes_skip r.done (take k rest) (command_no_store words stands));
+          same =
+              map-append (λ (x : Line). x.number) lines (l ∷ []) ∙ ap (λ (e : List ℕ). e ++ l.number ∷ []) r.same
+              ∙ ap (λ (m : ℕ). earlier ++ m ∷ []) says.numbered;
           place = omega (arith, r.place, length-append r.done (take k rest ∷ []));
           size = omega (arith, r.size, size_more r.done (take k rest), long, length-drop k rest, within);
           room = omega (arith, size_more r.done (take k rest), fits room);
@@ -204,9 +359,11 @@ module _ (bytes : Bytes) (lines : List Line) (earlier : List ℕ) (n : ℕ) (res
           below = All-push (λ x. x.number < n + 1) lines l (All-weaker (λ x. x.number < n) (λ x. x.number < n + 1) (λ x less. omega (arith, less)) lines r.below) (omega (arith, says.numbered));
           rises = rises_more earlier n r.rises (numbers_below lines earlier n r.same r.below);
           servable = servable_more lines l r.servable (omega (arith, says.numbered, r.place)) below (omega (arith, r.count, r.few, small)) (let K : List ℕ → Type 0 = λ e. Known e l in subst K (sym r.same) (known earlier (words_of text) l says.words));
+          own = r.own;
         }
 
-    pub refused_text : (c : Cause) → length bytes - length rest + k ≤ most_bytes → IsFirstOfText earlier text c → IsRefused bytes n (number_of c)
+    pub refused_text : (c : Cause) → length bytes - length rest + k ≤ most_bytes
+        → IsFirstOf (LineHas half (earlier_in earlier records) text) c → IsRefused half bytes n (number_of c)
     refused_text c room first = record {
       before = r.done;
       bad = take k rest;
@@ -216,16 +373,15 @@ module _ (bytes : Bytes) (lines : List Line) (earlier : List ℕ) (n : ℕ) (res
       good = r.fine;
       why = c;
       first = record {
-        has = has_of_text r.done (take k rest) c (over (λ e t. TextHas e t c) first.has);
-        none_before = λ d less has. over (λ e t. TextHas e t d → ⊥) (first.none_before d less) (text_of_has r.done (take k rest) d (fits room) has);
+        has = has_of_line half r.done (take k rest) c (over (λ e t. LineHas half e t c) first.has);
+        none_before = λ d less has.
+            over (λ e t. LineHas half e t d → ⊥) (first.none_before d less)
+            (line_of_has half r.done (take k rest) d (fits room) has);
       };
       number = refl;
     }
-      where
-        over : (P : List ℕ → Bytes → Type 0) → P earlier text → P (commands_from 1 r.done) (text_of (take k rest))
-        over P p = let Q : List ℕ → Type 0 = λ e. P e (text_of (take k rest)) in subst Q r.numbers (subst (P earlier) is p)
 
-    pub refused_size : most_bytes < length bytes - length rest + k → IsRefused bytes n 12
+    pub refused_size : most_bytes < length bytes - length rest + k → IsRefused half bytes n 12
     refused_size over = record {
       before = r.done;
       bad = take k rest;
@@ -238,12 +394,13 @@ module _ (bytes : Bytes) (lines : List Line) (earlier : List ℕ) (n : ℕ) (res
       number = refl;
     }
 
-  pub reads_end : length rest ≡ 0 → IsScript bytes lines
+  pub reads_end : length rest ≡ 0 → IsScript half bytes records lines
   reads_end none =
       let whole : lines_of bytes ≡ r.done = r.cut ∙ ap (λ (w : Bytes). r.done ++ lines_of w) (empty rest none) ∙ append-nil r.done in
-      let P : List Bytes → Type 0 = λ w. AreFine w in
-      let Q : List Bytes → Type 0 = λ w. AreLines [] w lines in
-      record { fine = subst P (sym whole) r.fine; says = subst Q (sym whole) r.says }
+      let P : List Bytes → Type 0 = λ w. AreFine half w in
+      let Q : List Bytes → Type 0 = λ w. AreSaid is_store SaysAsRecord [] w records in
+      let S : List Bytes → Type 0 = λ w. AreSaid is_command SaysAsLine [] w lines in
+      record { fine = subst P (sym whole) r.fine; stored = subst Q (sym whole) r.stored; says = subst S (sym whole) r.says }
     where
       empty : (xs : List ℕ) → length xs ≡ 0 → xs ≡ []
       empty [] is = refl
@@ -253,7 +410,8 @@ module _ (bytes : Bytes) (lines : List Line) (earlier : List ℕ) (n : ℕ) (res
   within_size none = omega (arith, r.size, r.room, none)
 
 -- where a script was read to its limit and a byte more, the source was read to its end
-pub ended_at : (old new : Option (List ℕ)) (v : List ℕ) → Took old new (most_bytes + 1) → IfSome old (λ bytes. v ≡ take (most_bytes + 1) bytes) → length v ≤ most_bytes → IfSome old (λ _. new ≡ Some [])
+pub ended_at : (old new : Option (List ℕ)) (v : List ℕ) → Took old new (most_bytes + 1)
+    → IfSome old (λ bytes. v ≡ take (most_bytes + 1) bytes) → length v ≤ most_bytes → IfSome old (λ _. new ≡ Some [])
 ended_at None new v took is small = tt
 ended_at (Some bytes) new v took is small =
     let few : length bytes ≤ most_bytes + 1 = omega (arith, small, length-take (most_bytes + 1) bytes, ap length is) in

@@ -87,9 +87,11 @@ known earlier (actor ∷ words) l says =
       waits = λ some. elim says.1 [ inl free ↦ absurd (some free.1) | inr named ↦ named.1.found ];
     }
 
-rises_more : (m : ℕ) (lines : List Line) (l : Line) → Rises m lines → m < l.number → All (λ x. x.number < l.number) lines → Rises m (lines ++ l ∷ [])
+rises_more : (m : ℕ) (lines : List Line) (l : Line) → Rises m lines → m < l.number → All (λ x. x.number < l.number) lines
+    → Rises m (lines ++ l ∷ [])
 rises_more m [] l rises more below = (more, tt)
-rises_more m (x ∷ lines) l rises more below = (rises.0, rises_more x.number lines l rises.1 (below 0 x (omega arith)) (λ k d lt. below (suc k) d (omega arith)))
+rises_more m (x ∷ lines) l rises more below =
+    (rises.0, rises_more x.number lines l rises.1 (below 0 x (omega arith)) (λ k d lt. below (suc k) d (omega arith)))
 
 pub nothing_servable : AreServable []
 nothing_servable = record {
@@ -102,7 +104,8 @@ nothing_servable = record {
 }
 
 -- one line more
-pub servable_more : (lines : List Line) (l : Line) → AreServable lines → 0 < l.number → All (λ x. x.number < l.number) lines → length lines + 1 < 2 ^ 32 → Known (map (λ x. x.number) lines) l → AreServable (lines ++ l ∷ [])
+pub servable_more : (lines : List Line) (l : Line) → AreServable lines → 0 < l.number → All (λ x. x.number < l.number) lines
+    → length lines + 1 < 2 ^ 32 → Known (map (λ x. x.number) lines) l → AreServable (lines ++ l ∷ [])
 servable_more lines l s some below few k = record {
   actors_known = All-push (λ x. x.actor < 64) lines l s.actors_known k.actor;
   numbers_rise = rises_more 0 lines l s.numbers_rise some below;

@@ -32,7 +32,8 @@ one_form f g word count =
     ∙ ap (λ (n : ℕ). form_by (slice_index (word_in g) 0) n) count ∙ by_form g
 
 -- a word that is no bytes is wrong in their place
-pub blob_tells : (c : Cause) (word : Bytes) (r : Option Bytes) (b : Bool) → c ≡ cause.BadHex → is_some r ≡ not b → MatchOption r ((bytes : Bytes) → IsBlob word bytes → ⊥) (IsBlob word)
+pub blob_tells : (c : Cause) (word : Bytes) (r : Option Bytes) (b : Bool) → c ≡ cause.BadHex → is_some r ≡ not b
+    → MatchOption r ((bytes : Bytes) → IsBlob word bytes → ⊥) (IsBlob word)
     → MatchBool b (IsWrong c argument.Blob word) (IsWrong c argument.Blob word → ⊥)
 blob_tells c word r b is tells found =
     let S : Cause → Type 0 = λ a. MatchBool b (IsWrong a argument.Blob word) (IsWrong a argument.Blob word → ⊥) in

@@ -1,12 +1,13 @@
 -- Why a line is refused, given the lines before it.
-use Rattle.std.specs.Prelude.{◌≡◌, ℕ, ◌+◌, ◌<◌, ◌≤◌, ◌==◌, ◌&&◌, nat_le, if◌then◌else◌, Bool, true, false, List, [], ◌∷◌, ◌++◌}
+use Rattle.std.specs.Prelude.{◌≡◌, ◌⊎◌, ℕ, ◌+◌, ◌<◌, ◌≤◌, ◌==◌, ◌&&◌, not, nat_le, if◌then◌else◌, Bool, true, false, List, [], ◌∷◌, ◌++◌}
 use Rattle.std.specs.Prelude.{length, drop, slice_get, codes, Some, flat_map}
 use Rattle.std.specs.List.{list_all, Contains}
-use Rattle.ledger_spec.specs.Bytes.{Bytes, same_bytes}
+use Rattle.ledger_spec.specs.Bytes.{Bytes, Half, same_bytes}
 use Rattle.script_form.specs.declared.cause.Cause.{Cause}
 use Rattle.script_form.specs.declared.cause.Cause.TheVariants as cause
 use Rattle.script_form.specs.Words.{text_of, words_of, IsNumber}
 use Rattle.script_form.specs.Commands.{CallHas}
+use Rattle.script_form.specs.Records.{Earlier, nothing_earlier, is_store, hashes_in, StoreHas}
 
 -- the most bytes of a script, of a line's text, and the most command lines
 abbrev pub most_bytes : ℕ
@@ -31,6 +32,7 @@ number_of cause.BadNumber = 7
 number_of cause.BadHex = 8
 number_of cause.BadKindOrId = 9
 number_of cause.ZeroTarget = 10
+number_of cause.BadRecord = 11
 number_of cause.TooManyCommands = 12
 
 -- a cause's place in the order of the tests: by its number, but the line with the first byte too many is refused before its other tests
@@ -48,11 +50,19 @@ is_skipped [] = true
 is_skipped ([] ∷ words) = false
 is_skipped ((x ∷ word) ∷ words) = x == 35
 
+-- the line of these words is to be a command line: it isn't skipped, and is no record
+abbrev pub is_command : List Bytes → Bool
+is_command words = not (is_skipped words) && not (is_store words)
+
 -- the numbers of the command lines among lines that are numbered from n
 abbrev pub commands_from : ℕ → List Bytes → List ℕ
 commands_from n [] = []
 commands_from n (line ∷ lines) =
-    if is_skipped (words_of (text_of line)) then commands_from (n + 1) lines else n ∷ commands_from (n + 1) lines
+    if is_command (words_of (text_of line)) then n ∷ commands_from (n + 1) lines else commands_from (n + 1) lines
+
+-- what some lines leave to the next one
+abbrev pub earlier_of : List Bytes → Earlier
+earlier_of lines = record { commands = commands_from 1 lines; hashes = hashes_in lines }
 
 -- behind the actor stands `after`
 abbrev pub waits : List Bytes → Bool
@@ -70,8 +80,7 @@ pub record IsEarlier (earlier : List ℕ) (words : List Bytes) (n : ℕ) : Type 
   pub number : IsNumber word 4294967295 n
   pub found : Contains earlier n
 
--- The cause stands at the words of a command line; `earlier` are the numbers of the command lines before it. A line whose first word is
--- `store` will be a record: until records are read it has no actor.
+-- the cause stands at the words of a command line; `earlier` are the numbers of the command lines before it
 abbrev pub WordsHave : List ℕ → List Bytes → Cause → Type 0
 WordsHave earlier [] c = ⊥
 WordsHave earlier (actor ∷ words) cause.NoActor = (n : ℕ) → IsNumber actor 63 n → ⊥
@@ -79,35 +88,50 @@ WordsHave earlier (actor ∷ words) cause.BadAfter = (waits words ≡ true) × (
 WordsHave earlier (actor ∷ words) cause.TooManyCommands = most_commands ≤ length earlier
 WordsHave earlier (actor ∷ words) c = CallHas (call_in words) c
 
--- the cause stands at the words of a line, which isn't skipped
+-- the cause stands at the words of a line, which is a command line
 abbrev pub CommandHas : List ℕ → List Bytes → Cause → Type 0
-CommandHas earlier words c = (is_skipped words ≡ false) × WordsHave earlier words c
+CommandHas earlier words c = (is_command words ≡ true) × WordsHave earlier words c
 
--- the cause stands at a line's text
+-- the cause stands at the words of a line, which is a record
+abbrev pub RecordHas : Half → Earlier → List Bytes → Cause → Type 0
+RecordHas half earlier words c = (is_store words ≡ true) × StoreHas half earlier (drop 1 words) c
+
+-- the cause stands at a line's text, or at the words of the command line that it is
 abbrev pub TextHas : List ℕ → Bytes → Cause → Type 0
 TextHas earlier text cause.ScriptTooLong = ⊥
 TextHas earlier text cause.NotPrintable = list_all is_printable text ≡ false
 TextHas earlier text cause.LineTooLong = most_text < length text
 TextHas earlier text c = CommandHas earlier (words_of text) c
 
+-- the cause stands at a line's text, or at what the line is
+abbrev pub LineHas : Half → Earlier → Bytes → Cause → Type 0
+LineHas half earlier text c = TextHas earlier.commands text c ⊎ RecordHas half earlier (words_of text) c
+
 -- the bytes of some lines
 abbrev pub size_of : List Bytes → ℕ
 size_of lines = length (flat_map (λ line. line) lines)
 
 -- the cause stands at a line behind these
-abbrev pub Has : List Bytes → Bytes → Cause → Type 0
-Has before line cause.ScriptTooLong = most_bytes < size_of before + length line
-Has before line c = TextHas (commands_from 1 before) (text_of line) c
+abbrev pub Has : Half → List Bytes → Bytes → Cause → Type 0
+Has half before line cause.ScriptTooLong = most_bytes < size_of before + length line
+Has half before line c = LineHas half (earlier_of before) (text_of line) c
 
 -- the line behind these has no cause
-abbrev pub IsFine : List Bytes → Bytes → Type 0
-IsFine before line = (c : Cause) → Has before line c → ⊥
+abbrev pub IsFine : Half → List Bytes → Bytes → Type 0
+IsFine half before line = (c : Cause) → Has half before line c → ⊥
 
--- the first of the causes of the line behind these
-pub record IsFirst (before : List Bytes) (line : Bytes) (c : Cause) : Type 0 where
-  pub has : Has before line c
-  pub none_before : (d : Cause) → place_of d < place_of c → Has before line d → ⊥
+-- the first of some causes
+pub record IsFirstOf (Holds : Cause → Type 0) (c : Cause) : Type 0 where
+  pub has : Holds c
+  pub none_before : (d : Cause) → place_of d < place_of c → Holds d → ⊥
 
 -- each line is fine behind those before it
-abbrev pub AreFine : List Bytes → Type 0
-AreFine lines = (before : List Bytes) (line : Bytes) (after : List Bytes) → lines ≡ before ++ line ∷ after → IsFine before line
+abbrev pub AreFine : Half → List Bytes → Type 0
+AreFine half lines =
+    (before : List Bytes) (line : Bytes) (after : List Bytes) → lines ≡ before ++ line ∷ after → IsFine half before line
+
+-- The cause shows in a `store` line alone, of which this is what follows that word: it passes the limit of a script, or the cause stands
+-- at its words where nothing is before it.
+abbrev pub RestHas : Half → Bytes → Cause → Type 0
+RestHas half rest cause.ScriptTooLong = most_bytes < 5 + length rest
+RestHas half rest c = StoreHas half nothing_earlier (words_of rest) c

@@ -1,5 +1,7 @@
 pub mod Servable
 pub mod Words
+pub mod Records
+pub mod Finding
 pub mod Commands
 pub mod Causes
 pub mod Grammar

@@ -2,6 +2,8 @@
 ghost use Rattle.std.specs.Prelude.{◌≡◌};
 ghost use Rattle.script_form.specs.Causes.{number_of};
 
+use half_hash::Memory;
+
 /// A cause for which a line is refused.
 #[derive(Clone, Copy, Debug, PartialEq, Eq)]
 pub enum Cause {
@@ -11,7 +13,7 @@ pub enum Cause {
     NotPrintable,
     /// There are more than 2,200,000 bytes before the newline.
     LineTooLong,
-    /// The first word is no number from 0 to 63.
+    /// The first word isn't `store`, and is no number from 0 to 63.
     NoActor,
     /// The word behind `after` isn't there, or isn't the number of an earlier command line.
     BadAfter,
@@ -27,6 +29,9 @@ pub enum Cause {
     BadKindOrId,
     /// A target is zero.
     ZeroTarget,
+    /// A record stands behind a command line, its form is none, its hash isn't that of the form or is
+    /// zero, or an earlier record has this hash.
+    BadRecord,
     /// The line is command 200,001.
     TooManyCommands,
 }
@@ -47,8 +52,29 @@ impl Cause {
             Cause::BadHex => 8,
             Cause::BadKindOrId => 9,
             Cause::ZeroTarget => 10,
+            Cause::BadRecord => 11,
             Cause::ScriptTooLong => 12,
             Cause::TooManyCommands => 12,
         }
+    }
+}
+
+/// Why a line says nothing.
+#[derive(Clone, Copy, Debug, PartialEq, Eq)]
+pub(crate) enum TextFault {
+    /// It is refused.
+    Cause(Cause),
+    /// Memory was refused.
+    Memory,
+}
+
+impl From<Memory> for TextFault {
+    ghost use Rattle.std.specs.Prelude.{◌≡◌};
+    ghost use Rattle.script_form.specs.declared.cause.TextFault.TheVariants as fault;
+
+    ghost from_gives = { λ _ e. e ≡ fault.Memory };
+
+    fn from(_: Memory) -> Self {
+        TextFault::Memory
     }
 }

@@ -1,20 +1,25 @@
-//! A line judged: it is skipped, says a command, or has a first cause.
+//! A line judged: it is skipped, says a record or a command, or has a first cause.
 ghost use Rattle.std.specs.Prelude.{◌≡◌, ℕ, List, map, false, true, length, Some, None, IfOk, IfErr, MatchBool, MatchOption};
 ghost use Rattle.std.specs.List.{list_all};
 ghost use Rattle.std.specs.List.Sorted.{IsNonDecreasing};
 ghost use Rattle.ledger_machine.specs.declared.commands.Line.{Line};
 ghost use Rattle.script_form.specs.declared.cause.Cause.{Cause};
 ghost use Rattle.script_form.specs.Words.{words_of as text_words};
-ghost use Rattle.script_form.specs.Causes.{is_printable as byte_is_printable, is_skipped as are_skipped, TextHas, CommandHas};
+ghost use Rattle.script_form.specs.Records.{is_store as word_is_store, earlier_in};
+ghost use Rattle.script_form.specs.Causes.{is_printable as byte_is_printable, is_skipped as are_skipped, is_command as are_command};
+ghost use Rattle.script_form.specs.Causes.{TextHas, CommandHas, LineHas, IsFirstOf};
 ghost use Rattle.script_form.specs.Commands.{CallHas};
-ghost use Rattle.script_form.specs.Judging.{IsFineText, IsFirstOfText, IsSaid, HasTextCause, IsVerdict};
+ghost use Rattle.script_form.specs.Judging.{IsFineText, IsFineLine, IsSaid, IsVerdict};
+ghost use Rattle.script_form.specs.Faults.{IsFirstCause};
 
-use crate::cause::Cause;
+use crate::cause::{Cause, TextFault};
 use crate::forms::{form_of, has_wrong, is_command};
 use crate::line::{call_of, line_of, names_no_line};
-use crate::words::{number, words_of};
-use half_hash::Memory;
-use ledger_machine::Line;
+use crate::records::Records;
+use crate::store_line::stored;
+use crate::words::{is_text, number, words_of};
+use half_hash::{Memory, NodeHash};
+use ledger_machine::{Line, Record};
 use std::alloc::Global;
 
 /// The most bytes of a line before its newline.
@@ -24,7 +29,7 @@ pub const MOST_TEXT: usize = 2_200_000;
 pub const MOST_COMMANDS: usize = 200_000;
 
 /// The causes that a line's text may have, in the order in which they are tried.
-const ORDER: [Cause; 11] = [
+const ORDER: [Cause; 12] = [
     Cause::NotPrintable,
     Cause::LineTooLong,
     Cause::NoActor,
@@ -35,42 +40,84 @@ const ORDER: [Cause; 11] = [
     Cause::BadHex,
     Cause::BadKindOrId,
     Cause::ZeroTarget,
+    Cause::BadRecord,
     Cause::TooManyCommands,
 ];
 
-/// Why a line says nothing.
-#[derive(Clone, Copy, Debug, PartialEq, Eq)]
-pub enum LineFault {
-    /// It is refused.
-    Cause(Cause),
-    /// Memory was refused.
-    Memory,
+/// What a line says.
+#[derive(Drop)]
+pub(crate) enum Content {
+    /// It is skipped.
+    Nothing,
+    Record(Record),
+    Line(Line),
 }
 
-impl From<Memory> for LineFault {
-    ghost use Rattle.std.specs.Prelude.{◌≡◌};
-    ghost use Rattle.script_form.specs.declared.judging.LineFault.TheVariants as fault;
-
-    ghost from_gives = { λ _ e. e ≡ fault.Memory };
-
-    fn from(_: Memory) -> Self {
-        LineFault::Memory
+/// What the text of line `n` says, or the first cause for which it is refused; command lines of these
+/// numbers stand before it, and these records.
+pub(crate) fn judge<H: NodeHash>(
+    alloc: Global,
+    n: u32,
+    text: &[u8],
+    earlier: &[u32],
+    records: &Records,
+) -> Result<Content, TextFault>
+    requires { IsNonDecreasing earlier.now }
+    ensures said { IfOk result (IsSaid H.half earlier.now n text.now) }
+    ensures fine { IfOk result (λ _. IsFineLine H.half (earlier_in earlier.now records.now) text.now) }
+    ensures cause { IfErr result (IsFirstCause (LineHas H.half (earlier_in earlier.now records.now) text.now)) }
+{
+    let words = words_of(alloc, text)?;
+    if is_store(&words) {
+        judge_record::<H>(alloc, text, &words, earlier, records)
+    } else {
+        judge_command(alloc, n, text, &words, earlier)
     }
 }
 
-/// What the text of line `n` says, behind command lines of these numbers: nothing where it is
-/// skipped, else its line; or the first cause for which it is refused.
-pub fn judge(alloc: Global, n: u32, text: &[u8], earlier: &[u32]) -> Result<Option<Line>, LineFault>
-    requires { IsNonDecreasing earlier.now }
-    ensures said { IfOk result (IsSaid earlier.now n text.now) }
-    ensures fine { IfOk result (λ _. IsFineText earlier.now text.now) }
-    ensures cause { IfErr result (HasTextCause earlier.now text.now) }
+/// The same of a record, whose words these are.
+fn judge_record<H: NodeHash>(
+    alloc: Global,
+    text: &[u8],
+    words: &[&[u8]],
+    earlier: &[u32],
+    records: &Records,
+) -> Result<Content, TextFault>
+    requires words { map (λ w. w.now) words.now ≡ text_words text.now }
+    requires store { word_is_store (text_words text.now) ≡ true }
+    ensures said { IfOk result (λ s. (n : ℕ) → IsSaid H.half earlier.now n text.now s) }
+    ensures fine { IfOk result (λ _. IsFineLine H.half (earlier_in earlier.now records.now) text.now) }
+    ensures cause { IfErr result (IsFirstCause (LineHas H.half (earlier_in earlier.now records.now) text.now)) }
 {
-    let words = words_of(alloc, text)?;
-    match said(alloc, n, text, &words, earlier)? {
-        Verdict::Skipped => Ok(None),
-        Verdict::Line(line) => Ok(Some(line)),
-        Verdict::Refused => Err(LineFault::Cause(first_cause(alloc, text, &words, earlier)?)),
+    if !is_printable(text) {
+        return Err(TextFault::Cause(Cause::NotPrintable));
+    }
+    if text.len() > MOST_TEXT {
+        return Err(TextFault::Cause(Cause::LineTooLong));
+    }
+    let record = stored::<H>(alloc, &words[1..], earlier, records)?;
+    Ok(Content::Record(record))
+}
+
+/// The same of a line that is no record.
+fn judge_command(
+    alloc: Global,
+    n: u32,
+    text: &[u8],
+    words: &[&[u8]],
+    earlier: &[u32],
+) -> Result<Content, TextFault>
+    requires rises { IsNonDecreasing earlier.now }
+    requires words { map (λ w. w.now) words.now ≡ text_words text.now }
+    requires command { word_is_store (text_words text.now) ≡ false }
+    ensures said { IfOk result (λ s. (half : List ℕ → List ℕ) → IsSaid half earlier.now n text.now s) }
+    ensures fine { IfOk result (λ _. IsFineText earlier.now text.now) }
+    ensures cause { IfErr result (IsFirstCause (TextHas earlier.now text.now)) }
+{
+    match said(alloc, n, text, words, earlier)? {
+        Verdict::Skipped => Ok(Content::Nothing),
+        Verdict::Line(line) => Ok(Content::Line(line)),
+        Verdict::Refused => Err(TextFault::Cause(first_cause(alloc, text, words, earlier)?)),
     }
 }
 
@@ -82,7 +129,7 @@ enum Verdict {
     Refused,
 }
 
-/// What becomes of a line, whose words these are.
+/// What becomes of a line that is no record, whose words these are.
 fn said(
     alloc: Global,
     n: u32,
@@ -92,6 +139,7 @@ fn said(
 ) -> Result<Verdict, Memory>
     requires rises { IsNonDecreasing earlier.now }
     requires words { map (λ w. w.now) words.now ≡ text_words text.now }
+    requires command { word_is_store (text_words text.now) ≡ false }
     ensures { IfOk result (IsVerdict earlier.now n text.now) }
 {
     if !is_printable(text) || text.len() > MOST_TEXT {
@@ -131,6 +179,23 @@ fn is_skipped(words: &[&[u8]]) -> bool
     }
 }
 
+/// Whether the words are a record's: the first is `store`.
+fn is_store(words: &[&[u8]]) -> bool
+    ensures { result ≡ word_is_store (map (λ w. w.now) words.now) }
+{
+    match words {
+        [word, ..] => is_text(word, b"store"),
+        [] => false,
+    }
+}
+
+/// Whether the words are a command line's: it isn't skipped, and is no record.
+fn is_command_line(words: &[&[u8]]) -> bool
+    ensures { result ≡ are_command (map (λ w. w.now) words.now) }
+{
+    !is_skipped(words) && !is_store(words)
+}
+
 /// The first cause of a text that has one.
 fn first_cause(
     alloc: Global,
@@ -141,7 +206,7 @@ fn first_cause(
     requires rises { IsNonDecreasing earlier.now }
     requires words { map (λ w. w.now) words.now ≡ text_words text.now }
     requires bad { IsFineText earlier.now text.now → ⊥ }
-    ensures { IfOk result (IsFirstOfText earlier.now text.now) }
+    ensures { IfOk result (IsFirstOf (TextHas earlier.now text.now)) }
 {
     for cause in &ORDER {
         if text_has(alloc, *cause, text, words, earlier)? {
@@ -182,7 +247,7 @@ fn command_has(
     ensures { IfOk result (λ found. MatchBool found (CommandHas earlier.now (map (λ w. w.now) words.now) cause)
         (CommandHas earlier.now (map (λ w. w.now) words.now) cause → ⊥)) }
 {
-    if is_skipped(words) {
+    if !is_command_line(words) {
         return Ok(false);
     }
     let [actor, behind @ ..] = words else {

@@ -1,4 +1,4 @@
-//! The text of a script, read into its lines.
+//! The text of a script, read into its records and its lines: what a store begins with, and the commands.
 #![tactic(auto)]
 
 mod cause;
@@ -6,13 +6,16 @@ mod digits;
 mod forms;
 mod judging;
 mod line;
+mod records;
 mod script;
+mod store_line;
 #[cfg(test)]
 mod tests;
 mod words;
 
 pub use cause::Cause;
 pub use forms::{Argument, Form};
-pub use judging::{LineFault, MOST_COMMANDS, MOST_TEXT, judge};
+pub use judging::{MOST_COMMANDS, MOST_TEXT};
 pub use script::{MOST_BYTES, ScriptFault, read_script};
+pub use store_line::{LineFault, record_of};
 pub use words::{blob_word, hash_word, id_word, number, words_of};

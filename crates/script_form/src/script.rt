@@ -1,5 +1,6 @@
-//! A script read into its lines.
+//! A script read into its records and its lines.
 ghost use Rattle.std.specs.Prelude.{◌≡◌, ◌<◌, ◌≤◌, ◌+◌, ℕ, List, Some, [], length, take, drop, ◌∷◌, OnOk, IfOk, IfErr, IfSome};
+ghost use Rattle.ledger_machine.specs.Records.{AreRecords};
 ghost use Rattle.script_form.specs.Servable.{AreServable};
 ghost use Rattle.run_io.specs.Bytes.{TookPart};
 ghost use Rattle.script_form.specs.Grammar.{most_read, IsScript};
@@ -7,11 +8,12 @@ ghost use Rattle.script_form.specs.Words.{text_of, lines_of};
 ghost use Rattle.script_form.specs.Causes.{most_bytes, number_of};
 ghost use Rattle.script_form.specs.Faults.{HasLineCause, HasScriptCause};
 
-use crate::cause::Cause;
-use crate::judging::{LineFault, judge};
+use crate::cause::{Cause, TextFault};
+use crate::judging::{Content, judge};
+use crate::records::Records;
 use crate::words::piece_end;
 use half_hash::{Memory, NodeHash};
-use ledger_machine::{Line, Script};
+use ledger_machine::Script;
 use run_io::{AllFault, Source, read_all};
 use std::alloc::{AllocError, AllocFailed, Global};
 
@@ -51,14 +53,15 @@ impl<T: Drop> From<AllocFailed<T>> for ScriptFault {
     }
 }
 
-/// The lines of a script's bytes, or the first line that has a cause.
-fn read_lines(alloc: Global, bytes: &[u8]) -> Result<Vec<Line>, ScriptFault>
+/// The script of bytes, or the first line that has a cause.
+fn read_lines<H: NodeHash>(alloc: Global, bytes: &[u8]) -> Result<Script, ScriptFault>
     requires { length bytes.now ≤ most_read }
-    ensures script { IfOk result (λ lines. IsScript bytes.now lines.items) }
-    ensures servable { IfOk result (λ lines. AreServable lines.items) }
+    ensures script { IfOk result (λ s. IsScript H.half bytes.now s.records.items s.lines.items) }
+    ensures servable { IfOk result (λ s. AreServable s.lines.items × AreRecords H.half s.records.items) }
     ensures few { OnOk result (length bytes.now ≤ most_bytes) }
-    ensures refused { IfErr result (HasLineCause bytes.now) }
+    ensures refused { IfErr result (HasLineCause H.half bytes.now) }
 {
+    let mut records = Records::new(alloc);
     let mut lines = Vec::new(alloc);
     let mut earlier: Vec<u32> = Vec::new(alloc);
     let mut rest = bytes;
@@ -68,19 +71,26 @@ fn read_lines(alloc: Global, bytes: &[u8]) -> Result<Vec<Line>, ScriptFault>
         if bytes.len() - rest.len() + size > MOST_BYTES {
             return Err(refused(n, Cause::ScriptTooLong));
         }
-        let said = match judge(alloc, n, text, &earlier) {
-            Ok(said) => said,
-            Err(LineFault::Cause(cause)) => return Err(refused(n, cause)),
-            Err(LineFault::Memory) => return Err(ScriptFault::Memory),
+        let content = match judge::<H>(alloc, n, text, &earlier, &records) {
+            Ok(content) => content,
+            Err(TextFault::Cause(cause)) => return Err(refused(n, cause)),
+            Err(TextFault::Memory) => return Err(ScriptFault::Memory),
         };
-        if let Some(line) = said {
-            earlier.push(n)?;
-            lines.push(line)?;
+        match content {
+            Content::Nothing => {}
+            Content::Record(record) => records.push(record)?,
+            Content::Line(line) => {
+                earlier.push(n)?;
+                lines.push(line)?;
+            }
         }
         rest = rest.split_at(size).1;
         n += 1;
     }
-    Ok(lines)
+    Ok(Script {
+        records: records.into_records(),
+        lines,
+    })
 }
 
 /// The text of the first line, and how many bytes the line has with its newline.
@@ -113,12 +123,14 @@ pub fn read_script<H: NodeHash, S: Source>(
     alloc: Global,
     source: &mut S,
 ) -> Result<Script, ScriptFault>
-    ensures script { IfOk result (λ script. IfSome (S.left source.old) (λ bytes. IsScript (take most_read bytes) script.lines.items)) }
-    // These are lines that a core takes.
-    ensures servable { IfOk result (λ script. AreServable script.lines.items) }
+    ensures script { IfOk result (λ s.
+        IfSome (S.left source.old) (λ bytes. IsScript H.half (take most_read bytes) s.records.items s.lines.items)) }
+    // These are lines that a core takes, and records that a store may begin with.
+    ensures servable { IfOk result (λ s. AreServable s.lines.items × AreRecords H.half s.records.items) }
     // The source was read to its end.
     ensures ended { OnOk result (IfSome (S.left source.old) (λ _. S.left source.new ≡ Some [])) }
-    ensures cause { IfErr result (HasScriptCause (S.left source.old) (S.left source.new) (S.faults source.old) (S.faults source.new)) }
+    ensures cause { IfErr result
+        (HasScriptCause H.half (S.left source.old) (S.left source.new) (S.faults source.old) (S.faults source.new)) }
     // A front of the input is gone, and no more than is read at most.
     ensures taken { TookPart (S.left source.old) (S.left source.new) most_read }
     ensures later { S.faults source.old ≤ S.faults source.new }
@@ -128,6 +140,6 @@ pub fn read_script<H: NodeHash, S: Source>(
         Err(AllFault::Fault) => return Err(ScriptFault::Fault),
         Err(AllFault::Memory) => return Err(ScriptFault::Memory),
     };
-    let lines = read_lines(alloc, &bytes)?;
-    Ok(Script { lines })
+    let script = read_lines::<H>(alloc, &bytes)?;
+    Ok(script)
 }

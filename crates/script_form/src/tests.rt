@@ -1,14 +1,16 @@
 //! Scripts that are read, and scripts that are refused.
-use crate::{ScriptFault, blob_word, number, read_script, words_of};
+use crate::{LineFault, ScriptFault, blob_word, number, read_script, record_of, words_of};
 use half_hash::TinyHash;
+use ledger_machine::{Line, Record, Script};
 use run_io::MemSource;
 use std::alloc::Global;
 use std::test::Fail;
 
-/// A script in short, and what is read: each line's number, actor and the line that it waits for; or the
-/// refused line and its cause. `T` is a hash, `Z` the zero hash, `I` the root's node ID, `~` a newline, and
+/// A script in short, and what is read: the first byte of each record's hash and how many bytes its form
+/// has; each line's number, actor and the line that it waits for; or the refused line and its cause. `T`
+/// is a hash, `Z` the zero hash, `I` the root's node ID, `_` 62 zeros, `%` 236 of them, `~` a newline, and
 /// `^` a byte that isn't printable.
-const READ: [(&str, &str); 32] = [
+const READ: [(&str, &str); 31] = [
     ("", ""),
     ("~  ~# x^x", "refused 3 1"),
     ("# T~~  0   check   T  ", "3 0 0;"),
@@ -23,7 +25,6 @@ const READ: [(&str, &str); 32] = [
     ("0 check T^~", "refused 1 1"),
     ("0 bogin^", "refused 1 1"),
     ("64 check T", "refused 1 3"),
-    ("store T -", "refused 1 3"),
     ("+1 bogin", "refused 1 3"),
     ("0 check T~0 after 2 check T", "refused 2 4"),
     ("# x~0 after 1 check T", "refused 2 4"),
@@ -49,28 +50,120 @@ const READ: [(&str, &str); 32] = [
     ("0 tick T~0 tick Z~0 bogin", "refused 2 10"),
 ];
 
+/// The same with records. The hash of bytes is their sum and zeros; `54584E00` is the prefix of a bare
+/// transaction, `4D4C4E00` that of an account-state entry, `4C575200` that of a header.
+const STORED: [(&str, &str); 22] = [
+    ("store FB_ 54584E0001", "hash 251 size 5;"),
+    (
+        "# x~ store  fb_ 54584e0001 ~~store F5_ 4C575200%~0 check T",
+        "hash 251 size 5;hash 245 size 122;5 0 0;",
+    ),
+    (
+        "store FB_ 54584E0001~0 tick T~0 after 2 tick T",
+        "hash 251 size 5;2 0 0;3 0 2;",
+    ),
+    ("store FB_ 54584E0001~0 after 1 tick T", "refused 2 4"),
+    ("store x^", "refused 1 1"),
+    ("store", "refused 1 6"),
+    ("store FB_ 54584E0001 -", "refused 1 6"),
+    ("0 tick T~store x", "refused 2 6"),
+    ("store FB_0 54584E0001", "refused 1 8"),
+    ("store FB_ 54584E000", "refused 1 8"),
+    ("0 tick T~store T 0g", "refused 2 8"),
+    ("0 tick T~store FB_ 54584E0001", "refused 2 11"),
+    ("store T -", "refused 1 11"),
+    ("store 01_ 01", "refused 1 11"),
+    ("store FA_ 54584E0001", "refused 1 11"),
+    ("store Z 4D4C4E0019_", "refused 1 11"),
+    ("store 01_ 4D4C4E001A_", "hash 1 size 36;"),
+    (
+        "store FB_ 54584E0001~#~store FB_ 54584E0001",
+        "refused 3 11",
+    ),
+    (
+        "store FB_ 54584E0001~store fb_ 54584E000100",
+        "refused 2 11",
+    ),
+    ("stor FB_ 54584E0001", "refused 1 3"),
+    ("Store FB_ 54584E0001", "refused 1 3"),
+    ("0 store FB_ 54584E0001", "refused 1 5"),
+];
+
 #[test]
 fn scripts(rt: HostRuntime) -> Result<(), Fail> {
     let alloc = rt.alloc();
     for (script, says) in &READ {
-        let bytes = expand(alloc, script)?;
-        let mut source = MemSource::new(bytes, 7, Vec::new(alloc));
-        let mut text = String::new(alloc);
-        match read_script::<TinyHash, MemSource>(alloc, &mut source) {
-            Ok(script) => {
-                for line in &script.lines {
-                    text.push_str(&format!(in alloc;
-                        "{} {} {};",
-                        line.number, line.actor, line.after
-                    )?)?;
-                }
-            }
-            Err(ScriptFault::Refused { line, cause }) => {
-                text.push_str(&format!(in alloc; "refused {line} {cause}")?)?;
-            }
-            Err(_) => return Err(Fail::from("fault")),
-        }
+        let text = read(alloc, script)?;
         assert_eq!(rt; text.as_str(), *says, "{script}");
+    }
+    Ok(())
+}
+
+#[test]
+fn scripts_with_records(rt: HostRuntime) -> Result<(), Fail> {
+    let alloc = rt.alloc();
+    for (script, says) in &STORED {
+        let text = read(alloc, script)?;
+        assert_eq!(rt; text.as_str(), *says, "{script}");
+    }
+    Ok(())
+}
+
+/// What is read of a script in short.
+fn read(alloc: Global, short: &str) -> Result<String, Fail> {
+    let bytes = expand(alloc, short)?;
+    let mut source = MemSource::new(bytes, 7, Vec::new(alloc));
+    match read_script::<TinyHash, MemSource>(alloc, &mut source) {
+        Ok(script) => text_of(alloc, &script),
+        Err(ScriptFault::Refused { line, cause }) => {
+            Ok(format!(in alloc; "refused {line} {cause}")?)
+        }
+        Err(_) => Err(Fail::from("fault")),
+    }
+}
+
+/// A script's records and lines in short.
+fn text_of(alloc: Global, script: &Script) -> Result<String, Fail> {
+    let mut text = String::new(alloc);
+    for one in &script.records {
+        text.push_str(&record_text(alloc, one)?)?;
+    }
+    for line in &script.lines {
+        text.push_str(&line_text(alloc, line)?)?;
+    }
+    Ok(text)
+}
+
+fn record_text(alloc: Global, one: &Record) -> Result<String, Fail> {
+    let first = one.hash.bytes[0];
+    let size = one.form.bytes().len();
+    Ok(format!(in alloc; "hash {first} size {size};")?)
+}
+
+fn line_text(alloc: Global, line: &Line) -> Result<String, Fail> {
+    Ok(format!(in alloc; "{} {} {};", line.number, line.actor, line.after)?)
+}
+
+/// What follows the word `store`, in short, and what it says.
+const RESTS: [(&str, &str); 6] = [
+    (" FB_ 54584E0001", "hash 251 size 5;"),
+    ("", "cause 6"),
+    (" FB_ - -", "cause 6"),
+    (" FB_ 5", "cause 8"),
+    (" FA_ 54584E0001", "cause 11"),
+    (" Z 4D4C4E0019_", "cause 11"),
+];
+
+#[test]
+fn lines_alone(rt: HostRuntime) -> Result<(), Fail> {
+    let alloc = rt.alloc();
+    for (rest, says) in &RESTS {
+        let text = match record_of::<TinyHash>(alloc, &expand(alloc, rest)?) {
+            Ok(one) => record_text(alloc, &one)?,
+            Err(LineFault::Cause(cause)) => format!(in alloc; "cause {cause}")?,
+            Err(LineFault::Memory) => return Err(Fail::from("memory")),
+        };
+        assert_eq!(rt; text.as_str(), *says, "{rest}");
     }
     Ok(())
 }
@@ -83,6 +176,8 @@ fn expand(alloc: Global, short: &str) -> Result<Vec<u8>, Fail> {
             b'T' => bytes.extend_from_slice(&[b'1'; 64])?,
             b'Z' => bytes.extend_from_slice(&[b'0'; 64])?,
             b'I' => bytes.extend_from_slice(&[b'0'; 66])?,
+            b'_' => bytes.extend_from_slice(&[b'0'; 62])?,
+            b'%' => bytes.extend_from_slice(&[b'0'; 236])?,
             b'~' => bytes.push(b'\n')?,
             b'^' => bytes.push(127)?,
             other => bytes.push(other)?,

@@ -15,7 +15,8 @@ use Rattle.ledger_spec.proofs.Hashes.{none_nonzero, some_not_all, concat-hashes_
 use Rattle.std.proofs.lemmas.List.{take_all}
 
 -- what is made of the hashes
-pub made : (b body : Bytes) (hs : List Hash) (o : Option Inner) → starts_with nat_eq b inner_prefix ≡ true → length b ≡ 516 → body ≡ drop 4 b → hs ≡ hashes_of 16 body
+pub made : (b body : Bytes) (hs : List Hash) (o : Option Inner) → starts_with nat_eq b inner_prefix ≡ true → length b ≡ 516
+    → body ≡ drop 4 b → hs ≡ hashes_of 16 body
     → MatchOption o (IsTrue (list_all is_zero hs)) (λ i. (i.hashes ≡ hs) × IsTrue (list_any is_nonzero hs)) → option_map (λ (i : Inner). i.hashes) o ≡ inner_of b
 made b body hs None prefix size rest is all =
     let e : hs ≡ hashes_of 16 (drop 4 b) = is ∙ ap (hashes_of 16) rest in
@@ -32,14 +33,16 @@ inner_length_cause b other = cond-true (not (length b == 516)) _ _ (ap not (ne_e
 same_length : (b : Bytes) → length b ≡ 516 → not (length b == 516) ≡ false
 same_length b size = ap not (eq-eqb (length b) 516 size)
 
-pub inner_empty_cause : (b body : Bytes) (hs : List Hash) → length b ≡ 516 → body ≡ drop 4 b → hs ≡ hashes_of 16 body → IsTrue (list_all is_zero hs) → inner_cause b ≡ Some EmptyInner
+pub inner_empty_cause : (b body : Bytes) (hs : List Hash) → length b ≡ 516 → body ≡ drop 4 b → hs ≡ hashes_of 16 body
+    → IsTrue (list_all is_zero hs) → inner_cause b ≡ Some EmptyInner
 unfolding inner_cause
 inner_empty_cause b body hs size rest is all =
     cond-false (not (length b == 516)) _ _ (same_length b size)
     ∙ cond-true (list_all is_zero (hashes_of 16 (drop 4 b))) _ _ (ap (λ x. list_all is_zero (hashes_of 16 x)) (sym rest) ∙ ap (list_all is_zero) (sym is) ∙ all)
 
 -- what stands behind the prefix is the hashes, joined
-pub inner_body : (b body : Bytes) (hs got : List Hash) → length b ≡ 516 → body ≡ drop 4 b → hs ≡ hashes_of 16 body → got ≡ hs → drop 4 b ≡ concat got
+pub inner_body : (b body : Bytes) (hs got : List Hash) → length b ≡ 516 → body ≡ drop 4 b → hs ≡ hashes_of 16 body → got ≡ hs
+    → drop 4 b ≡ concat got
 inner_body b body hs got size rest is same =
     let whole : length body ≤ 512 = omega (arith, ap length rest, length-drop 4 b) in
     sym rest ∙ sym (take_all 512 body whole) ∙ sym (concat-hashes_of 16 body) ∙ ap concat (sym is ∙ sym same)

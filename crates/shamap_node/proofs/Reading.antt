@@ -53,20 +53,23 @@ pub cause_min : (half : Half) (b : Bytes) → 4 ≤ length b → starts_with nat
 unfolding form_cause
 cause_min half b le min = cond-false (nat_lt (length b) 4) _ _ (long b le) ∙ cond-true (starts_with nat_eq b (prefix_of Min)) _ _ min
 
-pub cause_mln : (half : Half) (b : Bytes) → 4 ≤ length b → starts_with nat_eq b (prefix_of Min) ≡ false → starts_with nat_eq b (prefix_of Mln) ≡ true → form_cause half b ≡ keyed_cause b
+pub cause_mln : (half : Half) (b : Bytes) → 4 ≤ length b → starts_with nat_eq b (prefix_of Min) ≡ false
+    → starts_with nat_eq b (prefix_of Mln) ≡ true → form_cause half b ≡ keyed_cause b
 unfolding form_cause
 cause_mln half b le min mln =
     cond-false (nat_lt (length b) 4) _ _ (long b le) ∙ cond-false (starts_with nat_eq b (prefix_of Min)) _ _ min
     ∙ cond-true (starts_with nat_eq b (prefix_of Mln)) _ _ mln
 
-pub cause_snd : (half : Half) (b : Bytes) → 4 ≤ length b → starts_with nat_eq b (prefix_of Min) ≡ false → starts_with nat_eq b (prefix_of Mln) ≡ false
+pub cause_snd : (half : Half) (b : Bytes) → 4 ≤ length b → starts_with nat_eq b (prefix_of Min) ≡ false
+    → starts_with nat_eq b (prefix_of Mln) ≡ false
     → starts_with nat_eq b (prefix_of Snd) ≡ true → form_cause half b ≡ keyed_cause b
 unfolding form_cause
 cause_snd half b le min mln snd =
     cond-false (nat_lt (length b) 4) _ _ (long b le) ∙ cond-false (starts_with nat_eq b (prefix_of Min)) _ _ min
     ∙ cond-false (starts_with nat_eq b (prefix_of Mln)) _ _ mln ∙ cond-true (starts_with nat_eq b (prefix_of Snd)) _ _ snd
 
-pub cause_txn : (half : Half) (b : Bytes) → 4 ≤ length b → starts_with nat_eq b (prefix_of Min) ≡ false → starts_with nat_eq b (prefix_of Mln) ≡ false
+pub cause_txn : (half : Half) (b : Bytes) → 4 ≤ length b → starts_with nat_eq b (prefix_of Min) ≡ false
+    → starts_with nat_eq b (prefix_of Mln) ≡ false
     → starts_with nat_eq b (prefix_of Snd) ≡ false → starts_with nat_eq b (prefix_of Txn) ≡ true → form_cause half b ≡ leaf_cause (length b - 4) (half b)
 unfolding form_cause
 cause_txn half b le min mln snd txn =
@@ -74,7 +77,8 @@ cause_txn half b le min mln snd txn =
     ∙ cond-false (starts_with nat_eq b (prefix_of Mln)) _ _ mln ∙ cond-false (starts_with nat_eq b (prefix_of Snd)) _ _ snd
     ∙ cond-true (starts_with nat_eq b (prefix_of Txn)) _ _ txn
 
-pub cause_prefix : (half : Half) (b : Bytes) → 4 ≤ length b → starts_with nat_eq b (prefix_of Min) ≡ false → starts_with nat_eq b (prefix_of Mln) ≡ false
+pub cause_prefix : (half : Half) (b : Bytes) → 4 ≤ length b → starts_with nat_eq b (prefix_of Min) ≡ false
+    → starts_with nat_eq b (prefix_of Mln) ≡ false
     → starts_with nat_eq b (prefix_of Snd) ≡ false → starts_with nat_eq b (prefix_of Txn) ≡ false → form_cause half b ≡ Some (Prefix (from_be_bytes w32 (take 4 b)))
 unfolding form_cause
 cause_prefix half b le min mln snd txn =
@@ -106,7 +110,8 @@ no_cause half (leaf Set key bytes) b node f =
     ∙ ap (leaf_cause (length b - 4)) (ap half e ∙ sym f.0.1) ∙ no_bare_cause key bytes b f.0.0 e
 no_cause half (header bytes) b node f = absurd (false≢true node)
 
-is_memory : (half : Half) (b : Bytes) (fault : FormFault) → form_cause half b ≡ None → (fault ≢ Memory → form_cause half b ≡ Some fault) → fault ≡ Memory
+is_memory : (half : Half) (b : Bytes) (fault : FormFault) → form_cause half b ≡ None → (fault ≢ Memory → form_cause half b ≡ Some fault)
+    → fault ≡ Memory
 is_memory half b Memory none cause = refl
 is_memory half b (Short n) none cause = let some : form_cause half b ≡ Some (Short n) = cause (λ e. cc) in cc
 is_memory half b (Prefix n) none cause = let some : form_cause half b ≡ Some (Prefix n) = cause (λ e. cc) in cc
@@ -117,7 +122,8 @@ is_memory half b ZeroKey none cause = let some : form_cause half b ≡ Some Zero
 is_memory half b (TooLong n) none cause = let some : form_cause half b ≡ Some (TooLong n) = cause (λ e. cc) in cc
 
 -- a node's form is read as that node, or there is no memory
-pub reads_back : (half : Half) (r : Result Node FormFault) (b : Bytes) → IfOk r (λ node. Form half (held node) b) → IfErr r (λ fault. fault ≢ Memory → form_cause half b ≡ Some fault)
+pub reads_back : (half : Half) (r : Result Node FormFault) (b : Bytes) → IfOk r (λ node. Form half (held node) b)
+    → IfErr r (λ fault. fault ≢ Memory → form_cause half b ≡ Some fault)
     → (n : Held) → IsTrue (is_node n) → Form half n b → MatchResult r (λ node. held node ≡ n) (λ fault. fault ≡ Memory)
 reads_back half (Ok node) b form cause n is f = same_reading half (held node) n b form f
 reads_back half (Err fault) b form cause n is f = is_memory half b fault (no_cause half n b is f) cause
@@ -127,6 +133,7 @@ held_is_node (variants.Inner i) = refl
 held_is_node (variants.Leaf l) = refl
 
 -- what is read has no cause
-pub reads_fit : (half : Half) (r : Result Node FormFault) (b : Bytes) → IfOk r (λ node. Form half (held node) b) → OnOk r (form_cause half b ≡ None)
+pub reads_fit : (half : Half) (r : Result Node FormFault) (b : Bytes) → IfOk r (λ node. Form half (held node) b)
+    → OnOk r (form_cause half b ≡ None)
 reads_fit half (Ok node) b form = no_cause half (held node) b (held_is_node node) form
 reads_fit half (Err fault) b form = tt

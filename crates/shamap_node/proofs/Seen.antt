@@ -44,9 +44,11 @@ passes half b n is =
     (λ m k node. no_cause half m b node (state_form half b m (holds_keyed State b m k))) (λ m k node. no_cause half m b node (tx_form half b m (holds_keyed Tx b m k)))
     (λ m k node. bare_no_cause half b m k) is
 
-not_node : (half : Half) (b : Bytes) (fault : FormFault) → form_cause half b ≡ Some fault → (n : Held) → held_of half b ≡ Some n → IsTrue (not (is_node n))
+not_node : (half : Half) (b : Bytes) (fault : FormFault) → form_cause half b ≡ Some fault → (n : Held) → held_of half b ≡ Some n
+    → IsTrue (not (is_node n))
 not_node half b fault cause (inner hashes) is = let none : form_cause half b ≡ None = passes half b (inner hashes) is refl in cc
-not_node half b fault cause (leaf kind key bytes) is = let none : form_cause half b ≡ None = passes half b (leaf kind key bytes) is refl in cc
+not_node half b fault cause (leaf kind key bytes) is =
+    let none : form_cause half b ≡ None = passes half b (leaf kind key bytes) is refl in cc
 not_node half b fault cause (header bytes) is = refl
 
 none_is_node : (o : Option Held) → ((n : Held) → o ≡ Some n → IsTrue (not (is_node n))) → IsTrue (is_no_node o)
@@ -54,7 +56,8 @@ none_is_node None each = refl
 none_is_node (Some n) each = each n refl
 
 -- what is seen where a node is read, and where none is
-pub reads_seen : (half : Half) (r : Result Node FormFault) (b : Bytes) → IfOk r (λ node. Form half (held node) b) → IfOk r (λ node. held_of half b ≡ Some (held node))
+pub reads_seen : (half : Half) (r : Result Node FormFault) (b : Bytes) → IfOk r (λ node. Form half (held node) b)
+    → IfOk r (λ node. held_of half b ≡ Some (held node))
 reads_seen half (Ok node) b form = sees half (held node) b form
 reads_seen half (Err fault) b form = tt
 

@@ -31,7 +31,8 @@ open_still n xs more lt le =
     take_all n (xs ++ more) le ∙ ap (λ (ys : List Place). ys ++ more) (sym (take_all n xs (omega (arith, lt, length-take n xs))))
 
 -- one place more, which was not asked, while there is room
-pub taken : (asked missing : List Place) (i : ℕ) (x : Place) (places : List Place) → i < length missing → x ≡ get_or missing i x → places ≡ take 128 (unasked asked (take i missing))
+pub taken : (asked missing : List Place) (i : ℕ) (x : Place) (places : List Place) → i < length missing → x ≡ get_or missing i x
+    → places ≡ take 128 (unasked asked (take i missing))
     → length places < 128 → list_any (same_place x) asked ≡ false → places ++ x ∷ [] ≡ take 128 (unasked asked (take (i + 1) missing))
 taken asked missing i x places lt is so_far room new =
     let F : List Place = unasked asked (take i missing) in
@@ -42,7 +43,8 @@ taken asked missing i x places lt is so_far room new =
     ∙ ap (take 128) (ap (λ (ys : List Place). F ++ ys) (sym one) ∙ sym (one_more asked missing i x lt is))
 
 -- a place that was asked
-pub passed : (asked missing : List Place) (i : ℕ) (x : Place) (places : List Place) → i < length missing → x ≡ get_or missing i x → places ≡ take 128 (unasked asked (take i missing))
+pub passed : (asked missing : List Place) (i : ℕ) (x : Place) (places : List Place) → i < length missing → x ≡ get_or missing i x
+    → places ≡ take 128 (unasked asked (take i missing))
     → list_any (same_place x) asked ≡ true → places ≡ take 128 (unasked asked (take (i + 1) missing))
 passed asked missing i x places lt is so_far old =
     let F : List Place = unasked asked (take i missing) in
@@ -50,7 +52,8 @@ passed asked missing i x places lt is so_far old =
     so_far ∙ ap (take 128) (sym (one_more asked missing i x lt is ∙ ap (λ (ys : List Place). F ++ ys) none ∙ append-nil F))
 
 -- no room
-pub filled : (asked missing : List Place) (i : ℕ) (x : Place) (places : List Place) → i < length missing → x ≡ get_or missing i x → places ≡ take 128 (unasked asked (take i missing))
+pub filled : (asked missing : List Place) (i : ℕ) (x : Place) (places : List Place) → i < length missing → x ≡ get_or missing i x
+    → places ≡ take 128 (unasked asked (take i missing))
     → 128 ≤ length places → places ≡ take 128 (unasked asked (take (i + 1) missing))
 filled asked missing i x places lt is so_far all =
     let F : List Place = unasked asked (take i missing) in

@@ -14,7 +14,8 @@ above_bound n [] rise k d lt = absurd (omega arith)
 above_bound n (l ∷ lines) rise zero d lt = rise.0
 above_bound n (l ∷ lines) rise (suc k) d lt = omega (arith, rise.0, above_bound l.number lines rise.1 k d (omega arith))
 
-pub rising : (n : ℕ) (lines : List Line) → Rises n lines → (j k : ℕ) (d e : Line) → j < k → k < length lines → (get_or lines j d).number < (get_or lines k e).number
+pub rising : (n : ℕ) (lines : List Line) → Rises n lines → (j k : ℕ) (d e : Line) → j < k → k < length lines
+    → (get_or lines j d).number < (get_or lines k e).number
 rising n [] rise j k d e before lt = absurd (omega arith)
 rising n (l ∷ lines) rise zero zero d e before lt = absurd (omega arith)
 rising n (l ∷ lines) rise zero (suc k) d e before lt = above_bound l.number lines rise.1 k e (omega arith)
@@ -22,7 +23,8 @@ rising n (l ∷ lines) rise (suc j) zero d e before lt = absurd (omega arith)
 rising n (l ∷ lines) rise (suc j) (suc k) d e before lt = rising l.number lines rise.1 j k d e (omega arith) (omega arith)
 
 -- the first line with the number
-pub found_at : (lines : List Line) (at number : ℕ) (d : Line) → at < length lines → ((k : ℕ) → k < at → (get_or lines k d).number ≢ number) → (get_or lines at d).number ≡ number → line_of lines number ≡ Some (get_or lines at d)
+pub found_at : (lines : List Line) (at number : ℕ) (d : Line) → at < length lines → ((k : ℕ) → k < at → (get_or lines k d).number ≢ number)
+    → (get_or lines at d).number ≡ number → line_of lines number ≡ Some (get_or lines at d)
 found_at [] at number d lt before here = absurd (omega arith)
 found_at (l ∷ lines) zero number d lt before here = let is : (l.number == number) ≡ true = grind (arith, nat_tests) in rw is refl
 found_at (l ∷ lines) (suc at) number d lt before here =
@@ -31,7 +33,8 @@ found_at (l ∷ lines) (suc at) number d lt before here =
     rw other (found_at lines at number d (omega arith) (λ k le. before (suc k) (omega arith)) here)
 
 -- no line has the number
-pub found_none : (lines : List Line) (number : ℕ) → ((k : ℕ) (d : Line) → k < length lines → (get_or lines k d).number ≢ number) → line_of lines number ≡ None
+pub found_none : (lines : List Line) (number : ℕ) → ((k : ℕ) (d : Line) → k < length lines → (get_or lines k d).number ≢ number)
+    → line_of lines number ≡ None
 found_none [] number none = refl
 found_none (l ∷ lines) number none =
     let apart : l.number ≢ number = none 0 l (omega arith) in
@@ -39,7 +42,8 @@ found_none (l ∷ lines) number none =
     rw other (found_none lines number (λ k d lt. none (suc k) d (omega arith)))
 
 -- the middle line has a lower number, and so have those before it
-pub below_middle : (lines : List Line) → Rises 0 lines → (middle number : ℕ) (d : Line) → middle < length lines → (get_or lines middle d).number < number → AllBefore lines (middle + 1) number
+pub below_middle : (lines : List Line) → Rises 0 lines → (middle number : ℕ) (d : Line) → middle < length lines
+    → (get_or lines middle d).number < number → AllBefore lines (middle + 1) number
 below_middle lines rise middle number d lt less k e before within =
     elim (cases_lt k middle (omega arith)) [
       | inl earlier ↦ omega (arith, rising 0 lines rise k middle e d earlier lt, less)
@@ -53,7 +57,8 @@ below_middle lines rise middle number d lt less k e before within =
     ] refl
 
 -- it hasn't, and so have not those after it
-pub above_middle : (lines : List Line) → Rises 0 lines → (middle number : ℕ) (d : Line) → middle < length lines → number ≤ (get_or lines middle d).number → AllFrom lines middle number
+pub above_middle : (lines : List Line) → Rises 0 lines → (middle number : ℕ) (d : Line) → middle < length lines
+    → number ≤ (get_or lines middle d).number → AllFrom lines middle number
 above_middle lines rise middle number d lt more k e after within =
     elim (nat_lt middle k) as (λ b. nat_lt middle k ≡ b → number ≤ (get_or lines k e).number) [
       | true ↦ λ h. let later : middle < k = grind (arith, nat_tests) in omega (arith, rising 0 lines rise middle k d e later within, more)
@@ -63,11 +68,13 @@ above_middle lines rise middle number d lt more k e after within =
           omega (arith, same, more)
     ] refl
 
-pub line_there : (lines : List Line) (at number : ℕ) (l : Line) → at < length lines → AllBefore lines at number → l ≡ get_or lines at l → l.number ≡ number → Some l ≡ line_of lines number
+pub line_there : (lines : List Line) (at number : ℕ) (l : Line) → at < length lines → AllBefore lines at number → l ≡ get_or lines at l
+    → l.number ≡ number → Some l ≡ line_of lines number
 line_there lines at number l lt below is here =
     ap Some is ∙ sym (found_at lines at number l lt (λ k before. λ same. absurd (omega (arith, below k l before (omega (arith, before, lt)), same))) (ap (λ (x : Line). x.number) (sym is) ∙ here))
 
-pub line_nowhere : (lines : List Line) → Rises 0 lines → (at number : ℕ) (l : Line) → at < length lines → AllBefore lines at number → AllFrom lines at number → l ≡ get_or lines at l → l.number ≢ number → None ≡ line_of lines number
+pub line_nowhere : (lines : List Line) → Rises 0 lines → (at number : ℕ) (l : Line) → at < length lines → AllBefore lines at number
+    → AllFrom lines at number → l ≡ get_or lines at l → l.number ≢ number → None ≡ line_of lines number
 line_nowhere lines rise at number l lt below above is other =
     let more : number < (get_or lines at l).number = let le = above at l (omega arith) lt in let e : l.number ≡ (get_or lines at l).number = ap (λ (x : Line). x.number) is in let apart : l.number ≡ number → ⊥ = other in grind (arith) in
     sym (found_none lines number (λ k d within same. elim (nat_lt k at) as (λ b. nat_lt k at ≡ b → ⊥) [

@@ -1,5 +1,5 @@
 -- How a journal grows, and what a core keeps meanwhile.
-use Rattle.std.proofs.Common.{◌≡◌, ℕ, zero, suc, Some, None, ◌+◌, ◌-◌, Result, Ok, ◌<◌, ◌≤◌, List, [], ◌∷◌, ◌++◌, map, length, take, drop}
+use Rattle.std.proofs.Common.{◌≡◌, ℕ, zero, suc, Some, ◌+◌, ◌-◌, Result, Ok, ◌<◌, ◌≤◌, List, [], ◌∷◌, ◌++◌, map, length, take, drop}
 use Rattle.std.proofs.Common.{get_or, Bool, true, false, cond, refl, sym, ◌∙◌, ap, subst, arith, length-append, set, length-set, ◌≢◌}
 use Rattle.std.proofs.Common.{get_or-set_same, get_or-set_other}
 use Rattle.std.specs.Prelude.{◌==◌, nat_lt, slice_index}
@@ -11,18 +11,17 @@ use Rattle.std.proofs.lemmas.Bool.Decides.{nat_tests}
 use Rattle.std.proofs.lemmas.List.{append-nil, get_or_read, get_or_default, take_all, get_or-take, get_or-drop, length-map, map-append}
 use Rattle.std.proofs.lemmas.List.{take_more, take-append-drop}
 use Rattle.std.proofs.lemmas.List.Elements.{filter-append, All-append, All-contains}
-use Rattle.std.specs.FinMap as finite
 use Rattle.std.proofs.Common.{◌⊎◌, inl, inr, IsTrue}
 use Rattle.ledger_machine.specs.declared.replies.Reply.TheVariants as says
-use Rattle.ledger_spec.specs.Bytes.{Half, Hash, Bytes}
-use Rattle.ledger_machine.specs.State.{State, opening}
+use Rattle.ledger_spec.specs.Bytes.{Half}
+use Rattle.ledger_machine.specs.State.{State}
 use Rattle.ledger_machine.specs.Steps.{Step}
-use Rattle.ledger_machine.specs.Runs.{Answers, used_by, answered_by, Projects}
+use Rattle.ledger_machine.specs.Runs.{Answers, IsRunOf, used_by, answered_by, Projects, opening_of}
+use Rattle.node_backend.specs.Counts.{held_sum}
 use Rattle.ledger_machine.specs.Scripts.{numbers_of, line_of, IsInRange, IsAcquiring}
 use Rattle.script_form.specs.Servable.{AreServable, IsServed}
-use Rattle.ledger_machine.specs.Sound.{Sound, IsStoredAt}
-use Rattle.ledger_laws.proofs.Soundness.{opening_is_sound}
-use Rattle.ledger_spec.specs.Maps.{hash_cmp}
+use Rattle.ledger_machine.specs.Sound.{Sound}
+use Rattle.ledger_laws.proofs.Openings.{records_are_sound}
 use Rattle.ledger_machine.specs.declared.commands.Command.TheVariants as command
 use Rattle.ledger_laws.proofs.RunLaws.{run_more}
 use Rattle.ledger_machine.specs.Runs.{IsDone, is_answered, next_line}
@@ -31,6 +30,8 @@ use Rattle.store_core.specs.Journal.{CoreKeeps, IsNext, RoseBy, faults_in, fault
 use Rattle.store_core.proofs.Finding.{rising, line_there}
 use Rattle.store_core.proofs.Waiting.{read_at, next_left, next_at, answered_any, any_answered, number_at, number_in, same_place, waits_more}
 use Rattle.ledger_machine.specs.declared.commands.Line.{Line}
+use Rattle.ledger_machine.specs.declared.commands.Record.{Record}
+use Rattle.ledger_machine.specs.Records.{AreRecords}
 use Rattle.ledger_machine.specs.declared.journal.Entry.{Entry}
 use Rattle.ledger_machine.specs.declared.commands.Command.{Command}
 use Rattle.ledger_machine.specs.declared.replies.Reply.{Reply}
@@ -41,10 +42,14 @@ use Rattle.std.proofs.Common.{Global}
 use Rattle.store_core.proofs.Counting.{total-le, total-lt, part, parts_total, none_past}
 
 pub numbers-append : (a : ℕ) (xs ys : List Line) → numbers_of a (xs ++ ys) ≡ numbers_of a xs ++ numbers_of a ys
-numbers-append a xs ys = ap (map (λ (l : Line). l.number)) (filter-append (λ (l : Line). l.actor == a) xs ys) ∙ map-append (λ (l : Line). l.number) (filter (λ l. l.actor == a) xs) (filter (λ l. l.actor == a) ys)
+numbers-append a xs ys =
+    ap (map (λ (l : Line). l.number)) (filter-append (λ (l : Line). l.actor == a) xs ys)
+    ∙ map-append (λ (l : Line). l.number) (filter (λ l. l.actor == a) xs) (filter (λ l. l.actor == a) ys)
 
 pub answered-append : (a : ℕ) (xs ys : List Entry) → answered_by a (xs ++ ys) ≡ answered_by a xs ++ answered_by a ys
-answered-append a xs ys = ap (map (λ (e : Entry). e.line)) (filter-append (λ (e : Entry). e.actor == a) xs ys) ∙ map-append (λ (e : Entry). e.line) (filter (λ e. e.actor == a) xs) (filter (λ e. e.actor == a) ys)
+answered-append a xs ys =
+    ap (map (λ (e : Entry). e.line)) (filter-append (λ (e : Entry). e.actor == a) xs ys)
+    ∙ map-append (λ (e : Entry). e.line) (filter (λ e. e.actor == a) xs) (filter (λ e. e.actor == a) ys)
 
 -- the entries of an actor, and one more of it or of another
 answered_more : (a : ℕ) (es : List Entry) (e : Entry) → e.actor ≡ a → answered_by a (es ++ e ∷ []) ≡ answered_by a es ++ e.line ∷ []
@@ -56,7 +61,8 @@ answered_other : (a : ℕ) (es : List Entry) (e : Entry) → (e.actor == a) ≡ 
 answered_other a es e apart = answered-append a es (e ∷ []) ∙ rw apart (append-nil (answered_by a es))
 
 -- the lines of an actor up to its next one, and with that one
-numbers_next : (lines : List Line) (from a at : ℕ) (line : Line) → IsNext lines from a at → line ≡ get_or lines at line → numbers_of a (take (at + 1) lines) ≡ numbers_of a (take from lines) ++ line.number ∷ []
+numbers_next : (lines : List Line) (from a at : ℕ) (line : Line) → IsNext lines from a at → line ≡ get_or lines at line
+    → numbers_of a (take (at + 1) lines) ≡ numbers_of a (take from lines) ++ line.number ∷ []
 numbers_next lines from a at line next is =
     let yes : (line.actor == a) ≡ true = let same : line.actor ≡ a = next.actor line is in grind (arith, nat_tests) in
     ap (numbers_of a) (take_more lines at line next.within ∙ ap (λ (l : Line). take at lines ++ l ∷ []) (sym is))
@@ -101,9 +107,10 @@ fault_or_none (says.Begin r) = inr refl
 fault_or_none (says.Swap r) = inr refl
 
 -- a count that rises with each fault bounds the faults; it never passes the last value of a u64
-bound_more : (es : List Entry) (e : Entry) (opened now now' : ℕ) → RoseBy (faults_in es) opened now → now ≤ now' → (e.reply ≡ says.Fault → Rose now now') → RoseBy (faults_in (es ++ e ∷ [])) opened now'
-bound_more es e opened now now' (inr top) later cause = inr (omega arith)
-bound_more es e opened now now' (inl b) later cause =
+bound_more : (es : List Entry) (e : Entry) (missed opened now now' : ℕ) → RoseBy (faults_in es + missed) opened now → now ≤ now'
+    → (e.reply ≡ says.Fault → Rose now now') → RoseBy (faults_in (es ++ e ∷ []) + missed) opened now'
+bound_more es e missed opened now now' (inr top) later cause = inr (omega arith)
+bound_more es e missed opened now now' (inl b) later cause =
     elim (fault_or_none e.reply) [
       | inl is ↦ elim (cause is) [
         | inl rose ↦ inl (omega (arith, faults_push es e, ap fault_count is))
@@ -113,7 +120,9 @@ bound_more es e opened now now' (inl b) later cause =
     ]
 
 -- the entry answers the line that is next
-pub answers : (half : Half) (lines : List Line) (s s' : State) (line : Line) (e : Entry) (from at : ℕ) → IsNext lines from e.actor at → line ≡ get_or lines at line → e.line ≡ line.number → e.actor ≡ e.actor → Step half s e.actor line.command e.reply (used_by e) s' → Answers half lines s e s'
+pub answers : (half : Half) (lines : List Line) (s s' : State) (line : Line) (e : Entry) (from at : ℕ) → IsNext lines from e.actor at
+    → line ≡ get_or lines at line → e.line ≡ line.number → e.actor ≡ e.actor → Step half s e.actor line.command e.reply (used_by e) s'
+    → Answers half lines s e s'
 answers half lines s s' line e from at next is number _ step = record { place = at; line = line; stands = slice_get_read lines (length lines) at line refl next.within is; number = number; actor = sym (next.actor line is); step = step }
 
 -- the commands that are served acquire a ledger
@@ -126,9 +135,11 @@ served_acquires (command.Check t) served = tt
 served_acquires (command.Tick t) served = tt
 served_acquires _ served = absurd served
 
-module _ (half : Half) (lines : List Line) (cursors : List ℕ) (journal : List Entry) (capacity interval : ℕ) (told : Bool) (opened now : ℕ) (s : State) (k : CoreKeeps half lines cursors journal capacity interval told opened now s) where
+module _ (half : Half) (records : List Record) (lines : List Line) (cursors : List ℕ) (journal : List Entry) (capacity interval : ℕ) (told : Bool)
+    (opened now missed : ℕ) (s : State) (k : CoreKeeps half records lines cursors journal capacity interval told opened now missed s) where
   at_most : (a : ℕ) → a < 64 → part (λ e. e.actor) journal a ≤ part (λ l. l.actor) lines a
-  at_most a lt = omega (arith, answered_part a journal, numbers_part a lines, ap length (k.done a lt), numbers-take-le a (slice_index cursors a) lines)
+  at_most a lt =
+      omega (arith, answered_part a journal, numbers_part a lines, ap length (k.done a lt), numbers-take-le a (slice_index cursors a) lines)
 
   pub kept_few : length journal ≤ length lines
   kept_few = omega (arith, parts_total 64 (λ (e : Entry). e.actor) journal k.known, parts_total 64 (λ (l : Line). l.actor) lines k.servable.actors_known, total-le 64 _ _ at_most)
@@ -161,7 +172,8 @@ module _ (half : Half) (lines : List Line) (cursors : List ℕ) (journal : List 
   kept_in_range at lt line is = let P : Line → Type 0 = λ l. IsInRange l.command in subst P (sym is) (k.servable.in_range at line lt)
 
   -- a line has its entry exactly where its actor's cursor stands behind it
-  pub kept_answered : (at : ℕ) (line : Line) → at < length lines → get_or lines at line ≡ line → is_answered journal line.number ≡ nat_lt at (slice_index cursors line.actor)
+  pub kept_answered : (at : ℕ) (line : Line) → at < length lines → get_or lines at line ≡ line
+      → is_answered journal line.number ≡ nat_lt at (slice_index cursors line.actor)
   kept_answered at line lt is =
       elim (nat_lt at (slice_index cursors line.actor)) as (λ b. nat_lt at (slice_index cursors line.actor) ≡ b → is_answered journal line.number ≡ b) [
         | true ↦ λ t.
@@ -186,7 +198,8 @@ module _ (half : Half) (lines : List Line) (cursors : List ℕ) (journal : List 
           omega (arith, w.2, place, ap (slice_index cursors) actor)
 
   -- no line has the number, so none of the number has an entry
-  pub kept_unknown : (number : ℕ) → ((j : ℕ) (d : Line) → j < length lines → (get_or lines j d).number ≢ number) → is_answered journal number ≡ false
+  pub kept_unknown : (number : ℕ) → ((j : ℕ) (d : Line) → j < length lines → (get_or lines j d).number ≢ number)
+      → is_answered journal number ≡ false
   kept_unknown number none =
       elim (is_answered journal number) as (λ b. is_answered journal number ≡ b → b ≡ false) [
         | true ↦ λ any.
@@ -197,7 +210,9 @@ module _ (half : Half) (lines : List Line) (cursors : List ℕ) (journal : List 
       ] refl
 
   -- a cursor may go on to a place before which the actor has no further line
-  pub kept_moved : (a at : ℕ) → a < 64 → at ≤ length lines → numbers_of a (take at lines) ≡ numbers_of a (take (slice_index cursors a) lines) → CoreKeeps half lines (set cursors a at) journal capacity interval told opened now s
+  pub kept_moved : (a at : ℕ) → a < 64 → at ≤ length lines
+      → numbers_of a (take at lines) ≡ numbers_of a (take (slice_index cursors a) lines)
+      → CoreKeeps half records lines (set cursors a at) journal capacity interval told opened now missed s
   kept_moved a at lt within none = record {
     run = k.run;
     sound = k.sound;
@@ -214,6 +229,7 @@ module _ (half : Half) (lines : List Line) (cursors : List ℕ) (journal : List 
     waits = k.waits;
     known = k.known;
     servable = k.servable;
+    recorded = k.recorded;
     room = k.room;
     fault_bound = k.fault_bound;
   }
@@ -231,17 +247,22 @@ module _ (half : Half) (lines : List Line) (cursors : List ℕ) (journal : List 
     kept_next = next_at lines journal a at line next.within is (next.actor line is) (k.done a lt ∙ sym next.none)
 
     -- what the line that was found waits for
-    waits_for : (l : Line) → line_of lines line.number ≡ Some l → (line.after ≢ 0 → is_answered journal line.after ≡ true) → l.after ≢ 0 → Contains [] l.after ⊎ (is_answered journal l.after ≡ true)
+    waits_for : (l : Line) → line_of lines line.number ≡ Some l → (line.after ≢ 0 → is_answered journal line.after ≡ true) → l.after ≢ 0
+        → Contains [] l.after ⊎ (is_answered journal l.after ≡ true)
     waits_for l found free waits =
         let same : line ≡ l = same_Some line l (line_there lines at line.number line next.within (λ j d before within. let less = rising 0 lines k.servable.numbers_rise j at d line before next.within in omega (arith, less, ap (λ (x : Line). x.number) is)) is refl ∙ found) in
         let P : Line → Type 0 = λ x. x.after ≢ 0 → is_answered journal x.after ≡ true in
         inr (subst P same free waits)
 
-    pub kept_step : (e : Entry) (s' : State) (c now' : ℕ) → e.line ≡ line.number → e.actor ≡ a → (line.after ≢ 0 → is_answered journal line.after ≡ true) → (IsTrue told → Step half s e.actor line.command e.reply (used_by e) s') → (IsTrue told → Sound half s') → (IsTrue told → length s'.listed ≤ suc (length s.listed)) → capacity ≤ c → now ≤ now' → (e.reply ≡ says.Fault → Rose now now') → CoreKeeps half lines (set cursors a (at + 1)) (journal ++ e ∷ []) c interval told opened now' s'
+    pub kept_step : (e : Entry) (s' : State) (c now' : ℕ) → e.line ≡ line.number → e.actor ≡ a
+        → (line.after ≢ 0 → is_answered journal line.after ≡ true) → (IsTrue told → Step half s e.actor line.command e.reply (used_by e) s')
+        → (IsTrue told → Sound half s') → length s'.listed ≤ suc (length s.listed) → capacity ≤ c → now ≤ now'
+        → (e.reply ≡ says.Fault → Rose now now')
+        → CoreKeeps half records lines (set cursors a (at + 1)) (journal ++ e ∷ []) c interval told opened now' missed s'
     kept_step e s' c now' number actor free step sound few more later cause = record {
       sound = sound;
-      listed_few = λ t. omega (arith, few t, k.listed_few t, length-append journal (e ∷ []));
-      run = λ t. run_more half lines (opening finite.empty interval) s s' journal e (k.run t) (record { place = at; line = line; stands = slice_get_read lines (length lines) at line refl next.within is; number = number; actor = actor ∙ sym (next.actor line is); step = step t });
+      listed_few = omega (arith, few, k.listed_few, length-append journal (e ∷ []));
+      run = λ t. run_more half lines (opening_of records interval) s s' journal e (k.run t) (record { place = at; line = line; stands = slice_get_read lines (length lines) at line refl next.within is; number = number; actor = actor ∙ sym (next.actor line is); step = step t });
       cursor_count = length-set cursors a (at + 1) ∙ k.cursor_count;
       behind = λ b l. elim (b == a) as (λ t. (b == a) ≡ t → slice_index (set cursors a (at + 1)) b ≤ length lines) [
         | true ↦ λ t. let same : b ≡ a = grind (arith, nat_tests) in let n : a < length cursors = omega (arith, k.cursor_count) in rw (same, get_or-set_same) (omega (arith, next.within))
@@ -261,48 +282,87 @@ module _ (half : Half) (lines : List Line) (cursors : List ℕ) (journal : List 
       waits = waits_more lines [] journal e k.waits (λ l found. waits_for l (sym (ap (line_of lines) number) ∙ found) free);
       known = All-append (λ (x : Entry). x.actor < 64) journal (e ∷ []) k.known (one e (omega arith));
       servable = k.servable;
+      recorded = k.recorded;
       room = omega (arith, k.room);
-      fault_bound = bound_more journal e opened now now' k.fault_bound later cause;
+      fault_bound = bound_more journal e missed opened now now' k.fault_bound later cause;
     }
       where
         one : (e : Entry) → e.actor < 64 → All (λ (x : Entry). x.actor < 64) (e ∷ [])
         one e l zero d in_it = l
         one e l (suc i) d in_it = absurd (omega arith)
 
+  -- a section that answers no line
+  pub kept_listed : (s' : State) (now' missed' : ℕ) → (IsTrue told → s' ≡ s) → s'.listed ≡ s.listed
+      → RoseBy (faults_in journal + missed') opened now'
+      → CoreKeeps half records lines cursors journal capacity interval told opened now' missed' s'
+  kept_listed s' now' missed' same unlisted bound = record {
+    run = λ t. subst (λ (x : State). IsRunOf half records lines interval journal x) (sym (same t)) (k.run t);
+    sound = λ t. subst (Sound half) (sym (same t)) (k.sound t);
+    listed_few = omega (arith, k.listed_few, ap length unlisted);
+    cursor_count = k.cursor_count;
+    behind = k.behind;
+    done = k.done;
+    waits = k.waits;
+    known = k.known;
+    servable = k.servable;
+    recorded = k.recorded;
+    room = k.room;
+    fault_bound = bound;
+  }
+
   -- an actor with a further line isn't done
   pub kept_undone : (a at : ℕ) → a < 64 → IsNext lines (slice_index cursors a) a at → IsDone lines journal a → ⊥
-  kept_undone a at lt next done = let w = read_at lines at next.within in next_left lines journal a w.0 (kept_next a at lt next w.0 w.1) done
+  kept_undone a at lt next done =
+      let w = read_at lines at next.within in next_left lines journal a w.0 (kept_next a at lt next w.0 w.1) done
+
+held_less : (a b : ℕ) → held_sum a b ≤ a + b
+held_less a b = omega arith
+
+-- a count that was missed, too
+pub missed_more : (n missed opened now now' : ℕ) → RoseBy (n + missed) opened now → now ≤ now' → Rose now now'
+    → RoseBy (n + held_sum missed 1) opened now'
+missed_more n missed opened now now' (inr top) later rose = inr (omega arith)
+missed_more n missed opened now now' (inl b) later (inl rose) = inl (omega (arith, held_less missed 1))
+missed_more n missed opened now now' (inl b) later (inr top) = inr (omega (arith, top))
 
 -- where no line of the actor is left, all are before
-pub kept_end : (a from : ℕ) (lines : List Line) → numbers_of a (drop from lines) ≡ [] → numbers_of a (take (length lines) lines) ≡ numbers_of a (take from lines)
+pub kept_end : (a from : ℕ) (lines : List Line) → numbers_of a (drop from lines) ≡ []
+    → numbers_of a (take (length lines) lines) ≡ numbers_of a (take from lines)
 kept_end a from lines none =
     ap (numbers_of a) (take_all (length lines) lines (omega arith) ∙ sym (take-append-drop from lines))
     ∙ (numbers-append a (take from lines) (drop from lines) ∙ (ap (λ (w : List ℕ). numbers_of a (take from lines) ++ w) none ∙ append-nil (numbers_of a (take from lines))))
 
 -- what is found from a place on
-pub next_found : (lines : List Line) (from i a : ℕ) → from + i < length lines → numbers_of a (take i (drop from lines)) ≡ [] → ((line : Line) → line ≡ get_or lines (from + i) line → line.actor ≡ a) → IsNext lines from a (from + i)
+pub next_found : (lines : List Line) (from i a : ℕ) → from + i < length lines → numbers_of a (take i (drop from lines)) ≡ []
+    → ((line : Line) → line ≡ get_or lines (from + i) line → line.actor ≡ a) → IsNext lines from a (from + i)
 next_found lines from i a lt none actor = record {
   later = omega arith;
   within = lt;
   actor = actor;
-  none = ap (numbers_of a) (take-add from i lines) ∙ numbers-append a (take from lines) (take i (drop from lines)) ∙ ap (λ (w : List ℕ). numbers_of a (take from lines) ++ w) none ∙ append-nil (numbers_of a (take from lines));
+  none =
+      ap (numbers_of a) (take-add from i lines) ∙ numbers-append a (take from lines) (take i (drop from lines))
+      ∙ ap (λ (w : List ℕ). numbers_of a (take from lines) ++ w) none ∙ append-nil (numbers_of a (take from lines));
 }
 
 -- the same place, found in a copy of the lines
-pub moved : (lines ls : List Line) (cursors : List ℕ) (from a at : ℕ) → ls ≡ lines → from ≡ get_or cursors a from → a < length cursors → IsNext ls from a at → IsNext lines (slice_index cursors a) a at
+pub moved : (lines ls : List Line) (cursors : List ℕ) (from a at : ℕ) → ls ≡ lines → from ≡ get_or cursors a from → a < length cursors
+    → IsNext ls from a at → IsNext lines (slice_index cursors a) a at
 moved lines ls cursors from a at same start lt next =
     let e : from ≡ slice_index cursors a = get_or_read cursors a from lt start 0 in
     let P : List Line → Type 0 = λ w. IsNext w from a at in
     let Q : ℕ → Type 0 = λ n. IsNext lines n a at in
     subst Q e (subst P same next)
 
-pub moved_end : (lines ls : List Line) (cursors : List ℕ) (from a : ℕ) → ls ≡ lines → from ≡ get_or cursors a from → a < length cursors → numbers_of a (drop from ls) ≡ [] → numbers_of a (drop (slice_index cursors a) lines) ≡ []
+pub moved_end : (lines ls : List Line) (cursors : List ℕ) (from a : ℕ) → ls ≡ lines → from ≡ get_or cursors a from → a < length cursors
+    → numbers_of a (drop from ls) ≡ [] → numbers_of a (drop (slice_index cursors a) lines) ≡ []
 moved_end lines ls cursors from a same start lt none =
     let e : from ≡ slice_index cursors a = get_or_read cursors a from lt start 0 in
     ap (λ (n : ℕ). numbers_of a (drop n lines)) (sym e) ∙ ap (λ (w : List Line). numbers_of a (drop from w)) (sym same) ∙ none
 
 -- what a loop over the lines from a place on reads
-pub read_actor : (lines : List Line) (from i a : ℕ) (d : Line) → from + i < length lines → (get_or (take (length lines - from) (drop from lines)) i d).actor ≡ a → (line : Line) → line ≡ get_or lines (from + i) line → line.actor ≡ a
+pub read_actor : (lines : List Line) (from i a : ℕ) (d : Line) → from + i < length lines
+    → (get_or (take (length lines - from) (drop from lines)) i d).actor ≡ a → (line : Line) → line ≡ get_or lines (from + i) line
+    → line.actor ≡ a
 read_actor lines from i a d lt is line at =
     ap (λ (l : Line). l.actor) (at ∙ get_or_default lines (from + i) line d lt ∙ sym (get_or-take (length lines - from) (drop from lines) i d (omega arith) ∙ get_or-drop from lines i d)) ∙ is
 
@@ -317,28 +377,24 @@ used_nothing half s actor c r s' used none step = let P : List (Arc Node Global)
 numbers_none : (a : ℕ) (lines : List Line) (n : ℕ) → n ≡ 0 → numbers_of a (take n lines) ≡ []
 numbers_none a lines n e = ap (λ (k : ℕ). numbers_of a (take k lines)) e
 
--- nothing stands in the empty map
-none_stored : (half : Half) (h : Hash) (form : Bytes) → finite.get {R = hash_cmp} finite.empty h ≡ Some form → IsStoredAt half h form
-none_stored half h form e = absurd (no_some (sym (finite.get-empty hash_cmp h) ∙ e))
-  where
-    no_some : {X : Type 0} {x : X} → None ≡ Some x → ⊥
-    no_some e = cc
-
-pub kept_open : (half : Half) (lines : List Line) (cursors : List ℕ) (journal : List Entry) (capacity interval : ℕ) (told : Bool) (opened now : ℕ) (s : State)
-    → journal ≡ [] → length cursors ≡ 64 → ((a : ℕ) → a < 64 → slice_index cursors a ≡ 0) → AreServable lines → length lines ≤ capacity → opened ≡ now → (IsTrue told → s ≡ opening finite.empty interval)
-    → CoreKeeps half lines cursors journal capacity interval told opened now s
-kept_open half lines cursors journal capacity interval told opened now s none size start_at servable room same start =
-    let P : List Entry → Type 0 = λ j. CoreKeeps half lines cursors j capacity interval told opened now s in
+pub kept_open : (half : Half) (records : List Record) (lines : List Line) (cursors : List ℕ) (journal : List Entry) (capacity interval : ℕ)
+    (told : Bool) (opened now : ℕ) (s : State)
+    → journal ≡ [] → length cursors ≡ 64 → ((a : ℕ) → a < 64 → slice_index cursors a ≡ 0) → AreServable lines → AreRecords half records
+    → length lines ≤ capacity → opened ≡ now → s.listed ≡ [] → (IsTrue told → s ≡ opening_of records interval)
+    → CoreKeeps half records lines cursors journal capacity interval told opened now 0 s
+kept_open half records lines cursors journal capacity interval told opened now s none size start_at servable recorded room same unlisted start =
+    let P : List Entry → Type 0 = λ j. CoreKeeps half records lines cursors j capacity interval told opened now 0 s in
     subst P (sym none) (record {
       run = start;
-      sound = λ t. subst (Sound half) (sym (start t)) (opening_is_sound half finite.empty interval (none_stored half));
-      listed_few = λ t. omega (arith, ap (λ (x : State). length x.listed) (start t));
+      sound = λ t. subst (Sound half) (sym (start t)) (records_are_sound half records interval recorded);
+      listed_few = omega (arith, ap length unlisted);
       cursor_count = size;
       behind = λ a l. omega (arith, start_at a l);
       done = λ a l. sym (numbers_none a lines (slice_index cursors a) (start_at a l));
       waits = tt;
       known = λ k d l. absurd (omega (arith, l));
       servable = servable;
+      recorded = recorded;
       room = room;
       fault_bound = inl (omega (arith, same));
     })

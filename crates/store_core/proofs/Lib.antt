@@ -6,3 +6,8 @@ pub mod Finding
 pub mod Asking
 pub mod Listing
 pub mod Tables
+pub mod Founds
+pub mod Parts
+pub mod Putting
+pub mod Numbering
+pub mod Dumps

@@ -1,49 +1,38 @@
 -- Changes of states, and the steps that they are.
-use Rattle.std.proofs.Common.{◌≡◌, ◌≢◌, ◌<◌, IsTrue, Contains, ⊎_elim, inl, inr, ℕ, zero, suc, List, [], ◌∷◌, ◌++◌, Option, Some, None}
+use Rattle.std.proofs.Common.{◌≡◌, ◌≢◌, ◌<◌, IsTrue, Contains, ℕ, zero, suc, List, [], ◌∷◌, ◌++◌, Option, Some, None}
 use Rattle.std.proofs.Common.{Result, Ok, Err, IsSomeAnd, Bool, true, false, cond, refl, sym, ◌∙◌, ap, subst, arith}
 use Rattle.std.specs.Map.{lookup, set_value}
-use Rattle.std.specs.Result.{OnErr, IfOk, IfErr, IsErrAnd}
-use Rattle.std.specs.Option.{option_map_or, unwrap_or}
+use Rattle.std.specs.Result.{OnErr, IfOk}
 use Rattle.ledger_spec.specs.Bytes.{Bytes, Hash, Half, is_nonzero, IsHalf}
 use Rattle.ledger_spec.specs.Maps.{ForHash, hash_cmp, get_in, set_in}
 use Rattle.ledger_spec.specs.declared.Place.{Place}
-use Rattle.ledger_spec.specs.Findings.{seen}
 use Rattle.ledger_machine.specs.declared.commands.Command.{Command}
 use Rattle.ledger_machine.specs.declared.commands.Command.TheVariants as command
 use Rattle.ledger_machine.specs.declared.replies.WantReply.{WantReply}
 use Rattle.ledger_machine.specs.declared.replies.PeerReply.{PeerReply}
 use Rattle.ledger_machine.specs.declared.replies.CheckReply.{CheckReply}
 use Rattle.ledger_machine.specs.declared.replies.CheckReply.TheVariants as check
-use Rattle.ledger_machine.specs.declared.replies.Reply.{Reply}
 use Rattle.ledger_machine.specs.declared.replies.Reply.TheVariants as says
 use Rattle.ledger_machine.specs.State.{State, Acquisition, form_in, with_form, with_forms, with_wanted, stored_seq}
-use Rattle.ledger_machine.specs.declared.replies.NodeReply.{NodeReply}
 use Rattle.ledger_spec.specs.declared.outcomes.Offered.{Offered}
-use Rattle.std.specs.List.{filter_map}
-use Rattle.std.proofs.lemmas.List.Elements.{Contains-append_left, Contains-append_cases, Contains-append_right}
 use Rattle.ledger_spec.specs.Forms.{header_prefix}
-use Rattle.ledger_spec.specs.declared.ShapeFault.{ShapeFault}
-use Rattle.ledger_spec.specs.Rules.{rule_number}
-use Rattle.ledger_spec.specs.declared.Kind.TheVariants as kinds
 use Rattle.ledger_spec.specs.declared.outcomes.HeadOffered.{HeadOffered}
 use Rattle.ledger_spec.specs.declared.outcomes.HeadOffered.TheVariants as head
-use Rattle.ledger_laws.proofs.SoundOffers.{head_stored, node_stored}
+use Rattle.ledger_laws.proofs.SoundOffers.{node_stored}
 use Rattle.ledger_machine.specs.Offers.{after_head}
-use Rattle.ledger_spec.specs.Offers.{Clash, node_outcome, head_outcome}
-use Rattle.ledger_machine.specs.Base.{is_present, part_outcome, base_outcomes, base_reply, node_reply, one_reply, after_part}
-use Rattle.ledger_machine.specs.Base.{node_forms, unless_clash, parts_forms, if_present, all_parts, after_parts, after_base}
+use Rattle.ledger_spec.specs.Offers.{Clash, node_outcome}
+use Rattle.ledger_machine.specs.Base.{is_present, base_outcomes, base_reply, node_reply, one_reply, after_part}
+use Rattle.ledger_machine.specs.Base.{node_forms, unless_clash, if_present, all_parts, after_parts, after_base}
 use Rattle.ledger_machine.specs.declared.replies.BaseReply.{BaseReply}
 use Rattle.ledger_spec.specs.Offers.{head_forms}
 use Rattle.ledger_spec.specs.declared.Kind.{Kind}
-use Rattle.node_offer.specs.declared.store.OfferFault.{OfferFault}
-use Rattle.node_offer.specs.declared.store.OfferFault.TheVariants as fault
-use Rattle.node_offer.specs.Stored.{HasClash}
-use Rattle.store_core.specs.Refusals.{IsClashReply, IsAsked, HasSomeParts, refusal_of, asked_reply}
+use Rattle.store_core.specs.Desks.{Desk}
+use Rattle.store_core.specs.Refusals.{IsAsked, asked_reply}
+use Rattle.node_offer.specs.declared.fault.OfferFault.{OfferFault}
 use Rattle.ledger_machine.specs.Want.{want_reply, after_want}
 use Rattle.ledger_machine.specs.Peer.{peer_reply, after_peer}
-use Rattle.ledger_machine.specs.Check.{check_given, check_reply, form_verdict, search_reply, missing_reply, ask_reply, need_or_wait}
+use Rattle.ledger_machine.specs.Check.{check_reply, missing_reply, ask_reply, need_or_wait}
 use Rattle.ledger_machine.specs.Check.{after_ask, after_check}
-use Rattle.ledger_spec.specs.Findings.{missing_of, first_broken}
 use Rattle.ledger_machine.specs.Rotation.{WhileTurning}
 use Rattle.ledger_machine.specs.Steps.{Step, Refused, IsAfter, own_forms, MayBeRefused}
 
@@ -63,6 +52,13 @@ set_same test (x ∷ es) w e =
 pub same_wanted : (s0 s : State) → s0 ≡ s → (n : ForHash Acquisition) → n ≡ s0.wanted → record s0 { wanted = n } ≡ s
 same_wanted s0 s e n h = ap (λ (m : ForHash Acquisition). record s0 { wanted = m }) h ∙ e
 
+-- the acquisitions of a desk alone change, or nothing does
+abbrev pub desk_with : Desk → ForHash Acquisition → Desk
+desk_with d m = record { state = record d.state { wanted = m }; faults = d.faults }
+
+pub same_desk : (d0 d : Desk) → d0 ≡ d → (n : ForHash Acquisition) → n ≡ d0.state.wanted → desk_with d0 n ≡ d
+same_desk d0 d e n h = ap (desk_with d0) h ∙ e
+
 -- a fact that holds at either result
 pub on_err : {X E : Type 0} (r : Result X E) {P : Type 0} → P → OnErr r P
 on_err (Ok x) p = tt
@@ -72,7 +68,8 @@ on_err (Err e) p = p
 pub same_shaded : (s' t : State) → s' ≡ t → IsAfter t s'
 same_shaded s' t e = subst (λ x. x ≡ record t { shaded = x.shaded }) (sym e) refl
 
-pub some_at : (s : State) (t : Hash) (a : Acquisition) → get_in hash_cmp s.wanted t ≡ Some a → (f : Acquisition → Acquisition) → with_wanted s t f ≡ record s { wanted = set_in hash_cmp s.wanted t (f a) }
+pub some_at : (s : State) (t : Hash) (a : Acquisition) → get_in hash_cmp s.wanted t ≡ Some a → (f : Acquisition → Acquisition)
+    → with_wanted s t f ≡ record s { wanted = set_in hash_cmp s.wanted t (f a) }
 some_at s t a at f = rw at refl
 
 -- a reply that asks, or that nothing can be asked
@@ -94,7 +91,8 @@ ask_asks (p ∷ rest) asked places = need_asks p _ _
 with_same : (s : State) (t : Hash) (a : Acquisition) → get_in hash_cmp s.wanted t ≡ Some a → with_wanted s t (λ x. x) ≡ s
 with_same s t a at = some_at s t a at (λ x. x) ∙ ap (λ (m : ForHash Acquisition). record s { wanted = m }) (set_same _ s.wanted a at)
 
-after_asks : (s : State) (t : Hash) (a : Acquisition) (seq : ℕ) (r : CheckReply) → get_in hash_cmp s.wanted t ≡ Some a → IsAsk r → with_wanted s t (after_ask r) ≡ after_check s t seq r
+after_asks : (s : State) (t : Hash) (a : Acquisition) (seq : ℕ) (r : CheckReply) → get_in hash_cmp s.wanted t ≡ Some a → IsAsk r
+    → with_wanted s t (after_ask r) ≡ after_check s t seq r
 after_asks s t a seq (check.Need peer places) at is = refl
 after_asks s t a seq check.NoPeer at is = with_same s t a at
 after_asks s t a seq (check.Waiting n) at is = with_same s t a at
@@ -109,110 +107,73 @@ missing_asks : (a : Acquisition) (places : List Place) → places ≢ [] → IsA
 missing_asks a [] some = absurd (some refl)
 missing_asks a (place ∷ rest) some = ask_asks a.present a.asked (place ∷ rest)
 
-pub asked_after : (s : State) (t : Hash) (a : Acquisition) (seq : ℕ) (places : List Place) (r : CheckReply) → get_in hash_cmp s.wanted t ≡ Some a → places ≢ [] → r ≡ asked_reply (get_in hash_cmp s.wanted t) places
+pub asked_after : (s : State) (t : Hash) (a : Acquisition) (seq : ℕ) (places : List Place) (r : CheckReply)
+    → get_in hash_cmp s.wanted t ≡ Some a → places ≢ [] → r ≡ asked_reply (get_in hash_cmp s.wanted t) places
     → with_wanted s t (after_ask r) ≡ after_check s t seq r
 asked_after s t a seq places r at some is =
     after_asks s t a seq r at (subst IsAsk (sym (is ∙ ap (λ (o : Option Acquisition). asked_reply o places) at)) (missing_asks a places some))
 
--- what a search of a ledger answers
-abbrev pub found_reply : Acquisition → List Place → Option (Place × ShapeFault) → CheckReply
-found_reply a missing (Some b) = check.Malformed b.0 (rule_number b.1)
-found_reply a missing None = missing_reply a missing
-
--- what the header decides of an open acquisition, where its sequence, what is stored under its target and the verdict are these
-module _ (half : Half) (s : State) (t : Hash) (a : Acquisition) (seq : ℕ) (held : Option Bytes) (verdict : Option CheckReply) (at : get_in hash_cmp s.wanted t ≡ Some a) (seq_is : seq ≡ a.seq) (held_is : held ≡ form_in s t)
-    (decides : (rest : CheckReply) → option_map_or (λ f. form_verdict seq s.floor f rest) held rest ≡ unwrap_or verdict rest) where
-  decided : check_reply half s t ≡ unwrap_or verdict (search_reply a (seen half (form_in s) t) (first_broken (seen half (form_in s) t)))
-  decided =
-      let rest : CheckReply = search_reply a (seen half (form_in s) t) (first_broken (seen half (form_in s) t)) in
-      ap (check_given half s t (form_in s t)) at ∙ ap (λ (h : Option Bytes). option_map_or (λ f. form_verdict a.seq s.floor f rest) h rest) (sym held_is)
-      ∙ ap (λ (n : ℕ). option_map_or (λ f. form_verdict n s.floor f rest) held rest) (sym seq_is) ∙ decides rest
-
-  -- it refuses the ledger
-  pub check_refused : (r : CheckReply) → verdict ≡ Some r → check_reply half s t ≡ r
-  check_refused r is = decided ∙ ap (λ (o : Option CheckReply). unwrap_or o (search_reply a (seen half (form_in s) t) (first_broken (seen half (form_in s) t)))) is
-
-  -- it decides nothing, and the search found these places missing, and this one broken
-  pub check_found : verdict ≡ None → (missing : List Place) (broken : Option (Place × ShapeFault)) → missing ≡ filter_map missing_of (seen half (form_in s) t) → broken ≡ first_broken (seen half (form_in s) t)
-      → check_reply half s t ≡ found_reply a missing broken
-  check_found is missing broken lacks breaks =
-      decided ∙ ap (λ (o : Option CheckReply). unwrap_or o (search_reply a (seen half (form_in s) t) (first_broken (seen half (form_in s) t)))) is ∙ ap (search_reply a (seen half (form_in s) t)) (sym breaks)
-      ∙ by broken
-    where
-      by : (b : Option (Place × ShapeFault)) → search_reply a (seen half (form_in s) t) b ≡ found_reply a missing b
-      by None = ap (missing_reply a) (sym lacks)
-      by (Some b) = refl
-
 -- steps without a rotation
-idle_carries : (s s' : State) (P : Type 0) → s.turning ≡ None → WhileTurning s.turning s'.turning P
+pub idle_carries : (s s' : State) (P : Type 0) → s.turning ≡ None → WhileTurning s.turning s'.turning P
 idle_carries s s' P idle = rw idle tt
 
-pub step_want : (half : Half) (s s' : State) (actor : ℕ) (t : Hash) (seq : ℕ) (r : WantReply) → s.turning ≡ None → r ≡ want_reply s t seq → s' ≡ after_want s t seq r
+pub step_want : (half : Half) (s s' : State) (actor : ℕ) (t : Hash) (seq : ℕ) (r : WantReply) → s.turning ≡ None → r ≡ want_reply s t seq
+    → s' ≡ after_want s t seq r
     → Step half s actor (command.Want t seq) (says.Want r) [] s'
 step_want half s s' actor t seq r idle e after =
     record { outcome = record { says = ap says.Want e; after = same_shaded s' _ (after ∙ ap (after_want s t seq) e) }; uses = refl; carries = idle_carries s s' _ idle }
 
-pub step_peer : (half : Half) (s s' : State) (actor p : ℕ) (t : Hash) (r : PeerReply) → s.turning ≡ None → r ≡ peer_reply s p t → s' ≡ after_peer s p t r
+pub step_peer : (half : Half) (s s' : State) (actor p : ℕ) (t : Hash) (r : PeerReply) → s.turning ≡ None → r ≡ peer_reply s p t
+    → s' ≡ after_peer s p t r
     → Step half s actor (command.Peer p t) (says.Peer r) [] s'
 step_peer half s s' actor p t r idle e after =
     record { outcome = record { says = ap says.Peer e; after = same_shaded s' _ (after ∙ ap (after_peer s p t) e) }; uses = refl; carries = idle_carries s s' _ idle }
 
-pub step_check : (half : Half) (s s' : State) (actor : ℕ) (t : Hash) (r : CheckReply) → s.turning ≡ None → r ≡ check_reply half s t → s' ≡ after_check s t (stored_seq s t) r
+pub step_check : (half : Half) (s s' : State) (actor : ℕ) (t : Hash) (r : CheckReply) → s.turning ≡ None → r ≡ check_reply half s t
+    → s' ≡ after_check s t (stored_seq s t) r
     → Step half s actor (command.Check t) (says.Check r) [] s'
 step_check half s s' actor t r idle e after =
     record { outcome = record { says = ap says.Check e; after = same_shaded s' _ (after ∙ ap (after_check s t (stored_seq s t)) e) }; uses = refl; carries = idle_carries s s' _ idle }
 
-nothing_own : (half : Half) (s : State) (actor : ℕ) (c : Command) (form : Bytes) → Contains [] form → Contains (own_forms half s actor c) form × IsTrue (is_nonzero (half form))
+nothing_own : (half : Half) (s : State) (actor : ℕ) (c : Command) (form : Bytes) → Contains [] form
+    → Contains (own_forms half s actor c) form × IsTrue (is_nonzero (half form))
 nothing_own half s actor c form h = absurd (let below : h.0 < 0 = h.1 in omega (arith, below))
 
 pub refused_nothing : (half : Half) (s s' : State) (actor : ℕ) (c : Command) → s' ≡ s → Refused half s actor c s'
 refused_nothing half s s' actor c e = record { forms = []; own = nothing_own half s actor c; same = same_shaded s' s e }
 
-pub step_memory : (half : Half) (s s' : State) (actor : ℕ) (c : Command) → MayBeRefused c → s.turning ≡ None → s' ≡ s → Step half s actor c says.Memory [] s'
+pub step_memory : (half : Half) (s s' : State) (actor : ℕ) (c : Command) → MayBeRefused c → s.turning ≡ None → s' ≡ s
+    → Step half s actor c says.Memory [] s'
 step_memory half s s' actor c may idle e =
     record { outcome = (may, refused_nothing half s s' actor c e); uses = refl; carries = idle_carries s s' _ idle }
 
 -- a base reply of a peer that serves the open acquisition
-pub base_open : (half : Half) (s : State) (p : ℕ) (t : Hash) (header : Bytes) (state tx : Option Bytes) (a : Acquisition) → get_in hash_cmp s.wanted t ≡ Some a → is_present p a ≡ true
+pub base_open : (half : Half) (s : State) (p : ℕ) (t : Hash) (header : Bytes) (state tx : Option Bytes) (a : Acquisition)
+    → get_in hash_cmp s.wanted t ≡ Some a → is_present p a ≡ true
     → base_reply half s p t header state tx ≡ base_outcomes half s t header state tx
 base_open half s p t header state tx a at present = rw (at, present) refl
 
 -- and a node
-pub node_open : (half : Half) (s : State) (p : ℕ) (t : Hash) (kind : Kind) (path : List ℕ) (blob : Bytes) (a : Acquisition) → get_in hash_cmp s.wanted t ≡ Some a → is_present p a ≡ true
+pub node_open : (half : Half) (s : State) (p : ℕ) (t : Hash) (kind : Kind) (path : List ℕ) (blob : Bytes) (a : Acquisition)
+    → get_in hash_cmp s.wanted t ≡ Some a → is_present p a ≡ true
     → node_reply half s p t kind path blob ≡ one_reply (node_outcome half (form_in s) t kind path blob)
 node_open half s p t kind path blob a at present = rw (at, present) refl
 
-one_clash : (o : Result Offered Clash) (e : OfferFault) → HasClash o e → IsClashReply (one_reply o) e
-one_clash o (fault.Clash h old new) is = ap one_reply is
-one_clash o fault.Memory is = tt
-
-pub node_clash : (half : Half) (s : State) (p : ℕ) (t : Hash) (kind : Kind) (path : List ℕ) (blob : Bytes) (a : Acquisition) (e : OfferFault) (r : Result NodeReply OfferFault)
-    → get_in hash_cmp s.wanted t ≡ Some a → is_present p a ≡ true → HasClash (node_outcome half (form_in s) t kind path blob) e → IsErrAnd r (λ y. y ≡ e)
-    → IfErr r (IsClashReply (node_reply half s p t kind path blob))
-node_clash half s p t kind path blob a e (Ok x) at present clash is = tt
-node_clash half s p t kind path blob a e (Err y) at present clash is =
-    let P : Reply → Type 0 = λ w. IsClashReply w e in
-    subst (IsClashReply (node_reply half s p t kind path blob)) (sym is) (subst P (sym (node_open half s p t kind path blob a at present)) (one_clash _ e clash))
-
--- a node that was not judged
-pub step_node_refused : (half : Half) (s s' : State) (actor p : ℕ) (t : Hash) (kind : Kind) (path : List ℕ) (blob : Bytes) (e : OfferFault) → s.turning ≡ None
-    → IsClashReply (node_reply half s p t kind path blob) e → s' ≡ s → Step half s actor (command.Node p t kind path blob) (refusal_of e) [] s'
-step_node_refused half s s' actor p t kind path blob fault.Memory idle clash same = step_memory half s s' actor (command.Node p t kind path blob) tt idle same
-step_node_refused half s s' actor p t kind path blob (fault.Clash h old new) idle clash same =
-    record { outcome = (sym clash, refused_nothing half s s' actor (command.Node p t kind path blob) same); uses = refl; carries = idle_carries s s' _ idle }
-
-with_forms-append : (half : Half) (s : State) (xs ys : List Bytes) → with_forms half s (xs ++ ys) ≡ with_forms half (with_forms half s xs) ys
+pub with_forms-append : (half : Half) (s : State) (xs ys : List Bytes)
+    → with_forms half s (xs ++ ys) ≡ with_forms half (with_forms half s xs) ys
 with_forms-append half s [] ys = refl
 with_forms-append half s (x ∷ xs) ys = with_forms-append half (with_form half s x) xs ys
 
-head_forms_are : (half : Half) (s : State) (header : Bytes) (r : Result HeadOffered Clash) → after_head half s header r ≡ with_forms half s (head_forms r header)
+pub head_forms_are : (half : Half) (s : State) (header : Bytes) (r : Result HeadOffered Clash)
+    → after_head half s header r ≡ with_forms half s (head_forms r header)
 head_forms_are half s header (Ok head.Good) = refl
 head_forms_are half s header (Ok head.Duplicate) = refl
 head_forms_are half s header (Ok (head.BadLength n)) = refl
 head_forms_are half s header (Ok (head.BadHash h)) = refl
 head_forms_are half s header (Err c) = refl
 
-part_forms_are : (half : Half) (s : State) (t : Hash) (kind : Kind) (blob : Option Bytes) → after_part half s t kind blob ≡ with_forms half s (node_forms half s t kind [] blob)
+pub part_forms_are : (half : Half) (s : State) (t : Hash) (kind : Kind) (blob : Option Bytes)
+    → after_part half s t kind blob ≡ with_forms half s (node_forms half s t kind [] blob)
 part_forms_are half s t kind None = refl
 part_forms_are half s t kind (Some blob) = refl
 
@@ -220,23 +181,27 @@ in_one : (x y : Bytes) → Contains (x ∷ []) y → y ≡ x
 in_one x y (zero, lt, e) = sym e
 in_one x y (suc n, lt, e) = absurd (omega (arith, lt))
 
-in_nothing : (y : Bytes) → Contains [] y → ⊥
+pub in_nothing : (y : Bytes) → Contains [] y → ⊥
 in_nothing y c = let below : c.0 < 0 = c.1 in omega (arith, below)
 
 -- the form of a good header has the target's hash, which isn't zero
-head_nonzero : (half : Half) (header : Bytes) (r : Result HeadOffered Clash) (form : Bytes) → (r ≡ Ok head.Good → IsTrue (is_nonzero (half (header_prefix ++ header)))) → Contains (head_forms r header) form → IsTrue (is_nonzero (half form))
+pub head_nonzero : (half : Half) (header : Bytes) (r : Result HeadOffered Clash) (form : Bytes)
+    → (r ≡ Ok head.Good → IsTrue (is_nonzero (half (header_prefix ++ header)))) → Contains (head_forms r header) form
+    → IsTrue (is_nonzero (half form))
 head_nonzero half header (Ok head.Good) form fit i = subst (λ x. IsTrue (is_nonzero (half x))) (sym (in_one _ form i)) (fit refl)
 head_nonzero half header (Ok head.Duplicate) form fit i = absurd (in_nothing form i)
 head_nonzero half header (Ok (head.BadLength n)) form fit i = absurd (in_nothing form i)
 head_nonzero half header (Ok (head.BadHash h)) form fit i = absurd (in_nothing form i)
 head_nonzero half header (Err c) form fit i = absurd (in_nothing form i)
 
-part_nonzero : (half : Half) (sized : IsHalf half) (s : State) (t : Hash) (kind : Kind) (blob : Option Bytes) (form : Bytes) → Contains (node_forms half s t kind [] blob) form → IsTrue (is_nonzero (half form))
+pub part_nonzero : (half : Half) (sized : IsHalf half) (s : State) (t : Hash) (kind : Kind) (blob : Option Bytes) (form : Bytes)
+    → Contains (node_forms half s t kind [] blob) form → IsTrue (is_nonzero (half form))
 part_nonzero half sized s t kind None form i = absurd (in_nothing form i)
 part_nonzero half sized s t kind (Some blob) form i = (node_stored half sized (form_in s) t kind [] blob form i).nonzero
 
 -- what is judged of a peer that is present is an own form
-own_form : (s : State) (p : ℕ) (t : Hash) (forms : List Bytes) (form : Bytes) → IsAsked s p t → Contains forms form → Contains (if_present p (get_in hash_cmp s.wanted t) forms) form
+pub own_form : (s : State) (p : ℕ) (t : Hash) (forms : List Bytes) (form : Bytes) → IsAsked s p t → Contains forms form
+    → Contains (if_present p (get_in hash_cmp s.wanted t) forms) form
 own_form s p t forms form asked i = by (get_in hash_cmp s.wanted t) asked
   where
     by : (o : Option Acquisition) → IsSomeAnd o (λ a. is_present p a ≡ true) → Contains (if_present p o forms) form
@@ -244,45 +209,12 @@ own_form s p t forms form asked i = by (get_in hash_cmp s.wanted t) asked
     by None present = absurd present
 
 -- and so is what is judged behind a part that is no clash
-judged_form : {X : Type 0} (r : Result X Clash) (x : X) (forms : List Bytes) (form : Bytes) → r ≡ Ok x → Contains forms form → Contains (unless_clash r forms) form
+pub judged_form : {X : Type 0} (r : Result X Clash) (x : X) (forms : List Bytes) (form : Bytes) → r ≡ Ok x → Contains forms form
+    → Contains (unless_clash r forms) form
 judged_form r x forms form is i = rw is i
 
 not_clash : (r : BaseReply) (c : Clash) → says.Base r ≡ says.Clash c.hash c.old c.new → ⊥
 not_clash r c e = cc
-
--- some parts of a base reply were stored
-refused_parts : (half : Half) (sized : IsHalf half) (s s' : State) (actor p : ℕ) (t : Hash) (header : Bytes) (state tx : Option Bytes) → IsTrue (is_nonzero t) → IsAsked s p t → HasSomeParts half s t header state s'
-    → Refused half s actor (command.Base p t header state tx) s'
-refused_parts half sized s s' actor p t header state tx nonzero asked (inl e) = refused_nothing half s s' actor (command.Base p t header state tx) e
-refused_parts half sized s s' actor p t header state tx nonzero asked (inr (inl e)) =
-    let r : Result HeadOffered Clash = head_outcome half (form_in s) t header in
-    record {
-      forms = head_forms r header;
-      own = λ form i. (
-        own_form s p t (parts_forms half s t header state tx) form asked (Contains-append_left (head_forms r header) _ form i),
-        head_nonzero half header r form (λ g. (head_stored half (form_in s) t header nonzero g).nonzero) i,
-      );
-      same = same_shaded s' _ (e ∙ head_forms_are half s header r);
-    }
-refused_parts half sized s s' actor p t header state tx nonzero asked (inr (inr two)) =
-    let r : Result HeadOffered Clash = head_outcome half (form_in s) t header in
-    let s1 : State = after_head half s header r in
-    let s2 : State = after_part half s1 t kinds.State state in
-    let A : List Bytes = head_forms r header in
-    let B : List Bytes = node_forms half s1 t kinds.State [] state in
-    let C : List Bytes = unless_clash (part_outcome half (form_in s1) t kinds.State state) (node_forms half s2 t kinds.Tx [] tx) in
-    record {
-      forms = A ++ B;
-      own = λ form i. (
-        own_form s p t (parts_forms half s t header state tx) form asked
-            (⊎_elim (λ first. Contains-append_left A (unless_clash r (B ++ C)) form first)
-            (λ second. Contains-append_right A (unless_clash r (B ++ C)) form (judged_form r two.head (B ++ C) form two.judged (Contains-append_left B C form second)))
-            (Contains-append_cases A B form i)),
-        ⊎_elim (λ first. head_nonzero half header r form (λ g. (head_stored half (form_in s) t header nonzero g).nonzero) first)
-            (λ second. part_nonzero half sized s1 t kinds.State state form second) (Contains-append_cases A B form i),
-      );
-      same = same_shaded s' _ (two.after ∙ part_forms_are half s1 t kinds.State state ∙ ap (λ (x : State). with_forms half x B) (head_forms_are half s header r) ∙ sym (with_forms-append half s A B));
-    }
 
 -- the reply to a base reply whose parts were judged says them
 parts_after : (half : Half) (s : State) (p : ℕ) (t : Hash) (header : Bytes) (state tx : Option Bytes) (x : Result HeadOffered Clash) (y z : Result (Option Offered) Clash) (r : BaseReply)
@@ -297,11 +229,3 @@ pub base_after : (half : Half) (s s' : State) (p : ℕ) (t : Hash) (header : Byt
     → IfOk r (λ x. s' ≡ after_base half s p t header state tx (says.Base x))
 base_after half s s' p t header state tx (Err e) reply after = tt
 base_after half s s' p t header state tx (Ok x) reply after = after ∙ parts_after half s p t header state tx _ _ _ x reply
-
--- a base reply that was not judged
-pub step_base_refused : (half : Half) (sized : IsHalf half) (s s' : State) (actor p : ℕ) (t : Hash) (header : Bytes) (state tx : Option Bytes) (e : OfferFault) → s.turning ≡ None → IsTrue (is_nonzero t)
-    → IsClashReply (base_reply half s p t header state tx) e → IsAsked s p t → HasSomeParts half s t header state s' → Step half s actor (command.Base p t header state tx) (refusal_of e) [] s'
-step_base_refused half sized s s' actor p t header state tx fault.Memory idle nonzero clash asked parts =
-    record { outcome = (tt, refused_parts half sized s s' actor p t header state tx nonzero asked parts); uses = refl; carries = idle_carries s s' _ idle }
-step_base_refused half sized s s' actor p t header state tx (fault.Clash h old new) idle nonzero clash asked parts =
-    record { outcome = (sym clash, refused_parts half sized s s' actor p t header state tx nonzero asked parts); uses = refl; carries = idle_carries s s' _ idle }

@@ -1,88 +1,183 @@
--- What is stored, for a machine whose written hashes are all that it has.
-use Rattle.std.proofs.Common.{◌≡◌, ◌||◌, ℕ, Bool, true, false, cond, List, [], ◌∷◌, Option, Some, Result, Ok, Err, refl, sym, ap, ◌∙◌}
-use Rattle.std.specs.Prelude.{is_some, IfOk, OnOk}
-use Rattle.std.specs.Ordering.{nat_cmp, eq_by_cmp}
-use Rattle.std.specs.Cmp.Lexicographic.{slice_cmp, nat_list_cmp_total}
+-- The state over a store, as the store changes.
+use Rattle.std.proofs.Common.{◌≡◌, inl, inr, ℕ, List, [], ◌∷◌, Option, None, Some, Result, Ok, Err, refl, sym, ap, ◌∙◌, subst}
+use Rattle.std.specs.Option.{option_or}
+use Rattle.std.specs.Prelude.{Bool, true, false, not, ◌&&◌, is_some, if◌then◌else◌, IfOk, IfErr, OnOk}
 use Rattle.std.specs.FinMap as map
-use Rattle.std.specs.FinMap.{get-insert, contains_key-keys}
 use Rattle.std.specs.FinSet as set
-use Rattle.std.specs.FinSet.{contains-from_list, contains-insert, same_set}
-use Rattle.node_table.proofs.Tables.{hashes_antisymmetric}
+use Rattle.std.specs.FinSet.{contains-difference, same_set}
+use Rattle.std.specs.FinMap.{nat_cmp-IsAntisymmetric, slice_cmp-IsAntisymmetric}
+use Rattle.std.specs.Cmp.Lexicographic.{nat_list_cmp_total}
+use Rattle.rotating_store.proofs.Merging.{contains_hashes}
 use Rattle.ledger_spec.specs.declared.Kind.{Kind}
 use Rattle.ledger_spec.specs.Bytes.{Bytes, Hash, Half, Nodes}
-use Rattle.ledger_spec.specs.Maps.{SetOf, MapOf, hashes_in}
+use Rattle.ledger_spec.specs.Maps.{SetOf, hashes_in, hash_cmp}
 use Rattle.ledger_spec.specs.Wire.{read_wire}
+use Rattle.ledger_spec.specs.Own.{AreStored}
 use Rattle.ledger_spec.specs.declared.outcomes.Offered.{Offered}
 use Rattle.ledger_spec.specs.declared.outcomes.HeadOffered.{HeadOffered}
 use Rattle.ledger_spec.specs.declared.outcomes.HeadOffered.TheVariants as head
-use Rattle.ledger_spec.specs.Offers.{head_forms}
+use Rattle.ledger_spec.specs.Offers.{Clash, head_forms, head_outcome, node_outcome, stored_by}
 use Rattle.ledger_machine.specs.Offers.{after_head, after_node}
-use Rattle.ledger_spec.specs.Offers.{head_outcome, node_outcome, stored_by}
-use Rattle.ledger_machine.specs.State.{State, form_in, with_form, with_forms}
-use Rattle.node_offer.specs.declared.store.OfferFault.{OfferFault}
-use Rattle.node_offer.specs.Stored.{with_node, with_nodes}
+use Rattle.ledger_machine.specs.State.{State, form_in, opening, with_form, with_forms}
+use Rattle.rotating_store.specs.Stores.{Store, merged, nodes_of, born_of, Counted, with_pair}
+use Rattle.rotating_store.proofs.Merging.{get-merged, same_nodes, merged-insert, born_put}
+use Rattle.node_offer.specs.declared.fault.OfferFault.{OfferFault}
+use Rattle.node_offer.specs.declared.fault.OfferFault.TheVariants as fault
+use Rattle.node_offer.specs.Stored as store
+use Rattle.store_core.specs.Desks.{over}
+use Rattle.store_core.specs.Refusals.{Leaves}
 
--- the keys' set has what the map has
-contains_hashes : {X : Type 0} (m : MapOf X) (q : Hash) → set.contains (hashes_in m) q ≡ map.contains_key m q
-contains_hashes m q = contains-from_list nat_list_cmp_total (map.keys m) q ∙ sym (map.contains_key-keys m q)
+-- this is the state over this store
+pub record IsOver (st : Store) (s : State) : Type 0 where
+  pub nodes : s.nodes ≡ nodes_of st
+  pub born : s.born ≡ born_of st
+  pub epoch : s.epoch ≡ st.epoch
 
-some_or : {X : Type 0} (b : Bool) (x : X) (o : Option X) → is_some (cond b (Some x) o) ≡ (b || is_some o)
-some_or true x o = refl
-some_or false x o = refl
+over_self : (st : Store) (s : State) → IsOver st s → over st s ≡ s
+over_self st s is =
+    ap (λ (n : Nodes). record s { nodes = n; born = born_of st; epoch = st.epoch }) (sym is.nodes)
+    ∙ ap (λ (b : SetOf). record s { born = b; epoch = st.epoch }) (sym is.born)
+    ∙ ap (λ n. record s { epoch = n }) (sym is.epoch)
 
-hashes_insert : {X : Type 0} (m : MapOf X) (k : Hash) (x : X) → hashes_in (map.insert m k x) ≡ set.insert (hashes_in m) k
-hashes_insert m k x =
-    same_set nat_list_cmp_total hashes_antisymmetric _ _ (λ q.
-    contains_hashes (map.insert m k x) q ∙ ap is_some (get-insert nat_list_cmp_total m k x q) ∙ some_or (eq_by_cmp (slice_cmp nat_cmp) q k) x (map.get m q)
-    ∙ sym (contains-insert nat_list_cmp_total (hashes_in m) k q ∙ ap (λ (b : Bool). eq_by_cmp (slice_cmp nat_cmp) q k || b) (contains_hashes m q)))
+-- one form more
+one_over : (half : Half) (st : Store) (s : State) (form : Bytes) → with_form half (over st s) form ≡ over (store.with_form half st form) s
+one_over half st s form = at (map.get (nodes_of st) (half form)) refl
+  where
+    at : (o : Option Bytes) → map.get (nodes_of st) (half form) ≡ o
+        → (if is_some o then over st s
+        else record (over st s) { nodes = map.insert (nodes_of st) (half form) form; born = set.insert (born_of st) (half form) })
+        ≡ over (if is_some o then st else with_pair st (half form) form) s
+    at (Some old) e = refl
+    at None e =
+        ap (λ (n : Nodes). record (over st s) { nodes = n; born = set.insert (born_of st) (half form) })
+        (sym (merged-insert st.writable st.archive (half form) form))
+        ∙ ap (λ (b : SetOf). record (over st s) { nodes = nodes_of (with_pair st (half form) form); born = b })
+        (sym (born_put st.writable st.archive (half form) form e))
 
--- the state with these nodes, all of them written in the present epoch
-abbrev pub with_table : State → Nodes → State
-with_table s nodes = record s { nodes = nodes; born = hashes_in nodes }
+all_over : (half : Half) (st : Store) (s : State) (forms : List Bytes)
+    → with_forms half (over st s) forms ≡ over (store.with_forms half st forms) s
+all_over half st s [] = refl
+all_over half st s (form ∷ forms) =
+    ap (λ (x : State). with_forms half x forms) (one_over half st s form) ∙ all_over half (store.with_form half st form) s forms
 
-same_table : (s : State) → s.born ≡ hashes_in s.nodes → s ≡ with_table s s.nodes
-same_table s born = ap (λ (b : SetOf). record s { born = b }) born
+-- but for the counts
+pub same_over : (st st' : Store) (s : State) → IsOver st s → Counted st st' → over st' s ≡ s
+same_over st st' s is e = ap (λ (x : Store). over x s) e ∙ over_self st s is
 
-one_form : (half : Half) (s : State) (form : Bytes) (there : Bool) → s.born ≡ hashes_in s.nodes
-    → cond there s (record s { nodes = map.insert s.nodes (half form) form; born = set.insert s.born (half form) }) ≡ with_table s (cond there s.nodes (map.insert s.nodes (half form) form))
-one_form half s form true born = same_table s born
-one_form half s form false born =
-    ap (λ (b : SetOf). record s { nodes = map.insert s.nodes (half form) form; born = b }) (ap (λ (b : SetOf). set.insert b (half form)) born ∙ sym (hashes_insert s.nodes (half form) form))
+-- these forms are stored
+pub stored_over : (half : Half) (st st' : Store) (s : State) (forms : List Bytes) → IsOver st s → store.HasForms half forms st st'
+    → over st' s ≡ with_forms half s forms
+stored_over half st st' s forms is e =
+    ap (λ (x : Store). over x s) e ∙ sym (all_over half st s forms) ∙ ap (λ (x : State). with_forms half x forms) (over_self st s is)
 
-pub with_form_is : (half : Half) (s : State) (form : Bytes) → s.born ≡ hashes_in s.nodes → with_form half s form ≡ with_table s (with_node half s.nodes form)
-with_form_is half s form born = one_form half s form (is_some (map.get s.nodes (half form))) born
-
-pub with_forms_is : (half : Half) (s : State) (forms : List Bytes) → s.born ≡ hashes_in s.nodes → with_forms half s forms ≡ with_table s (with_nodes half s.nodes forms)
-with_forms_is half s [] born = same_table s born
-with_forms_is half s (form ∷ forms) born =
-    ap (λ (t : State). with_forms half t forms) (with_form_is half s form born) ∙ with_forms_is half (with_table s (with_node half s.nodes form)) forms refl
-
-head_stores : (half : Half) (s : State) (bytes : Bytes) (o : HeadOffered) → after_head half s bytes (Ok o) ≡ with_forms half s (head_forms (Ok o) bytes)
+head_stores : (half : Half) (s : State) (bytes : Bytes) (o : HeadOffered)
+    → after_head half s bytes (Ok o) ≡ with_forms half s (head_forms (Ok o) bytes)
 head_stores half s bytes head.Good = refl
 head_stores half s bytes head.Duplicate = refl
 head_stores half s bytes (head.BadLength n) = refl
 head_stores half s bytes (head.BadHash found) = refl
 
-pub after_head_is : (half : Half) (s : State) (old new : Nodes) (t : Hash) (bytes : Bytes) (r : Result HeadOffered OfferFault) → s.nodes ≡ old → s.born ≡ hashes_in s.nodes
-    → IfOk r (λ o. head_outcome half (map.get old) t bytes ≡ Ok o) → IfOk r (λ o. new ≡ with_nodes half old (head_forms (Ok o) bytes))
-    → OnOk r (record s { nodes = new; born = hashes_in new } ≡ after_head half s bytes (head_outcome half (form_in s) t bytes))
-after_head_is half s old new t bytes (Err f) same born outcome stored = tt
-after_head_is half s old new t bytes (Ok o) same born outcome stored =
-    sym (ap (λ (n : Nodes). after_head half s bytes (head_outcome half (map.get n) t bytes)) same
-    ∙ ap (after_head half s bytes) outcome
-    ∙ head_stores half s bytes o
-    ∙ with_forms_is half s (head_forms (Ok o) bytes) born
-    ∙ ap (λ (n : Nodes). with_table s (with_nodes half n (head_forms (Ok o) bytes))) same
-    ∙ ap (with_table s) (sym stored))
+pub head_outcome_over : (half : Half) (st : Store) (s : State) (t : Hash) (bytes : Bytes) (r : Result HeadOffered OfferFault) → IsOver st s
+    → IfOk r (λ o. head_outcome half (map.get (nodes_of st)) t bytes ≡ Ok o) → IfOk r (λ o. head_outcome half (form_in s) t bytes ≡ Ok o)
+head_outcome_over half st s t bytes (Ok o) is outcome = ap (λ (n : Nodes). head_outcome half (map.get n) t bytes) is.nodes ∙ outcome
+head_outcome_over half st s t bytes (Err e) is outcome = tt
 
-pub after_node_is : (half : Half) (s : State) (old new : Nodes) (t : Hash) (kind : Kind) (path : List ℕ) (blob : Bytes) (r : Result Offered OfferFault) → s.nodes ≡ old → s.born ≡ hashes_in s.nodes
-    → IfOk r (λ o. node_outcome half (map.get old) t kind path blob ≡ Ok o) → IfOk r (λ o. new ≡ with_nodes half old (stored_by (read_wire half blob) (Ok o)))
-    → OnOk r (record s { nodes = new; born = hashes_in new } ≡ after_node half s t kind path blob)
-after_node_is half s old new t kind path blob (Err f) same born outcome stored = tt
-after_node_is half s old new t kind path blob (Ok o) same born outcome stored =
-    let forms : List Bytes = stored_by (read_wire half blob) (Ok o) in
-    sym (ap (λ (n : Nodes). with_forms half s (stored_by (read_wire half blob) (node_outcome half (map.get n) t kind path blob))) same
-    ∙ ap (λ r. with_forms half s (stored_by (read_wire half blob) r)) outcome
-    ∙ with_forms_is half s forms born
-    ∙ ap (λ (n : Nodes). with_table s (with_nodes half n forms)) same
-    ∙ ap (with_table s) (sym stored))
+pub head_after_over : (half : Half) (st st' : Store) (s : State) (t : Hash) (bytes : Bytes) (r : Result HeadOffered OfferFault)
+    → IsOver st s
+    → IfOk r (λ o. head_outcome half (map.get (nodes_of st)) t bytes ≡ Ok o) → IfOk r (λ o. store.HasForms half (head_forms (Ok o) bytes) st st')
+    → OnOk r (over st' s ≡ after_head half s bytes (head_outcome half (form_in s) t bytes))
+head_after_over half st st' s t bytes (Ok o) is outcome stored =
+    stored_over half st st' s (head_forms (Ok o) bytes) is stored ∙ sym (head_stores half s bytes o)
+    ∙ ap (after_head half s bytes) (sym (head_outcome_over half st s t bytes (Ok o) is outcome))
+head_after_over half st st' s t bytes (Err e) is outcome stored = tt
+
+pub node_outcome_over : (half : Half) (st : Store) (s : State) (t : Hash) (kind : Kind) (path : List ℕ) (blob : Bytes) (r : Result Offered OfferFault)
+    → IsOver st s → IfOk r (λ o. node_outcome half (map.get (nodes_of st)) t kind path blob ≡ Ok o)
+    → IfOk r (λ o. node_outcome half (form_in s) t kind path blob ≡ Ok o)
+node_outcome_over half st s t kind path blob (Ok o) is outcome =
+    ap (λ (n : Nodes). node_outcome half (map.get n) t kind path blob) is.nodes ∙ outcome
+node_outcome_over half st s t kind path blob (Err e) is outcome = tt
+
+pub node_after_over : (half : Half) (st st' : Store) (s : State) (t : Hash) (kind : Kind) (path : List ℕ) (blob : Bytes)
+    (r : Result Offered OfferFault) → IsOver st s → IfOk r (λ o. node_outcome half (map.get (nodes_of st)) t kind path blob ≡ Ok o)
+    → IfOk r (λ o. store.HasForms half (stored_by (read_wire half blob) (Ok o)) st st')
+    → OnOk r (over st' s ≡ after_node half s t kind path blob)
+node_after_over half st st' s t kind path blob (Ok o) is outcome stored =
+    stored_over half st st' s (stored_by (read_wire half blob) (Ok o)) is stored
+    ∙ ap (λ w. with_forms half s (stored_by (read_wire half blob) w)) (sym (node_outcome_over half st s t kind path blob (Ok o) is outcome))
+node_after_over half st st' s t kind path blob (Err e) is outcome stored = tt
+
+-- what a refused part leaves
+leaves_over : {X : Type 0} (half : Half) (st st' : Store) (s : State) (o : Result X Clash) (forms : List Bytes) (e : OfferFault)
+    → IsOver st s
+    → store.Refuses half o forms st e st' → Leaves half o forms s e (over st' s)
+leaves_over half st st' s o forms (fault.Clash h old new) is r = (r.0, same_over st st' s is r.1)
+leaves_over half st st' s o forms fault.Fault is (inl same) = inl (same_over st st' s is same)
+leaves_over half st st' s o forms fault.Fault is (inr stored) = inr (stored_over half st st' s forms is stored)
+leaves_over half st st' s o forms fault.Memory is (inl same) = inl (same_over st st' s is same)
+leaves_over half st st' s o forms fault.Memory is (inr stored) = inr (stored_over half st st' s forms is stored)
+
+pub head_leaves_over : (half : Half) (st st' : Store) (s : State) (t : Hash) (bytes : Bytes) (r : Result HeadOffered OfferFault)
+    → IsOver st s
+    → IfErr r (λ e. store.Refuses half (head_outcome half (map.get (nodes_of st)) t bytes) (head_forms (head_outcome half (map.get (nodes_of st)) t bytes) bytes) st e st')
+    → IfErr r (λ e. Leaves half (head_outcome half (form_in s) t bytes) (head_forms (head_outcome half (form_in s) t bytes) bytes) s e (over st' s))
+head_leaves_over half st st' s t bytes (Ok o) is left = tt
+head_leaves_over half st st' s t bytes (Err e) is left =
+    subst (λ (n : Nodes). Leaves half (head_outcome half (map.get n) t bytes) (head_forms (head_outcome half (map.get n) t bytes) bytes) s e (over st' s))
+    (sym is.nodes)
+    (leaves_over {X = HeadOffered} half st st' s (head_outcome half (map.get (nodes_of st)) t bytes)
+    (head_forms (head_outcome half (map.get (nodes_of st)) t bytes) bytes) e is left)
+
+pub node_leaves_over : (half : Half) (st st' : Store) (s : State) (t : Hash) (kind : Kind) (path : List ℕ) (blob : Bytes)
+    (r : Result Offered OfferFault) → IsOver st s
+    → IfErr r (λ e. store.Refuses half (node_outcome half (map.get (nodes_of st)) t kind path blob)
+    (stored_by (read_wire half blob) (node_outcome half (map.get (nodes_of st)) t kind path blob)) st e st')
+    → IfErr r (λ e. Leaves half (node_outcome half (form_in s) t kind path blob)
+    (stored_by (read_wire half blob) (node_outcome half (form_in s) t kind path blob)) s e (over st' s))
+node_leaves_over half st st' s t kind path blob (Ok o) is left = tt
+node_leaves_over half st st' s t kind path blob (Err e) is left =
+    subst (λ (n : Nodes). Leaves half (node_outcome half (map.get n) t kind path blob)
+    (stored_by (read_wire half blob) (node_outcome half (map.get n) t kind path blob)) s e (over st' s))
+    (sym is.nodes)
+    (leaves_over {X = Offered} half st st' s (node_outcome half (map.get (nodes_of st)) t kind path blob)
+    (stored_by (read_wire half blob) (node_outcome half (map.get (nodes_of st)) t kind path blob)) e is left)
+
+pub filed_over : (half : Half) (st : Store) (s : State) → IsOver st s → AreStored half (form_in s) → AreStored half (map.get (nodes_of st))
+filed_over half st s is all = subst (λ (n : Nodes). AreStored half (map.get n)) is.nodes all
+
+-- nothing was born where nothing is held
+abbrev none : Nodes
+none = map.empty
+
+unheld : (q : Hash) → set.contains (hashes_in none) q ≡ false
+unheld q = contains_hashes none q ∙ ap is_some (map.get-empty hash_cmp q)
+
+and_true : (b : Bool) → (b && true) ≡ b
+and_true true = refl
+and_true false = refl
+
+or_none : {X : Type 0} (o : Option X) → option_or o None ≡ o
+or_none None = refl
+or_none (Some x) = refl
+
+-- all that the writable backend alone holds was born
+all_born : (m : Nodes) → set.difference (hashes_in m) (hashes_in none) ≡ hashes_in m
+all_born m = same_set nat_list_cmp_total (slice_cmp-IsAntisymmetric nat_cmp-IsAntisymmetric) _ _ (λ q.
+    contains-difference nat_list_cmp_total _ _ q ∙ ap (λ (b : Bool). set.contains (hashes_in m) q && not b) (unheld q)
+    ∙ and_true (set.contains (hashes_in m) q))
+
+-- and it is all that is held
+all_held : (m : Nodes) → merged m none ≡ m
+all_held m = same_nodes _ _ (λ q.
+    get-merged m none q ∙ ap (option_or (map.get m q)) (map.get-empty hash_cmp q) ∙ or_none (map.get m q))
+
+-- the opening state over a store whose writable backend alone holds something
+pub over_open : (st : Store) (interval : ℕ) (records : Nodes) → st.writable ≡ records → st.archive ≡ map.empty → st.epoch ≡ 0
+    → over st (opening map.empty interval) ≡ opening records interval
+over_open st interval records writable archive epoch =
+    over_self st (opening records interval) (record {
+      nodes = sym (ap (λ (m : Nodes). merged m st.archive) writable ∙ ap (merged records) archive ∙ all_held records);
+      born = sym (ap (λ (m : Nodes). set.difference (hashes_in m) (hashes_in st.archive)) writable
+          ∙ ap (λ (m : Nodes). set.difference (hashes_in records) (hashes_in m)) archive ∙ all_born records);
+      epoch = sym epoch;
+    })

@@ -4,6 +4,8 @@ use Rattle.std.specs.Prelude.{length, take, slice_index, slice_index_or}
 use Rattle.std.specs.List.{All, Contains}
 use Rattle.ledger_spec.specs.Bytes.{Hash, Half}
 use Rattle.ledger_machine.specs.declared.commands.Line.{Line}
+use Rattle.ledger_machine.specs.declared.commands.Record.{Record}
+use Rattle.ledger_machine.specs.Records.{AreRecords}
 use Rattle.ledger_machine.specs.declared.journal.Entry.{Entry}
 use Rattle.ledger_machine.specs.declared.replies.Reply.{Reply}
 use Rattle.ledger_machine.specs.declared.replies.Reply.TheVariants as says
@@ -17,15 +19,25 @@ use Rattle.ledger_machine.specs.Collisions.{IsClash, Collides, offered_in}
 use Rattle.run_io.specs.Bytes.{Rose}
 use Rattle.script_form.specs.Servable.{AreServable}
 
--- what contracts see of a core: its script's lines, the interval, the store's count of faults at opening and now, the journal, and the
--- state
+-- what contracts see of a core: its script's records and lines, the interval, the store's count of faults at opening and now, how many
+-- calls for a stored record failed, the journal, and the state
 pub record CoreView : Type 0 where
+  pub records : List Record
   pub lines : List Line
   pub interval : ℕ
   pub opened : ℕ
   pub faults : ℕ
+  pub missed : ℕ
   pub journal : List Entry
   pub state : State
+
+-- a core of this script that has answered nothing and missed nothing
+pub record IsNew (script : List Record) (asked : List Line) (every : ℕ) (c : CoreView) : Type 0 where
+  pub records : c.records ≡ script
+  pub lines : c.lines ≡ asked
+  pub interval : c.interval ≡ every
+  pub journal : c.journal ≡ []
+  pub missed : c.missed ≡ 0
 
 -- how many entries answered `fault`
 abbrev pub fault_count : Reply → ℕ
@@ -40,22 +52,24 @@ faults_in (e ∷ es) = fault_count e.reply + faults_in es
 abbrev pub RoseBy : ℕ → ℕ → ℕ → Type 0
 RoseBy n before now = (before + n ≤ now) ⊎ (2 ^ 64 - 1 ≤ now)
 
--- What a core keeps: where its store tells what it holds, its journal is a run that led to a sound state, and no more ledgers are
+-- What a core keeps: where its store tells what it holds, its journal is a run that led to a sound state; no more ledgers are
 -- listed than it has entries; each actor's cursor stands behind the lines that it has answered, and no entry before that of the line
--- that it waits for; the journal has room for an entry of each line; and each `fault` has a rise of the store's count of its own.
-pub record CoreKeeps (half : Half) (lines : List Line) (cursors : List ℕ) (journal : List Entry) (capacity interval : ℕ) (told : Bool)
-    (opened now : ℕ) (state : State) : Type 0 where
-  pub run : IsTrue told → IsRunOf half lines interval journal state
+-- that it waits for; the journal has room for an entry of each line; and each `fault`, and each call for a stored record that failed, has
+-- a rise of the store's count of its own.
+pub record CoreKeeps (half : Half) (records : List Record) (lines : List Line) (cursors : List ℕ) (journal : List Entry)
+    (capacity interval : ℕ) (told : Bool) (opened now missed : ℕ) (state : State) : Type 0 where
+  pub run : IsTrue told → IsRunOf half records lines interval journal state
   pub sound : IsTrue told → Sound half state
-  pub listed_few : IsTrue told → length state.listed ≤ length journal
+  pub listed_few : length state.listed ≤ length journal
   pub cursor_count : length cursors ≡ actors
   pub behind : (a : ℕ) → a < actors → slice_index cursors a ≤ length lines
   pub done : (a : ℕ) → a < actors → answered_by a journal ≡ numbers_of a (take (slice_index cursors a) lines)
   pub waits : Waits lines [] journal
   pub known : All (λ e. e.actor < actors) journal
   pub servable : AreServable lines
+  pub recorded : AreRecords half records
   pub room : length lines ≤ capacity
-  pub fault_bound : RoseBy (faults_in journal) opened now
+  pub fault_bound : RoseBy (faults_in journal + missed) opened now
 
 -- One entry more, for this actor's next line and by a step of it. The store's count of faults never falls, and the entry answers `fault`
 -- only where the count rose in this very section.
@@ -67,10 +81,12 @@ pub record Advances (half : Half) (told : Bool) (old : CoreView) (a : ℕ) (new 
   pub number : entry.line ≡ line.number
   pub actor : entry.actor ≡ a
   pub journal : new.journal ≡ old.journal ++ entry ∷ []
-  -- the script, the interval and the count at opening are as before
+  -- the script, the interval, the count at opening and what was missed are as before
+  pub records : new.records ≡ old.records
   pub lines : new.lines ≡ old.lines
   pub interval : new.interval ≡ old.interval
   pub opened : new.opened ≡ old.opened
+  pub missed : new.missed ≡ old.missed
   -- the count of faults, and the cause of a `fault`
   pub later : old.faults ≤ new.faults
   pub cause : entry.reply ≡ says.Fault → Rose old.faults new.faults
@@ -79,30 +95,33 @@ pub record Advances (half : Half) (told : Bool) (old : CoreView) (a : ℕ) (new 
 
 -- a core's journal is a run of its script to its state
 abbrev pub IsRun : Half → CoreView → Type 0
-IsRun half c = IsRunOf half c.lines c.interval c.journal c.state
+IsRun half c = IsRunOf half c.records c.lines c.interval c.journal c.state
 
 -- What holds of a core each time that it is given back, where its store tells what it holds.
-pub record IsJournal (half : Half) (c : CoreView) : Type 0 where
+pub record IsMachineRun (half : Half) (c : CoreView) : Type 0 where
   -- the journal is a run of the store machine from the script's opening to the actual state
   pub run : IsRun half c
-  -- each actor's entries are for its first lines, in order, each once, and none stands before that of the line that it waits for
-  pub projects : Projects c.lines c.journal
   -- each check is complete exactly where the ledger is, in the state before it
-  pub checks : (along : IsRun half c) → AreExact half c.lines (opening_of c.lines c.interval) c.journal c.state along
+  pub checks : (along : IsRun half c) → AreExact half c.lines (opening_of c.records c.interval) c.journal c.state along
   -- what an answer says was received for a target stays, as long as the target is open or its ledger retained
-  pub received : (along : IsRun half c) → AllStay half c.lines (opening_of c.lines c.interval) c.journal c.state along
+  pub received : (along : IsRun half c) → AllStay half c.lines (opening_of c.records c.interval) c.journal c.state along
   -- each form is stored under its own hash, and each retained ledger is whole
   pub sound : Sound half c.state
   -- nothing that a retained ledger reaches is absent
   pub present : (t : Hash) → Contains (retained c.state) t → IsAllStored (form_in c.state) t
   -- a clash shows two different forms that the script offers, with one hash
-  pub clashes : (e : Entry) → Contains c.journal e → IsClash e.reply → Collides half (offered_in half c.lines)
+  pub clashes : (e : Entry) → Contains c.journal e → IsClash e.reply → Collides half (offered_in half c.records c.lines)
+
+-- What holds of a core each time that it is given back; `told` says whether its store tells what it holds.
+pub record IsJournal (half : Half) (told : Bool) (c : CoreView) : Type 0 where
+  -- where it does, the journal is a run of the store machine
+  pub machine : IsTrue told → IsMachineRun half c
+  -- each actor's entries are for its first lines, in order, each once, and none stands before that of the line that it waits for
+  pub projects : Projects c.lines c.journal
   -- each entry is of a known actor
   pub known : All (λ e. e.actor < actors) c.journal
-  -- each `fault` has a rise of the store's count of its own
-  pub faults : RoseBy (faults_in c.journal) c.opened c.faults
-  -- the store in memory never fails
-  pub no_fault : faults_in c.journal ≡ 0
+  -- each `fault`, and each call for a stored record that failed, has a rise of the store's count of its own
+  pub faults : RoseBy (faults_in c.journal + c.missed) c.opened c.faults
 
 -- the first line of the actor from a place on is at this place
 pub record IsNext (lines : List Line) (from a at : ℕ) : Type 0 where

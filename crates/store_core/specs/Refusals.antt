@@ -1,46 +1,54 @@
 -- What stands where an offer was not judged, or a peer is asked.
-use Rattle.std.specs.Prelude.{◌≡◌, ◌⊎◌, ℕ, true, Option, None, Some, IsSomeAnd, Ok, List}
+use Rattle.std.specs.Prelude.{◌≡◌, ◌⊎◌, ℕ, true, Option, None, Some, IsSomeAnd, Err, Result, List}
+use Rattle.std.specs.List.{Contains}
 use Rattle.ledger_spec.specs.Maps.{hash_cmp, get_in}
-use Rattle.ledger_spec.specs.declared.outcomes.HeadOffered.{HeadOffered}
 use Rattle.ledger_spec.specs.declared.Place.{Place}
-use Rattle.ledger_spec.specs.declared.Kind.TheVariants as kinds
 use Rattle.ledger_spec.specs.Bytes.{Bytes, Hash, Half}
-use Rattle.node_offer.specs.declared.store.OfferFault.{OfferFault}
-use Rattle.node_offer.specs.declared.store.OfferFault.TheVariants as fault
+use Rattle.ledger_spec.specs.Offers.{Clash}
+use Rattle.node_offer.specs.declared.fault.OfferFault.{OfferFault}
+use Rattle.node_offer.specs.declared.fault.OfferFault.TheVariants as fault
+use Rattle.missing_walk.specs.declared.fault.SearchFault.{SearchFault}
+use Rattle.missing_walk.specs.declared.fault.SearchFault.TheVariants as search
 use Rattle.ledger_machine.specs.declared.replies.CheckReply.{CheckReply}
 use Rattle.ledger_machine.specs.declared.replies.CheckReply.TheVariants as check
 use Rattle.ledger_machine.specs.declared.replies.Reply.{Reply}
 use Rattle.ledger_machine.specs.declared.replies.Reply.TheVariants as says
-use Rattle.ledger_machine.specs.State.{State, Acquisition, form_in}
-use Rattle.ledger_machine.specs.Offers.{after_head}
-use Rattle.ledger_spec.specs.Offers.{head_outcome}
-use Rattle.ledger_machine.specs.Base.{is_present, after_part}
+use Rattle.ledger_machine.specs.State.{State, Acquisition, with_forms}
+use Rattle.ledger_machine.specs.Base.{is_present}
 use Rattle.ledger_machine.specs.Check.{missing_reply}
 
 -- the reply of a fault
 abbrev pub refusal_of : OfferFault → Reply
+refusal_of fault.Fault = says.Fault
 refusal_of (fault.Clash h old new) = says.Clash h old new
 refusal_of fault.Memory = says.Memory
 
--- a clash is what the machine says, and want of memory tells nothing of it
-abbrev pub IsClashReply : Reply → OfferFault → Type 0
-IsClashReply reply (fault.Clash h old new) = reply ≡ says.Clash h old new
-IsClashReply reply fault.Memory = Unit {0}
+abbrev pub search_refusal : SearchFault → Reply
+search_refusal search.Fault = says.Fault
+search_refusal search.Memory = says.Memory
+
+-- A part has no outcome: a clash is the outcome, and stores nothing; after a fault, or for want of memory, nothing is stored, or what
+-- the outcome stores.
+abbrev pub Leaves : {X : Type 0} → Half → Result X Clash → List Bytes → State → OfferFault → State → Type 0
+Leaves half outcome forms s (fault.Clash h old new) s' = (outcome ≡ Err (record { hash = h; old = old; new = new })) × (s' ≡ s)
+Leaves half outcome forms s fault.Fault s' = (s' ≡ s) ⊎ (s' ≡ with_forms half s forms)
+Leaves half outcome forms s fault.Memory s' = (s' ≡ s) ⊎ (s' ≡ with_forms half s forms)
+
+-- some of these forms are stored, and nothing else has changed
+pub record HasSome (half : Half) (forms : List Bytes) (s s' : State) : Type 0 where
+  pub taken : List Bytes
+  pub among : (form : Bytes) → Contains taken form → Contains forms form
+  pub after : s' ≡ with_forms half s taken
+
+-- a command isn't judged to its end: a clash is its reply, and at most some of the forms are stored
+abbrev pub Refuses : Half → Reply → List Bytes → State → OfferFault → State → Type 0
+Refuses half reply forms s (fault.Clash h old new) s' = (reply ≡ says.Clash h old new) × HasSome half forms s s'
+Refuses half reply forms s fault.Fault s' = HasSome half forms s s'
+Refuses half reply forms s fault.Memory s' = HasSome half forms s s'
 
 -- the peer is present in the open acquisition
 abbrev pub IsAsked : State → ℕ → Hash → Type 0
 IsAsked s p t = IsSomeAnd (get_in hash_cmp s.wanted t) (λ a. is_present p a ≡ true)
-
--- the header and the state root of a base reply were judged, and are stored where they are good
-pub record HasTwoParts (half : Half) (s : State) (t : Hash) (header : Bytes) (state : Option Bytes) (s' : State) : Type 0 where
-  pub head : HeadOffered
-  pub judged : head_outcome half (form_in s) t header ≡ Ok head
-  pub after : s' ≡ after_part half (after_head half s header (head_outcome half (form_in s) t header)) t kinds.State state
-
--- no part of a base reply was judged, or the header, or the header and the state root
-abbrev pub HasSomeParts : Half → State → Hash → Bytes → Option Bytes → State → Type 0
-HasSomeParts half s t header state s' =
-    (s' ≡ s) ⊎ ((s' ≡ after_head half s header (head_outcome half (form_in s) t header)) ⊎ HasTwoParts half s t header state s')
 
 -- what an acquisition answers where these places are missing
 abbrev pub asked_reply : Option Acquisition → List Place → CheckReply

@@ -4,6 +4,7 @@
 mod acquire;
 mod header;
 mod machine;
+mod records;
 mod store;
 
-pub use store::{Core, Stepped};
+pub use store::{Core, OpenFault, Stepped};

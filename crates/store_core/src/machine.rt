@@ -1,34 +1,41 @@
 //! The state that the commands act on, over tables in memory.
-ghost use Rattle.std.specs.Prelude.{◌≡◌, ◌≢◌, ◌<◌, [], ℕ, IsTrue, OnOk, OnErr, IfOk, IfErr, IfSome, Ok, None, length};
+ghost use Rattle.std.specs.Prelude.{◌≡◌, ◌≢◌, ◌<◌, ◌≤◌, [], ℕ, IsTrue, OnOk, OnErr, IfOk, IfErr, IfSome, IsSome, Ok, None, Some, length};
 ghost use Rattle.std.specs.FinMap as map;
-ghost use Rattle.ledger_spec.specs.Bytes.{is_nonzero};
 ghost use Rattle.ledger_spec.specs.Maps.{hash_cmp, get_in};
-ghost use Rattle.node_offer.specs.Stored.{HasClash};
+ghost use Rattle.ledger_spec.specs.Header.{header_bytes};
+ghost use Rattle.ledger_header.specs.Fields.{fields, Reads};
+ghost use Rattle.run_io.specs.Bytes.{Rose};
 ghost use Rattle.ledger_machine.specs.State.{opening, form_in, stored_seq, with_wanted};
-ghost use Rattle.ledger_machine.specs.Scripts.{IsInRange};
+ghost use Rattle.ledger_machine.specs.Scripts.{AreBytes, AreOffered, IsInRange};
 ghost use Rattle.ledger_machine.specs.Offers.{after_head, after_node};
-ghost use Rattle.ledger_spec.specs.Offers.{head_outcome, node_outcome};
+ghost use Rattle.ledger_spec.specs.Offers.{head_outcome, head_forms, node_outcome};
 ghost use Rattle.ledger_machine.specs.Base.{part_outcome, after_part, base_outcomes, after_parts, base_reply, after_base};
-ghost use Rattle.ledger_machine.specs.Base.{node_reply, after_offer};
+ghost use Rattle.ledger_machine.specs.Base.{node_reply, after_offer, node_forms, parts_forms};
 ghost use Rattle.script_form.specs.Servable.{IsServed};
 ghost use Rattle.ledger_machine.specs.Want.{want_reply, after_want};
 ghost use Rattle.ledger_machine.specs.Peer.{peer_reply, after_peer};
 ghost use Rattle.ledger_machine.specs.Check.{check_reply, after_check, after_ask};
 ghost use Rattle.ledger_machine.specs.Ticks.{tick_reply, after_tick};
 ghost use Rattle.ledger_machine.specs.Steps.{Step};
-ghost use Rattle.store_core.specs.Refusals.{IsClashReply, IsAsked, HasSomeParts, refusal_of, asked_reply};
+ghost use Rattle.std.specs.Option.{option_copied};
+ghost use Rattle.store_core.specs.Desks.{IsFiled, Stays, Grows, OnlyReads, over};
+ghost use Rattle.store_core.specs.Dumping.{IsNextRecord, Follows};
+ghost use Rattle.store_core.specs.Finding.{found_reply, found_seq};
+ghost use Rattle.store_core.specs.Refusals.{Leaves, Refuses, IsAsked, refusal_of, search_refusal, asked_reply};
 
 use crate::acquire::Acquire;
-use crate::header::{head_fault, stored_seq as seq_in};
+use crate::header::{head_fault, seq_in};
+use crate::records::next_record;
 use half_hash::{Blob, Hash32, Memory, NodeHash, known_half};
 use ledger_machine::{
-    BaseReply, CheckReply, Command, HeadOffered, NodeReply, Offered, PeerReply, Reply, TickReply,
-    WantReply,
+    BaseReply, CheckReply, Command, HeadOffered, NodeReply, Offered, PeerReply, Record, Reply,
+    TickReply, WantReply,
 };
-use missing_walk::{Found, whole};
+use missing_walk::{Found, SearchFault, whole};
 use nib_path::NodeId;
+use node_backend::{BackFault, Shelf};
 use node_offer::{OfferFault, offer, offer_header};
-use node_table::NodeTable;
+use rotating_store::RotStore;
 use shamap_node::{Kind, Place};
 use std::alloc::Global;
 use std::collections::BTreeMap;
@@ -41,9 +48,9 @@ const LAST_TICK: u8 = 6;
 const MOST_WANTED: usize = 64;
 
 #[derive(Drop)]
-pub(crate) struct Machine<H: NodeHash> {
+pub(crate) struct Machine<H: NodeHash, Sh: Shelf> {
     hash: H,
-    nodes: NodeTable,
+    store: RotStore<Sh>,
     wanted: BTreeMap<Hash32, Acquire>,
     listed: BTreeMap<Hash32, u32>,
     floor: u32,
@@ -51,41 +58,45 @@ pub(crate) struct Machine<H: NodeHash> {
     interval: u32,
 }
 
-impl<H: NodeHash> Model for Machine<H> {
-    ghost use Rattle.std.specs.Prelude.{◌≡◌, [], None};
+impl<H: NodeHash, Sh: Shelf> Model for Machine<H, Sh> {
+    ghost use Rattle.std.specs.Prelude.{[], None};
     ghost use Rattle.std.specs.Coded.{codes};
-    ghost use Rattle.std.specs.FinMap as map;
-    ghost use Rattle.ledger_spec.specs.Maps.{map_code, set_code, hashes_in};
-    ghost use Rattle.ledger_machine.specs.State.{State};
+    ghost use Rattle.ledger_spec.specs.Maps.{map_code, set_code};
+    ghost use Rattle.rotating_store.specs.Stores.{nodes_of, born_of};
+    ghost use Rattle.store_core.specs.Desks.{Desk};
 
-    ghost Value = { State };
+    ghost Value = { Desk };
 
     ghost coded = { Prim.hlevel (codes, map_code, set_code) };
 
     ghost view = { λ m. record {
-      nodes = m.nodes;
-      born = hashes_in m.nodes;
-      epoch = 0;
-      listed = m.listed.entries;
-      wanted = m.wanted.entries;
-      views = [];
-      sessions = [];
-      floor = m.floor;
-      last = m.last;
-      interval = m.interval;
-      turning = None;
-      shaded = [];
+      state = record {
+        nodes = nodes_of m.store;
+        born = born_of m.store;
+        epoch = m.store.epoch;
+        listed = m.listed.entries;
+        wanted = m.wanted.entries;
+        views = [];
+        sessions = [];
+        floor = m.floor;
+        last = m.last;
+        interval = m.interval;
+        turning = None;
+        shaded = [];
+      };
+      faults = m.store.faults;
     } };
 }
 
-impl<H: NodeHash> Machine<H> {
-    /// The opening state, without records.
-    pub(crate) fn new(alloc: Global, hash: H, interval: u32) -> Machine<H>
-        ensures { result ≡ opening map.empty interval }
+impl<H: NodeHash, Sh: Shelf> Machine<H, Sh> {
+    /// The opening state over a store: the tables are empty, and what the store holds is there.
+    pub(crate) fn new(alloc: Global, hash: H, interval: u32, store: RotStore<Sh>) -> Machine<H, Sh>
+        ensures state { result.state ≡ over store (opening map.empty interval) }
+        ensures faults { result.faults ≡ store.faults }
     {
         Machine {
             hash,
-            nodes: NodeTable::new(alloc),
+            store,
             wanted: BTreeMap::new(alloc),
             listed: BTreeMap::new(alloc),
             floor: 0,
@@ -96,36 +107,65 @@ impl<H: NodeHash> Machine<H> {
 
     /// What stands at its opening value.
     pub(crate) fn known(&self)
-        ensures idle { self.now.turning ≡ None }
-        ensures first_epoch { self.now.epoch ≡ 0 }
+        ensures { self.now.state.turning ≡ None }
     {
         let _ = &self.floor;
     }
 
     /// How many ledgers are listed.
     pub(crate) fn listed(&self) -> usize
-        ensures { result ≡ length self.now.listed }
+        ensures { result ≡ length self.now.state.listed }
     {
         self.listed.len()
     }
 
     pub(crate) fn floor(&self) -> u32
-        ensures { result ≡ self.now.floor }
+        ensures { result ≡ self.now.state.floor }
     {
         self.floor
     }
 
     pub(crate) fn last(&self) -> Option<u32>
-        ensures { result ≡ self.now.last }
+        ensures { result ≡ self.now.state.last }
     {
         self.last
     }
 
+    pub(crate) fn epoch(&self) -> u64
+        ensures { result ≡ self.now.state.epoch }
+    {
+        self.store.epoch()
+    }
+
+    /// How often the devices of the store failed.
+    pub(crate) fn faults(&self) -> u64
+        ensures { result ≡ self.now.faults }
+    {
+        self.store.faults()
+    }
+
+    /// The next stored record after a hash, or the first one.
+    pub(crate) fn next_stored(
+        &mut self,
+        alloc: Global,
+        after: Option<&Hash32>,
+    ) -> Result<Option<Record>, BackFault>
+        requires { IsFiled H.half Sh.B.tells self.old.state }
+        ensures next { IsTrue Sh.B.tells → IfOk result (IsNextRecord self.old.state.nodes (option_copied after.entry)) }
+        ensures follows { IfOk result (λ r. IfSome r (λ r. Follows (option_copied after.entry) r.hash)) }
+        ensures reads { OnlyReads Sh.B.tells self.old self.new }
+        ensures fault { IfErr result (λ e. e ≡ BackFault.Fault → Rose self.old.faults self.new.faults) }
+    {
+        let next = next_record::<H, Sh>(alloc, &mut self.store, after)?;
+        Ok(next)
+    }
+
     /// Opens an acquisition.
     fn want(&mut self, alloc: Global, target: &Hash32, seq: u32) -> Result<WantReply, Memory>
-        ensures reply { IfOk result (λ r. r ≡ want_reply self.old target.now seq) }
-        ensures after { IfOk result (λ r. self.new ≡ after_want self.old target.now seq r) }
+        ensures reply { IfOk result (λ r. r ≡ want_reply self.old.state target.now seq) }
+        ensures after { IfOk result (λ r. self.new.state ≡ after_want self.old.state target.now seq r) }
         ensures err { OnErr result (self.new ≡ self.old) }
+        ensures faults { self.new.faults ≡ self.old.faults }
     {
         if self.listed.contains_key(target) {
             return Ok(WantReply::Listed);
@@ -145,9 +185,10 @@ impl<H: NodeHash> Machine<H> {
 
     /// Adds a peer to an acquisition.
     fn peer(&mut self, peer: u16, target: &Hash32) -> Result<PeerReply, Memory>
-        ensures reply { IfOk result (λ r. r ≡ peer_reply self.old peer target.now) }
-        ensures after { IfOk result (λ r. self.new ≡ after_peer self.old peer target.now r) }
+        ensures reply { IfOk result (λ r. r ≡ peer_reply self.old.state peer target.now) }
+        ensures after { IfOk result (λ r. self.new.state ≡ after_peer self.old.state peer target.now r) }
         ensures err { OnErr result (self.new ≡ self.old) }
+        ensures faults { self.new.faults ≡ self.old.faults }
     {
         let Some(acquire) = self.wanted.get_mut(target) else {
             return Ok(PeerReply::NotOpen);
@@ -166,13 +207,17 @@ impl<H: NodeHash> Machine<H> {
         target: &Hash32,
         header: &Blob,
     ) -> Result<HeadOffered, OfferFault>
-        ensures outcome { IfOk result (λ o. head_outcome H.half (form_in self.old) target.now header.now ≡ Ok o) }
-        ensures after { OnOk result (self.new
-            ≡ after_head H.half self.old header.now (head_outcome H.half (form_in self.old) target.now header.now)) }
-        ensures clash { IfErr result (HasClash (head_outcome H.half (form_in self.old) target.now header.now)) }
-        ensures err { OnErr result (self.new ≡ self.old) }
+        ensures outcome { IsTrue Sh.B.tells
+            → IfOk result (λ o. head_outcome H.half (form_in self.old.state) target.now header.now ≡ Ok o) }
+        ensures after { IsTrue Sh.B.tells → OnOk result (self.new.state
+            ≡ after_head H.half self.old.state header.now (head_outcome H.half (form_in self.old.state) target.now header.now)) }
+        ensures err { IsTrue Sh.B.tells → IfErr result (λ e.
+            Leaves H.half (head_outcome H.half (form_in self.old.state) target.now header.now)
+            (head_forms (head_outcome H.half (form_in self.old.state) target.now header.now) header.now) self.old.state e self.new.state) }
+        ensures stays { Stays self.old self.new }
+        ensures fault { IfErr result (λ e. e ≡ OfferFault.Fault → Rose self.old.faults self.new.faults) }
     {
-        offer_header::<H>(alloc, &mut self.nodes, target, header.bytes())
+        offer_header::<H, Sh>(alloc, &mut self.store, target, header.bytes())
     }
 
     /// Judges the node that a peer offers for a place, and stores it where it is wanted.
@@ -184,12 +229,18 @@ impl<H: NodeHash> Machine<H> {
         id: &NodeId,
         blob: &Blob,
     ) -> Result<Offered, OfferFault>
-        ensures outcome { IfOk result (λ o. node_outcome H.half (form_in self.old) target.now kind id.now blob.now ≡ Ok o) }
-        ensures after { OnOk result (self.new ≡ after_node H.half self.old target.now kind id.now blob.now) }
-        ensures clash { IfErr result (HasClash (node_outcome H.half (form_in self.old) target.now kind id.now blob.now)) }
-        ensures err { OnErr result (self.new ≡ self.old) }
+        requires { IsFiled H.half Sh.B.tells self.old.state }
+        ensures outcome { IsTrue Sh.B.tells
+            → IfOk result (λ o. node_outcome H.half (form_in self.old.state) target.now kind id.now blob.now ≡ Ok o) }
+        ensures after { IsTrue Sh.B.tells
+            → OnOk result (self.new.state ≡ after_node H.half self.old.state target.now kind id.now blob.now) }
+        ensures err { IsTrue Sh.B.tells → IfErr result (λ e.
+            Leaves H.half (node_outcome H.half (form_in self.old.state) target.now kind id.now blob.now)
+            (node_forms H.half self.old.state target.now kind id.now (Some blob.now)) self.old.state e self.new.state) }
+        ensures stays { Stays self.old self.new }
+        ensures fault { IfErr result (λ e. e ≡ OfferFault.Fault → Rose self.old.faults self.new.faults) }
     {
-        offer::<H>(alloc, &mut self.nodes, target, kind, id, blob.bytes())
+        offer::<H, Sh>(alloc, &mut self.store, target, kind, id, blob.bytes())
     }
 
     /// The same for a map's root, where one is given.
@@ -200,10 +251,15 @@ impl<H: NodeHash> Machine<H> {
         kind: Kind,
         blob: &Option<Blob>,
     ) -> Result<Option<Offered>, OfferFault>
-        ensures outcome { IfOk result (λ o. part_outcome H.half (form_in self.old) target.now kind blob.now ≡ Ok o) }
-        ensures after { OnOk result (self.new ≡ after_part H.half self.old target.now kind blob.now) }
-        ensures clash { IfErr result (HasClash (part_outcome H.half (form_in self.old) target.now kind blob.now)) }
-        ensures err { OnErr result (self.new ≡ self.old) }
+        requires { IsFiled H.half Sh.B.tells self.old.state }
+        ensures outcome { IsTrue Sh.B.tells
+            → IfOk result (λ o. part_outcome H.half (form_in self.old.state) target.now kind blob.now ≡ Ok o) }
+        ensures after { IsTrue Sh.B.tells → OnOk result (self.new.state ≡ after_part H.half self.old.state target.now kind blob.now) }
+        ensures err { IsTrue Sh.B.tells → IfErr result (λ e.
+            Leaves H.half (part_outcome H.half (form_in self.old.state) target.now kind blob.now)
+            (node_forms H.half self.old.state target.now kind [] blob.now) self.old.state e self.new.state) }
+        ensures stays { Stays self.old self.new }
+        ensures fault { IfErr result (λ e. e ≡ OfferFault.Fault → Rose self.old.faults self.new.faults) }
     {
         let Some(blob) = blob else {
             return Ok(None);
@@ -221,11 +277,19 @@ impl<H: NodeHash> Machine<H> {
         state: &Option<Blob>,
         tx: &Option<Blob>,
     ) -> Result<BaseReply, OfferFault>
-        ensures reply { IfOk result (λ r. Reply.Base r ≡ base_outcomes H.half self.old target.now header.now state.now tx.now) }
-        ensures after { IfOk result (λ r. self.new ≡ after_parts H.half self.old target.now header.now state.now tx.now) }
-        ensures clash { IfErr result (IsClashReply (base_outcomes H.half self.old target.now header.now state.now tx.now)) }
-        ensures err { OnErr result (HasSomeParts H.half self.old target.now header.now state.now self.new) }
+        requires filed { IsFiled H.half Sh.B.tells self.old.state }
+        requires offered { AreOffered target.now header.now state.now tx.now }
+        ensures reply { IsTrue Sh.B.tells
+            → IfOk result (λ r. Reply.Base r ≡ base_outcomes H.half self.old.state target.now header.now state.now tx.now) }
+        ensures after { IsTrue Sh.B.tells
+            → IfOk result (λ r. self.new.state ≡ after_parts H.half self.old.state target.now header.now state.now tx.now) }
+        ensures err { IsTrue Sh.B.tells → IfErr result (λ e.
+            Refuses H.half (base_outcomes H.half self.old.state target.now header.now state.now tx.now)
+            (parts_forms H.half self.old.state target.now header.now state.now tx.now) self.old.state e self.new.state) }
+        ensures stays { Stays self.old self.new }
+        ensures fault { IfErr result (λ e. e ≡ OfferFault.Fault → Rose self.old.faults self.new.faults) }
     {
+        known_half::<H>();
         let header = self.offer_header(alloc, target, header)?;
         let state = self.offer_root(alloc, target, Kind::State, state)?;
         let tx = self.offer_root(alloc, target, Kind::Tx, tx)?;
@@ -242,12 +306,17 @@ impl<H: NodeHash> Machine<H> {
         state: &Option<Blob>,
         tx: &Option<Blob>,
     ) -> Result<BaseReply, OfferFault>
-        ensures reply { IfOk result (λ r. Reply.Base r ≡ base_reply H.half self.old peer target.now header.now state.now tx.now) }
-        ensures after { IfOk result (λ r.
-            self.new ≡ after_base H.half self.old peer target.now header.now state.now tx.now (Reply.Base r)) }
-        ensures clash { IfErr result (IsClashReply (base_reply H.half self.old peer target.now header.now state.now tx.now)) }
-        ensures asked { OnErr result (IsAsked self.old peer target.now) }
-        ensures err { OnErr result (HasSomeParts H.half self.old target.now header.now state.now self.new) }
+        requires filed { IsFiled H.half Sh.B.tells self.old.state }
+        requires offered { AreOffered target.now header.now state.now tx.now }
+        ensures reply { IsTrue Sh.B.tells
+            → IfOk result (λ r. Reply.Base r ≡ base_reply H.half self.old.state peer target.now header.now state.now tx.now) }
+        ensures after { IsTrue Sh.B.tells → IfOk result (λ r.
+            self.new.state ≡ after_base H.half self.old.state peer target.now header.now state.now tx.now (Reply.Base r)) }
+        ensures err { IsTrue Sh.B.tells → IfErr result (λ e. IsAsked self.old.state peer target.now
+            × Refuses H.half (base_reply H.half self.old.state peer target.now header.now state.now tx.now)
+            (parts_forms H.half self.old.state target.now header.now state.now tx.now) self.old.state e self.new.state) }
+        ensures stays { Stays self.old self.new }
+        ensures fault { IfErr result (λ e. e ≡ OfferFault.Fault → Rose self.old.faults self.new.faults) }
     {
         let Some(acquire) = self.wanted.get(target) else {
             return Ok(BaseReply::NotOpen);
@@ -268,10 +337,16 @@ impl<H: NodeHash> Machine<H> {
         id: &NodeId,
         blob: &Blob,
     ) -> Result<NodeReply, OfferFault>
-        ensures reply { IfOk result (λ r. Reply.Node r ≡ node_reply H.half self.old peer target.now kind id.now blob.now) }
-        ensures after { IfOk result (λ r. self.new ≡ after_offer H.half self.old peer target.now kind id.now blob.now (Reply.Node r)) }
-        ensures clash { IfErr result (IsClashReply (node_reply H.half self.old peer target.now kind id.now blob.now)) }
-        ensures err { OnErr result (self.new ≡ self.old) }
+        requires { IsFiled H.half Sh.B.tells self.old.state }
+        ensures reply { IsTrue Sh.B.tells
+            → IfOk result (λ r. Reply.Node r ≡ node_reply H.half self.old.state peer target.now kind id.now blob.now) }
+        ensures after { IsTrue Sh.B.tells → IfOk result (λ r.
+            self.new.state ≡ after_offer H.half self.old.state peer target.now kind id.now blob.now (Reply.Node r)) }
+        ensures err { IsTrue Sh.B.tells → IfErr result (λ e. IsAsked self.old.state peer target.now
+            × Refuses H.half (node_reply H.half self.old.state peer target.now kind id.now blob.now)
+            (node_forms H.half self.old.state target.now kind id.now (Some blob.now)) self.old.state e self.new.state) }
+        ensures stays { Stays self.old self.new }
+        ensures fault { IfErr result (λ e. e ≡ OfferFault.Fault → Rose self.old.faults self.new.faults) }
     {
         let Some(acquire) = self.wanted.get(target) else {
             return Ok(NodeReply::NotOpen);
@@ -284,19 +359,48 @@ impl<H: NodeHash> Machine<H> {
     }
 
     /// Searches for what is missing of a ledger, and lists it where nothing is and it is acceptable.
-    fn check(&mut self, alloc: Global, target: &Hash32) -> Result<CheckReply, Memory>
-        ensures reply { IfOk result (λ r. r ≡ check_reply H.half self.old target.now) }
-        ensures after { IfOk result (λ r. self.new ≡ after_check self.old target.now (stored_seq self.old target.now) r) }
-        ensures err { OnErr result (self.new ≡ self.old) }
+    fn check(&mut self, alloc: Global, target: &Hash32) -> Result<CheckReply, SearchFault>
+        requires { IsFiled H.half Sh.B.tells self.old.state }
+        ensures reply { IsTrue Sh.B.tells → IfOk result (λ r. r ≡ check_reply H.half self.old.state target.now) }
+        ensures after { IsTrue Sh.B.tells
+            → IfOk result (λ r. self.new.state ≡ after_check self.old.state target.now (stored_seq self.old.state target.now) r) }
+        ensures err { IsTrue Sh.B.tells → OnErr result (self.new.state ≡ self.old.state) }
+        ensures grows { Grows self.old self.new }
+        ensures fault { IfErr result (λ e. e ≡ SearchFault.Fault → Rose self.old.faults self.new.faults) }
     {
         let Some(acquire) = self.wanted.get(target) else {
             return Ok(CheckReply::NotOpen);
         };
-        if let Some(fault) = head_fault(self.nodes.get(target), acquire.seq(), self.floor) {
+        let asked = acquire.seq();
+        let found = whole::<H, Sh>(alloc, &mut self.store, target)?;
+        let reply = self.judge(alloc, target, asked, found)?;
+        Ok(reply)
+    }
+
+    /// Answers a check of an open acquisition by what a search found.
+    fn judge(
+        &mut self,
+        alloc: Global,
+        target: &Hash32,
+        asked: u32,
+        found: Found,
+    ) -> Result<CheckReply, Memory>
+        requires { IsSome (get_in hash_cmp self.old.state.wanted target.now) }
+        ensures reply { IfSome found.header (λ h. Reads (header_bytes (fields h)) h)
+            → IfOk result (λ r. r ≡ found_reply (get_in hash_cmp self.old.state.wanted target.now) asked self.old.state.floor found) }
+        ensures after { IfOk result (λ r. self.new.state ≡ after_check self.old.state target.now (found_seq found) r) }
+        ensures err { OnErr result (self.new ≡ self.old) }
+        ensures faults { self.new.faults ≡ self.old.faults }
+    {
+        let Found {
+            header,
+            broken,
+            missing,
+        } = found;
+        if let Some(fault) = head_fault(header.as_ref(), asked, self.floor) {
             self.wanted.remove(target);
             return Ok(fault);
         }
-        let Found { broken, missing } = whole::<H>(alloc, &self.nodes, target)?;
         if let Some((place, fault)) = broken {
             self.wanted.remove(target);
             return Ok(CheckReply::Malformed {
@@ -305,18 +409,18 @@ impl<H: NodeHash> Machine<H> {
             });
         }
         if missing.is_empty() {
-            self.list(target)?;
+            self.list(target, seq_in(header.as_ref()))?;
             return Ok(CheckReply::Complete);
         }
         Ok(self.ask(alloc, target, missing.as_slice())?)
     }
 
-    /// Lists a ledger with the sequence of its header, and ends its acquisition.
-    fn list(&mut self, target: &Hash32) -> Result<(), Memory>
-        ensures ok { OnOk result (self.new ≡ after_check self.old target.now (stored_seq self.old target.now) CheckReply.Complete) }
+    /// Lists a ledger with a sequence, and ends its acquisition.
+    fn list(&mut self, target: &Hash32, seq: u32) -> Result<(), Memory>
+        ensures ok { OnOk result (self.new.state ≡ after_check self.old.state target.now seq CheckReply.Complete) }
         ensures err { OnErr result (self.new ≡ self.old) }
+        ensures faults { self.new.faults ≡ self.old.faults }
     {
-        let seq = seq_in(&self.nodes, target);
         self.listed.insert(*target, seq)?;
         self.wanted.remove(target);
         self.last = Some(self.last.unwrap_or(seq));
@@ -331,9 +435,10 @@ impl<H: NodeHash> Machine<H> {
         missing: &[Place],
     ) -> Result<CheckReply, Memory>
         requires { missing.now ≢ [] }
-        ensures reply { IfOk result (λ r. r ≡ asked_reply (get_in hash_cmp self.old.wanted target.now) missing.now) }
-        ensures after { IfOk result (λ r. self.new ≡ with_wanted self.old target.now (after_ask r)) }
+        ensures reply { IfOk result (λ r. r ≡ asked_reply (get_in hash_cmp self.old.state.wanted target.now) missing.now) }
+        ensures after { IfOk result (λ r. self.new.state ≡ with_wanted self.old.state target.now (after_ask r)) }
         ensures err { OnErr result (self.new ≡ self.old) }
+        ensures faults { self.new.faults ≡ self.old.faults }
     {
         let Some(acquire) = self.wanted.get_mut(target) else {
             return Ok(CheckReply::NotOpen);
@@ -344,8 +449,9 @@ impl<H: NodeHash> Machine<H> {
 
     /// Takes a tick of an acquisition; the seventh gives it up.
     fn tick(&mut self, target: &Hash32) -> TickReply
-        ensures reply { result ≡ tick_reply self.old target.now }
-        ensures after { self.new ≡ after_tick self.old target.now result }
+        ensures reply { result ≡ tick_reply self.old.state target.now }
+        ensures after { self.new.state ≡ after_tick self.old.state target.now result }
+        ensures faults { self.new.faults ≡ self.old.faults }
     {
         let Some(acquire) = self.wanted.get(target) else {
             return TickReply::NotOpen;
@@ -359,9 +465,10 @@ impl<H: NodeHash> Machine<H> {
 
     /// The same, where it isn't the last tick.
     fn wait(&mut self, target: &Hash32) -> TickReply
-        requires { IfSome (get_in hash_cmp self.old.wanted target.now) (λ a. a.ticks < 6) }
-        ensures reply { result ≡ tick_reply self.old target.now }
-        ensures after { self.new ≡ after_tick self.old target.now result }
+        requires { IfSome (get_in hash_cmp self.old.state.wanted target.now) (λ a. a.ticks < 6) }
+        ensures reply { result ≡ tick_reply self.old.state target.now }
+        ensures after { self.new.state ≡ after_tick self.old.state target.now result }
+        ensures faults { self.new.faults ≡ self.old.faults }
     {
         let Some(acquire) = self.wanted.get_mut(target) else {
             return TickReply::NotOpen;
@@ -379,10 +486,12 @@ impl<H: NodeHash> Machine<H> {
         state: &Option<Blob>,
         tx: &Option<Blob>,
     ) -> Reply
-        requires { IsTrue (is_nonzero target.now) }
-        ensures step { (actor : ℕ)
-            → Step H.half self.old actor (Command.Base peer target.now header.now state.now tx.now) result [] self.new }
-        ensures no_fault { result ≢ Reply.Fault }
+        requires filed { IsFiled H.half Sh.B.tells self.old.state }
+        requires offered { AreOffered target.now header.now state.now tx.now }
+        ensures step { IsTrue Sh.B.tells → (actor : ℕ)
+            → Step H.half self.old.state actor (Command.Base peer target.now header.now state.now tx.now) result [] self.new.state }
+        ensures stays { Stays self.old self.new }
+        ensures fault { result ≡ Reply.Fault → Rose self.old.faults self.new.faults }
     {
         known_half::<H>();
         self.known();
@@ -402,10 +511,14 @@ impl<H: NodeHash> Machine<H> {
         id: &NodeId,
         blob: &Blob,
     ) -> Reply
-        ensures step { (actor : ℕ)
-            → Step H.half self.old actor (Command.Node peer target.now kind id.now blob.now) result [] self.new }
-        ensures no_fault { result ≢ Reply.Fault }
+        requires filed { IsFiled H.half Sh.B.tells self.old.state }
+        requires bytes { AreBytes blob.now }
+        ensures step { IsTrue Sh.B.tells → (actor : ℕ)
+            → Step H.half self.old.state actor (Command.Node peer target.now kind id.now blob.now) result [] self.new.state }
+        ensures stays { Stays self.old self.new }
+        ensures fault { result ≡ Reply.Fault → Rose self.old.faults self.new.faults }
     {
+        known_half::<H>();
         self.known();
         match self.node(alloc, peer, target, kind, id, blob) {
             Ok(reply) => Reply::Node(reply),
@@ -417,8 +530,10 @@ impl<H: NodeHash> Machine<H> {
     pub(crate) fn answer(&mut self, alloc: Global, actor: u8, command: &Command) -> Reply
         requires served { IsServed command.now }
         requires in_range { IsInRange command.now }
-        ensures step { Step H.half self.old actor command.now result [] self.new }
-        ensures no_fault { result ≢ Reply.Fault }
+        requires filed { IsFiled H.half Sh.B.tells self.old.state }
+        ensures step { IsTrue Sh.B.tells → Step H.half self.old.state actor command.now result [] self.new.state }
+        ensures grows { Grows self.old self.new }
+        ensures fault { result ≡ Reply.Fault → Rose self.old.faults self.new.faults }
     {
         self.known();
         match command {
@@ -446,7 +561,7 @@ impl<H: NodeHash> Machine<H> {
             } => self.take_node(alloc, *peer, target, *kind, id, blob),
             Command::Check { target } => match self.check(alloc, target) {
                 Ok(reply) => Reply::Check(reply),
-                Err(_) => Reply::Memory,
+                Err(fault) => unsearched(fault),
             },
             Command::Tick { target } => Reply::Tick(self.tick(target)),
             _ => unreachable!(),
@@ -459,7 +574,18 @@ fn refusal(fault: OfferFault) -> Reply
     ensures { result ≡ refusal_of fault }
 {
     match fault {
+        OfferFault::Fault => Reply::Fault,
         OfferFault::Clash { hash, old, new } => Reply::Clash { hash, old, new },
         OfferFault::Memory => Reply::Memory,
+    }
+}
+
+/// The reply where a search has no answer.
+fn unsearched(fault: SearchFault) -> Reply
+    ensures { result ≡ search_refusal fault }
+{
+    match fault {
+        SearchFault::Fault => Reply::Fault,
+        SearchFault::Memory => Reply::Memory,
     }
 }

@@ -1,16 +1,23 @@
 //! The core: a script, the journal of what was answered, and the state after it.
-ghost use Rattle.std.specs.Prelude.{◌≡◌, ◌≢◌, ◌↔◌, ◌<◌, ◌≤◌, ◌^◌, [], ℕ, true, IsTrue, IfOk, length, count_by, MatchOption, drop, take};
+ghost use Rattle.std.specs.Prelude.{◌≡◌, ◌≢◌, ◌↔◌, ◌<◌, ◌≤◌, ◌^◌, [], ℕ, true, IsTrue, IfOk, length, count_by, IfErr, IfSome, MatchOption, drop, take};
 ghost use Rattle.std.specs.Option.{option_copied};
 ghost use Rattle.ledger_machine.specs.State.{default_interval};
 ghost use Rattle.ledger_machine.specs.Scripts.{Rises, line_of, numbers_of};
 ghost use Rattle.ledger_machine.specs.Runs.{IsDone, IsBlocked, is_answered as answered, opening_of};
+ghost use Rattle.ledger_machine.specs.Records.{AreRecords};
 ghost use Rattle.script_form.specs.Servable.{AreServable};
-ghost use Rattle.store_core.specs.Journal.{Advances, IsJournal, IsNext, AllBefore, AllFrom};
+ghost use Rattle.store_core.specs.Journal.{Advances, IsJournal, IsNew, IsNext, AllBefore, AllFrom};
+ghost use Rattle.run_io.specs.Bytes.{Rose};
+ghost use Rattle.rotating_store.specs.Stores.{Store};
+ghost use Rattle.store_core.specs.Dumping.{IsNextRecord, Follows, Lists, missed_after};
 ghost use Rattle.store_core.specs.Totals.{totals_of, is_complete as completes, is_closed as closes};
 
 use crate::machine::Machine;
-use half_hash::{Memory, NodeHash, known_half};
-use ledger_machine::{CheckReply, CloseReply, Entry, Line, Reply, Script, Totals};
+use crate::records::put_records;
+use half_hash::{Hash32, NodeHash, known_half};
+use ledger_machine::{CheckReply, CloseReply, Entry, Line, Record, Reply, Script, Totals};
+use node_backend::{BackFault, Shelf};
+use rotating_store::{RotStore, Unopened};
 use std::alloc::Global;
 use std::marker::Model;
 
@@ -19,6 +26,15 @@ const ACTORS: usize = 64;
 
 /// How many sequences a ledger must be behind before a rotation is due.
 const INTERVAL: u32 = 256;
+
+/// Why a stored record isn't given.
+#[derive(Clone, Copy, Debug, PartialEq, Eq)]
+pub enum OpenFault {
+    /// A device failed, and the store's count rose.
+    Fault,
+    /// Memory was refused.
+    Memory,
+}
 
 /// What became of a step.
 #[derive(Clone, Copy, Debug, PartialEq, Eq)]
@@ -35,16 +51,18 @@ pub enum Stepped {
 /// given back the journal is a run of the store machine from the opening to the actual state,
 /// which is sound.
 #[derive(Drop)]
-pub struct Core<H: NodeHash> {
+pub struct Core<H: NodeHash, Sh: Shelf> {
     script: Script,
     interval: u32,
+    opened: u64,
+    missed: u64,
     cursors: Vec<usize>,
     journal: Vec<Entry>,
-    machine: Machine<H>,
+    machine: Machine<H, Sh>,
 }
 
-impl<H: NodeHash> Model for Core<H> {
-    ghost use Rattle.std.specs.Prelude.{vec_capacity, true};
+impl<H: NodeHash, Sh: Shelf> Model for Core<H, Sh> {
+    ghost use Rattle.std.specs.Prelude.{vec_capacity};
     ghost use Rattle.std.specs.Coded.{codes};
     ghost use Rattle.ledger_spec.specs.Maps.{map_code, set_code};
     ghost use Rattle.store_core.specs.Journal.{CoreView, CoreKeeps};
@@ -53,46 +71,67 @@ impl<H: NodeHash> Model for Core<H> {
 
     ghost coded = { Prim.hlevel (codes, map_code, set_code) };
 
-    // The store in memory counts no faults.
     ghost view = { λ c. record {
+      records = c.script.records.items;
       lines = c.script.lines.items;
       interval = c.interval;
-      opened = 0;
-      faults = 0;
+      opened = c.opened;
+      faults = c.machine.faults;
+      missed = c.missed;
       journal = c.journal.items;
-      state = c.machine;
+      state = c.machine.state;
     } };
 
-    ghost invariant = { λ c.
-        CoreKeeps H.half c.script.lines.items c.cursors.items c.journal.items (vec_capacity c.journal) c.interval true 0 0 c.machine };
+    ghost invariant = { λ c. CoreKeeps H.half c.script.records.items c.script.lines.items c.cursors.items c.journal.items
+        (vec_capacity c.journal) c.interval Sh.B.tells c.opened c.machine.faults c.missed c.machine.state };
 }
 
-impl<H: NodeHash> Core<H> {
-    /// A core that has answered nothing. The journal's slots are reserved here, so that recording
-    /// an entry takes no memory.
-    pub fn open(alloc: Global, hash: H, script: Script) -> Result<Core<H>, Memory>
-        requires { AreServable script.lines.items }
-        ensures lines { IfOk result (λ c. c.lines ≡ script.lines.items) }
-        ensures journal { IfOk result (λ c. c.journal ≡ []) }
-        ensures interval { IfOk result (λ c. c.interval ≡ default_interval) }
-        ensures counts { IfOk result (λ c. (c.opened ≡ 0) × (c.faults ≡ 0)) }
-        ensures state { IfOk result (λ c. c.state ≡ opening_of script.lines.items default_interval) }
+impl<H: NodeHash, Sh: Shelf> Core<H, Sh> {
+    /// A core that has answered nothing, over a store of the shelf that holds the script's records, all of them born in epoch 0. The
+    /// journal's slots are reserved here, so that recording an entry takes no memory.
+    pub fn open(
+        alloc: Global,
+        hash: H,
+        script: Script,
+        shelf: Sh,
+    ) -> Result<Core<H, Sh>, Unopened<Sh>>
+        requires lines { AreServable script.lines.items }
+        requires records { AreRecords H.half script.records.items }
+        ensures script { IfOk result (λ c. IsNew script.records.items script.lines.items default_interval c) }
+        ensures counts { IfOk result (λ c. (c.opened ≡ c.faults) × (Sh.faults shelf ≤ c.opened)) }
+        ensures state { IsTrue Sh.B.tells → IfOk result (λ c. c.state ≡ opening_of script.records.items default_interval) }
+        // A shelf or a store is handed back only where its count of faults is greater than that of the shelf.
+        ensures shelf { (s : Sh) → result ≡ Err (Unopened.Shelf s) → Rose (Sh.faults shelf) (Sh.faults s) }
+        ensures store { (s : Store) → result ≡ Err (Unopened.Store s) → Rose (Sh.faults shelf) s.faults }
     {
-        let cursors = vec![in alloc; 0; ACTORS]?;
-        let journal = Vec::with_capacity(alloc, script.lines.len())?;
+        let mut store = RotStore::open(alloc, shelf)?;
+        match put_records::<H, Sh>(alloc, &mut store, &script.records) {
+            Ok(()) => {}
+            Err(BackFault::Fault) => return Err(Unopened::Store(store)),
+            Err(BackFault::Memory) => return Err(Unopened::Memory),
+        }
+        let opened = store.faults();
+        let Ok(cursors) = vec![in alloc; 0; ACTORS] else {
+            return Err(Unopened::Memory);
+        };
+        let Ok(journal) = Vec::with_capacity(alloc, script.lines.len()) else {
+            return Err(Unopened::Memory);
+        };
         Ok(Core {
             script,
             interval: INTERVAL,
+            opened,
+            missed: 0,
             cursors,
             journal,
-            machine: Machine::new(alloc, hash, INTERVAL),
+            machine: Machine::new(alloc, hash, INTERVAL, store),
         })
     }
 
     /// Answers the actor's next line, unless it waits for one that has no entry yet. An actor past
     /// the last one has none.
     pub fn step(&mut self, alloc: Global, actor: u8) -> Stepped
-        ensures answered { result ≡ Stepped.Answered → Advances H.half true self.old actor self.new }
+        ensures answered { result ≡ Stepped.Answered → Advances H.half Sh.B.tells self.old actor self.new }
         ensures blocked { (result ≡ Stepped.Blocked) ↔ IsBlocked self.old.lines self.old.journal actor }
         ensures finished { (result ≡ Stepped.Finished) ↔ IsDone self.old.lines self.old.journal actor }
         ensures unchanged { result ≢ Stepped.Answered → self.new ≡ self.old }
@@ -152,6 +191,7 @@ impl<H: NodeHash> Core<H> {
     /// The script that the core was opened with.
     pub fn script(&self) -> &Script
         ensures lines { result.now.lines.items ≡ self.now.lines }
+        ensures records { result.now.records.items ≡ self.now.records }
         ensures servable { AreServable self.now.lines }
     {
         &self.script
@@ -161,9 +201,8 @@ impl<H: NodeHash> Core<H> {
     pub fn journal(&self) -> &[Entry]
         ensures journal { result.now ≡ self.now.journal }
         // A run from the opening, each check exact, to a sound state, and what else holds each time.
-        ensures kept { IsJournal H.half self.now }
+        ensures kept { IsJournal H.half Sh.B.tells self.now }
         ensures few { length self.now.journal ≤ length self.now.lines }
-        ensures listed { length self.now.state.listed ≤ length self.now.journal }
     {
         &self.journal
     }
@@ -175,19 +214,49 @@ impl<H: NodeHash> Core<H> {
         find_line(&self.script.lines, number)
     }
 
+    /// The next stored record after a hash, or the first one; none where no greater hash is stored. Bytes that are no form, or that stand
+    /// under another hash than their own, aren't given. A fault is counted as missed.
+    pub fn next_stored(
+        &mut self,
+        alloc: Global,
+        after: Option<&Hash32>,
+    ) -> Result<Option<Record>, OpenFault>
+        ensures next { IsTrue Sh.B.tells → IfOk result (IsNextRecord self.old.state.nodes (option_copied after.entry)) }
+        ensures follows { IfOk result (λ r. IfSome r (λ r. Follows (option_copied after.entry) r.hash)) }
+        ensures lists { Lists Sh.B.tells self.old self.new }
+        ensures missed { self.new.missed ≡ missed_after result self.old.missed }
+        ensures fault { IfErr result (λ e. e ≡ OpenFault.Fault → Rose self.old.faults self.new.faults) }
+    {
+        match self.machine.next_stored(alloc, after) {
+            Ok(next) => Ok(next),
+            Err(BackFault::Fault) => {
+                self.missed = self.missed.saturating_add(1);
+                Err(OpenFault::Fault)
+            }
+            Err(BackFault::Memory) => Err(OpenFault::Memory),
+        }
+    }
+
+    /// How many calls for a stored record failed.
+    pub fn missed(&self) -> u64
+        ensures { result ≡ self.now.missed }
+    {
+        self.missed
+    }
+
     /// The numbers of the summary.
     pub fn totals(&self) -> Totals
         ensures { result ≡ totals_of self.now.journal self.now.state }
     {
+        let listed = self.machine.listed() as u32;
         let journal = self.journal();
-        self.machine.known();
         Totals {
             complete: complete_in(journal) as u32,
             closed: closed_in(journal) as u32,
-            listed: self.machine.listed() as u32,
+            listed,
             floor: self.machine.floor(),
             last: self.machine.last(),
-            epoch: 0,
+            epoch: self.machine.epoch(),
         }
     }
 }

@@ -14,7 +14,8 @@ use Rattle.tree_laws.specs.Walks.{at_place, finding_of, found_below, found_in}
 use Rattle.tree_laws.proofs.Steps.{met_at, walks_below, walk_empty, walk_bottom, walk_step, seen_any}
 
 -- of the place itself, where its hash isn't zero
-first_met : (z : Bool) (m : Met) (rest : List Met) → z ≡ false → filter_map finding_of (if z then [] else m ∷ rest) ≡ cons_option (finding_of m) (filter_map finding_of rest)
+first_met : (z : Bool) (m : Met) (rest : List Met) → z ≡ false
+    → filter_map finding_of (if z then [] else m ∷ rest) ≡ cons_option (finding_of m) (filter_map finding_of rest)
 first_met true m rest e = cc
 first_met false m rest e = refl
 
@@ -39,9 +40,11 @@ below_end half nodes kind zero parent path h sight z e none =
 below_end half nodes kind (suc left) parent path h sight z e none =
     first_met (is_zero h) _ _ z ∙ rw (← e) (ap (λ l. cons_option (finding_at (Node kind path) sight) (filter_map finding_of l)) (none _))
 
-filter_map-flat_map : (g : ℕ → List Met) (bs : List ℕ) → filter_map finding_of (flat_map g bs) ≡ flat_map (λ b. filter_map finding_of (g b)) bs
+filter_map-flat_map : (g : ℕ → List Met) (bs : List ℕ)
+    → filter_map finding_of (flat_map g bs) ≡ flat_map (λ b. filter_map finding_of (g b)) bs
 filter_map-flat_map g [] = refl
-filter_map-flat_map g (b ∷ bs) = filter_map-append finding_of (g b) (flat_map g bs) ∙ ap (λ l. filter_map finding_of (g b) ++ l) (filter_map-flat_map g bs)
+filter_map-flat_map g (b ∷ bs) =
+    filter_map-append finding_of (g b) (flat_map g bs) ∙ ap (λ l. filter_map finding_of (g b) ++ l) (filter_map-flat_map g bs)
 
 pub below_inner : (half : Half) (nodes : Lookup) (kind : Kind) (left : ℕ) (parent : Option (List Hash)) (path : List ℕ) (h : Hash) (hashes : List Hash)
     → is_zero h ≡ false → sound (inner hashes) ≡ at_place half nodes kind parent path h
@@ -52,7 +55,8 @@ below_inner half nodes kind left parent path h hashes z e =
 
 range_more : (a n : ℕ) → range_with_len a (suc n) ≡ range_with_len a n ++ (a + n) ∷ []
 range_more a zero = let e : a ≡ a + 0 = omega arith in ap (λ x. x ∷ []) e
-range_more a (suc n) = let e : a + 1 + n ≡ a + suc n = omega arith in ap (λ l. a ∷ l) (range_more (a + 1) n ∙ ap (λ x. range_with_len (a + 1) n ++ x ∷ []) e)
+range_more a (suc n) =
+    let e : a + 1 + n ≡ a + suc n = omega arith in ap (λ l. a ∷ l) (range_more (a + 1) n ∙ ap (λ x. range_with_len (a + 1) n ++ x ∷ []) e)
 
 pub in_more : (half : Half) (nodes : Lookup) (kind : Kind) (left : ℕ) (hashes : List Hash) (path : List ℕ) (n m : ℕ) → m ≡ suc n
     → found_in half nodes kind left hashes path m ≡ found_in half nodes kind left hashes path n ++ found_below half nodes kind left (Some hashes) (path ++ n ∷ []) (slice_index_or hashes n zero_hash)
@@ -62,7 +66,8 @@ in_more half nodes kind left hashes path n m e =
     ap (λ k. flat_map g (range_with_len 0 k)) e ∙ ap (flat_map g) (range_more 0 n) ∙ ap (λ x. flat_map g (range_with_len 0 n ++ x ∷ [])) (zero-add n)
     ∙ sym (flat_map_more g [] (range_with_len 0 n) n)
 
-pub in_none : (half : Half) (nodes : Lookup) (kind : Kind) (left : ℕ) (hashes : List Hash) (path : List ℕ) → found_in half nodes kind left hashes path 0 ≡ []
+pub in_none : (half : Half) (nodes : Lookup) (kind : Kind) (left : ℕ) (hashes : List Hash) (path : List ℕ)
+    → found_in half nodes kind left hashes path 0 ≡ []
 unfolding found_in
 in_none half nodes kind left hashes path = refl
 
@@ -81,7 +86,8 @@ any_above find reads half nodes kind left parent other path h form hashes is hol
 
     by : (left : ℕ) (z : Bool) → is_zero h ≡ z
         → filter_map find (walk half nodes kind left parent path h) ≡ filter_map find (walk half nodes kind left other path h)
-    by left true z = ap (filter_map find) (walk_empty half nodes kind left parent path h z ∙ sym (walk_empty half nodes kind left other path h z))
+    by left true z =
+        ap (filter_map find) (walk_empty half nodes kind left parent path h z ∙ sym (walk_empty half nodes kind left other path h z))
     by zero false z =
         ap (filter_map find) (walk_bottom half nodes kind parent path h z) ∙ ap (λ o. cons_option o []) found_here
         ∙ sym (ap (filter_map find) (walk_bottom half nodes kind other path h z))

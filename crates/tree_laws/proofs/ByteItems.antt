@@ -36,7 +36,8 @@ is_key key size all = record {
 }
 
 -- each entry of a map of items has a key of nibbles
-pub keys_of_items : (half : Half) (kind : Kind) (items : Items) → AllByRecursion (λ (e : Entry). IsHeld half (leaf kind e.0 e.1)) items → AllByRecursion IsByteEntry items
+pub keys_of_items : (half : Half) (kind : Kind) (items : Items) → AllByRecursion (λ (e : Entry). IsHeld half (leaf kind e.0 e.1)) items
+    → AllByRecursion IsByteEntry items
     → AllByRecursion (λ (e : Entry). IsKey e.0) items
 keys_of_items half kind [] each bytes = tt
 keys_of_items half kind (e ∷ items) each bytes =
@@ -53,7 +54,8 @@ module _ (half : Half) (sized : Sized half) (nodes : Lookup) (forms : AreByteFor
   seen_at p path h = sight_of half (λ n. fault_of n p kind path) (nodes h)
 
   -- the key and the data of a leaf whose form is bytes
-  leaf_bytes : (k : Kind) (key bytes form : Bytes) → IsHeld half (leaf k key bytes) → form ≡ leaf_form k key bytes → IsTrue (are_bytes form) → IsByteEntry (key, bytes)
+  leaf_bytes : (k : Kind) (key bytes form : Bytes) → IsHeld half (leaf k key bytes) → form ≡ leaf_form k key bytes → IsTrue (are_bytes form)
+      → IsByteEntry (key, bytes)
   leaf_bytes State key bytes form is e all =
       let whole : IsTrue (are_bytes (leaf_prefix State ++ bytes ++ key)) = subst (λ b. IsTrue (are_bytes b)) e all in
       (bytes_end (leaf_prefix State ++ bytes) key whole, bytes_end (leaf_prefix State) bytes (bytes_front (leaf_prefix State ++ bytes) key whole))
@@ -64,13 +66,15 @@ module _ (half : Half) (sized : Sized half) (nodes : Lookup) (forms : AreByteFor
       let whole : IsTrue (are_bytes (leaf_prefix Set ++ bytes)) = subst (λ b. IsTrue (are_bytes b)) e all in
       (subst (λ b. IsTrue (are_bytes b)) (sym is.1) (halves (leaf_form Set key bytes)), bytes_end (leaf_prefix Set) bytes whole)
 
-  leaf_entry : (p : Option (List Hash)) (path : List ℕ) (h : Hash) (k : Kind) (key bytes : Bytes) → seen_at p path h ≡ sound (leaf k key bytes) → IsByteEntry (key, bytes)
+  leaf_entry : (p : Option (List Hash)) (path : List ℕ) (h : Hash) (k : Kind) (key bytes : Bytes)
+      → seen_at p path h ≡ sound (leaf k key bytes) → IsByteEntry (key, bytes)
   leaf_entry p path h k key bytes is =
       let sees : Sees half (λ n. fault_of n p kind path) (nodes h) (leaf k key bytes) = sees_sound half (λ n. fault_of n p kind path) (nodes h) (leaf k key bytes) is in
       let form : Form half (leaf k key bytes) sees.form = holds half sized (leaf k key bytes) sees.form sees.holds in
       leaf_bytes k key bytes sees.form form.0 form.1 (forms h sees.form sees.stored)
 
-  by_sight : (p : Option (List Hash)) (path : List ℕ) (h : Hash) (x : Sight) (below : List Hash → List Met) → seen_at p path h ≡ x → ((hashes : List Hash) → AreBytes (entries (below hashes)))
+  by_sight : (p : Option (List Hash)) (path : List ℕ) (h : Hash) (x : Sight) (below : List Hash → List Met) → seen_at p path h ≡ x
+      → ((hashes : List Hash) → AreBytes (entries (below hashes)))
       → AreBytes (entries (met (Node kind path) h p x ∷ branches_of x below))
   by_sight p path h missing below is each = tt
   by_sight p path h (broken fault) below is each = tt
@@ -78,7 +82,8 @@ module _ (half : Half) (sized : Sized half) (nodes : Lookup) (forms : AreByteFor
   by_sight p path h (sound (inner hashes)) below is each = each hashes
   by_sight p path h (sound (header bytes)) below is each = tt
 
-  at_bottom : (p : Option (List Hash)) (path : List ℕ) (h : Hash) (x : Sight) → seen_at p path h ≡ x → AreBytes (entries (met (Node kind path) h p x ∷ []))
+  at_bottom : (p : Option (List Hash)) (path : List ℕ) (h : Hash) (x : Sight) → seen_at p path h ≡ x
+      → AreBytes (entries (met (Node kind path) h p x ∷ []))
   at_bottom p path h missing is = tt
   at_bottom p path h (broken fault) is = tt
   at_bottom p path h (sound (leaf k key bytes)) is = (leaf_entry p path h k key bytes is, tt)

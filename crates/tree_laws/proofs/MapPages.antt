@@ -27,11 +27,13 @@ use Rattle.tree_laws.proofs.Parts.{filter_none, filter_all, under_up, under_othe
 use Rattle.tree_laws.proofs.PageLaw.{page_says}
 
 -- a map's entries that pass a test are a map
-keys_kept : (P : Hash → Type 0) (test : Entry → Bool) (items : Items) → AllByRecursion P (keys_of items) → AllByRecursion P (keys_of (filter test items))
+keys_kept : (P : Hash → Type 0) (test : Entry → Bool) (items : Items) → AllByRecursion P (keys_of items)
+    → AllByRecursion P (keys_of (filter test items))
 keys_kept P test [] all = tt
 keys_kept P test (x ∷ items) all = by_test (test x) (keys_kept P test items all.1)
   where
-    by_test : (t : Bool) → AllByRecursion P (keys_of (filter test items)) → AllByRecursion P (keys_of (cond t (x ∷ filter test items) (filter test items)))
+    by_test : (t : Bool) → AllByRecursion P (keys_of (filter test items))
+        → AllByRecursion P (keys_of (cond t (x ∷ filter test items) (filter test items)))
     by_test true rest = (all.0, rest)
     by_test false rest = rest
 
@@ -45,7 +47,8 @@ map_kept test (x ∷ items) sorted = by_test (test x) (map_kept test items sorte
     by_test false rest = rest
 
 -- two keys under a path of 64 nibbles don't rise
-one_at_bottom : (path : List ℕ) (e : Entry) (others : Items) → length path ≡ 64 → IsMap hash_cmp (e ∷ others) → AllByRecursion (λ (x : Entry). length x.0 ≡ 32) (e ∷ others)
+one_at_bottom : (path : List ℕ) (e : Entry) (others : Items) → length path ≡ 64 → IsMap hash_cmp (e ∷ others)
+    → AllByRecursion (λ (x : Entry). length x.0 ≡ 32) (e ∷ others)
     → AllByRecursion (λ (x : Entry). lies_under path x.0 ≡ true) (e ∷ others) → others ≡ []
 unfolding IsStrictlySortedBy
 one_at_bottom path e [] deep sorted sizes under = refl
@@ -67,14 +70,18 @@ all_under path (x ∷ items) = by_test (lies_under path x.0) refl (all_under pat
 -- an entry stands first, where the branches before its own are empty
 no_entries : (g : ℕ → Items) (a n : ℕ) → ((b : ℕ) → a ≤ b → b < a + n → g b ≡ []) → flat_map g (range_with_len a n) ≡ []
 no_entries g a zero none = refl
-no_entries g a (suc n) none = ap (λ l. l ++ flat_map g (range_with_len (a + 1) n)) (none a (omega arith) (omega arith)) ∙ no_entries g (a + 1) n (λ b from upto. none b (omega arith) (omega arith))
+no_entries g a (suc n) none =
+    ap (λ l. l ++ flat_map g (range_with_len (a + 1) n)) (none a (omega arith) (omega arith))
+    ∙ no_entries g (a + 1) n (λ b from upto. none b (omega arith) (omega arith))
 
-same_entries : (f g : ℕ → Items) (a n : ℕ) → ((b : ℕ) → a ≤ b → f b ≡ g b) → flat_map f (range_with_len a n) ≡ flat_map g (range_with_len a n)
+same_entries : (f g : ℕ → Items) (a n : ℕ) → ((b : ℕ) → a ≤ b → f b ≡ g b)
+    → flat_map f (range_with_len a n) ≡ flat_map g (range_with_len a n)
 same_entries f g a zero same = refl
 same_entries f g a (suc n) same =
     ap (λ l. l ++ flat_map f (range_with_len (a + 1) n)) (same a (omega arith)) ∙ ap (λ l. g a ++ l) (same_entries f g (a + 1) n (λ b from. same b (omega arith)))
 
-first_entry : (f g : ℕ → Items) (e : Entry) (c a n : ℕ) → a ≤ c → c < a + n → f c ≡ e ∷ g c → ((b : ℕ) → (b ≡ c → ⊥) → f b ≡ g b) → ((b : ℕ) → b < c → g b ≡ [])
+first_entry : (f g : ℕ → Items) (e : Entry) (c a n : ℕ) → a ≤ c → c < a + n → f c ≡ e ∷ g c → ((b : ℕ) → (b ≡ c → ⊥) → f b ≡ g b)
+    → ((b : ℕ) → b < c → g b ≡ [])
     → flat_map f (range_with_len a n) ≡ e ∷ flat_map g (range_with_len a n)
 first_entry f g e c a zero from upto at others before = absurd (omega arith)
 first_entry f g e c a (suc n) from upto at others before =
@@ -96,7 +103,8 @@ greater_not_less k l up down =
     cc
 
 -- what lies under a path lies under its branches, in order
-pub part_branches : (path : List ℕ) (items : Items) → length path < 64 → IsMap hash_cmp items → AllByRecursion (λ (e : Entry). IsKey e.0) items → part items path ≡ flat_map (λ b. part items (path ++ b ∷ [])) branches
+pub part_branches : (path : List ℕ) (items : Items) → length path < 64 → IsMap hash_cmp items
+    → AllByRecursion (λ (e : Entry). IsKey e.0) items → part items path ≡ flat_map (λ b. part items (path ++ b ∷ [])) branches
 unfolding IsStrictlySortedBy
 part_branches path [] up sorted keys = refl
 part_branches path (e ∷ items) up sorted keys = by_test (lies_under path e.0) refl (part_branches path items up sorted.1 keys.1)
@@ -107,14 +115,17 @@ part_branches path (e ∷ items) up sorted keys = by_test (lies_under path e.0) 
     all : ℕ → Items
     all b = cond (lies_under (path ++ b ∷ []) e.0) (e ∷ part items (path ++ b ∷ [])) (part items (path ++ b ∷ []))
 
-    before_none : (c b : ℕ) (l : Items) → lies_under (path ++ c ∷ []) e.0 ≡ true → b < c → AllByRecursion (λ k. hash_cmp e.0 k ≡ Less) (keys_of l) → part l (path ++ b ∷ []) ≡ []
+    before_none : (c b : ℕ) (l : Items) → lies_under (path ++ c ∷ []) e.0 ≡ true → b < c
+        → AllByRecursion (λ k. hash_cmp e.0 k ≡ Less) (keys_of l) → part l (path ++ b ∷ []) ≡ []
     before_none c b l under less above = filter_none (λ (f : Entry). lies_under (path ++ b ∷ []) f.0) l (each l above)
       where
-        apart : (f : Entry) → hash_cmp e.0 f.0 ≡ Less → (t : Bool) → lies_under (path ++ b ∷ []) f.0 ≡ t → lies_under (path ++ b ∷ []) f.0 ≡ false
+        apart : (f : Entry) → hash_cmp e.0 f.0 ≡ Less → (t : Bool) → lies_under (path ++ b ∷ []) f.0 ≡ t
+            → lies_under (path ++ b ∷ []) f.0 ≡ false
         apart f up false is = is
         apart f up true is = absurd (greater_not_less e.0 f.0 up (branch_less path b c f.0 e.0 less is under))
 
-        each : (m : Items) → AllByRecursion (λ k. hash_cmp e.0 k ≡ Less) (keys_of m) → AllByRecursion (λ (f : Entry). lies_under (path ++ b ∷ []) f.0 ≡ false) m
+        each : (m : Items) → AllByRecursion (λ k. hash_cmp e.0 k ≡ Less) (keys_of m)
+            → AllByRecursion (λ (f : Entry). lies_under (path ++ b ∷ []) f.0 ≡ false) m
         each [] all = tt
         each (f ∷ m) all = (apart f all.0 (lies_under (path ++ b ∷ []) f.0) refl, each m all.1)
 
@@ -156,7 +167,8 @@ module _ (half : Half) (sized : Sized half) (kind : Kind) (root after : Hash) (i
   abbrev Among : Held → Type 0
   Among n = Contains used n
 
-  leaf_part : (l : ℕ) (p : Option (List Hash)) (path : List ℕ) (h : Hash) (k : Kind) (key bytes : Bytes) → At l p path h → is_zero h ≡ false → Among (leaf k key bytes) → hash_of half (leaf k key bytes) ≡ h
+  leaf_part : (l : ℕ) (p : Option (List Hash)) (path : List ℕ) (h : Hash) (k : Kind) (key bytes : Bytes) → At l p path h → is_zero h ≡ false
+      → Among (leaf k key bytes) → hash_of half (leaf k key bytes) ≡ h
       → fault_of (leaf k key bytes) p kind path ≡ None → (part items path ≡ (key, bytes) ∷ []) ⊎ Collides
   leaf_part l p path h k key bytes at some among is fits =
       let kept : KeepsLeaf kind k key path = keeps_leaf kind k key bytes p path fits in
@@ -177,7 +189,8 @@ module _ (half : Half) (sized : Sized half) (kind : Kind) (root after : Hash) (i
           in
           ap (λ (o : Items). there.e ∷ o) none ∙ (λ i. (there.key_is i, there.data_is i) ∷ [])
 
-  inner_part : (l : ℕ) (p : Option (List Hash)) (path : List ℕ) (h : Hash) (hashes : List Hash) → At (suc l) p path h → is_zero h ≡ false → Among (inner hashes) → hash_of half (inner hashes) ≡ h
+  inner_part : (l : ℕ) (p : Option (List Hash)) (path : List ℕ) (h : Hash) (hashes : List Hash) → At (suc l) p path h → is_zero h ≡ false
+      → Among (inner hashes) → hash_of half (inner hashes) ≡ h
       → fault_of (inner hashes) p kind path ≡ None
       → ((part items path ≡ flat_map (λ b. part items (path ++ b ∷ [])) branches) × ((b : ℕ) → b < 16 → At l (Some hashes) (path ++ b ∷ []) (slice_index_or hashes b zero_hash))) ⊎ Collides
   inner_part l p path h hashes at some among is fits =
@@ -191,9 +204,11 @@ module _ (half : Half) (sized : Sized half) (kind : Kind) (root after : Hash) (i
 
   all_among : (l : List Held) → ((n : Held) → Contains l n → Contains used n) → AllByRecursion Among l
   all_among [] within = tt
-  all_among (x ∷ l) within = (within x (0, omega (arith), refl), all_among l (λ n there. within n (suc there.0, omega (arith, there.1), there.2)))
+  all_among (x ∷ l) within =
+      (within x (0, omega (arith), refl), all_among l (λ n there. within n (suc there.0, omega (arith, there.1), there.2)))
 
-  pub page_of_map : root_of half kind items ≡ root → (n : ℕ) (page : Items) → IsPageOf half kind root after n used page → (page ≡ after_key after n items) ⊎ Collides
+  pub page_of_map : root_of half kind items ≡ root → (n : ℕ) (page : Items) → IsPageOf half kind root after n used page
+      → (page ≡ after_key after n items) ⊎ Collides
   unfolding heard_from
   page_of_map is n page says =
       by_said (page_from half kind after 64 None [] root n used) says
@@ -218,6 +233,8 @@ module _ (half : Half) (sized : Sized half) (kind : Kind) (root after : Hash) (i
           ⊎_elim (λ both. inl (sym same ∙ both.0 ∙ ap (after_key after n) whole)) inr says'
 
 -- the law
-pub page_or_shows : (half : Half) → Sized half → (kind : Kind) (root after : Hash) (n : ℕ) (used : List Held) (page : Items) → IsKey after → AreNodes half kind used
+pub page_or_shows : (half : Half) → Sized half → (kind : Kind) (root after : Hash) (n : ℕ) (used : List Held) (page : Items) → IsKey after
+    → AreNodes half kind used
     → IsPageOf half kind root after n used page → IsPageOrShows half kind root after n used page
-page_or_shows half sized kind root after n used page is_key held says items are is = page_of_map half sized kind root after is_key used held items are is n page says
+page_or_shows half sized kind root after n used page is_key held says items are is =
+    page_of_map half sized kind root after is_key used held items are is n page says

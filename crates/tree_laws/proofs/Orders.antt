@@ -21,13 +21,17 @@ pub less : (x y : ℕ) → x < y → nat_cmp x y ≡ Less
 less x y h = cond-true (nat_lt x y) Less (cond (x == y) Equal Greater) (lt-ltb x y h)
 
 pub equal : (x y : ℕ) → x ≡ y → nat_cmp x y ≡ Equal
-equal x y h = cond-false (nat_lt x y) Less (cond (x == y) Equal Greater) (le-ltb x y (omega arith)) ∙ cond-true (x == y) Equal Greater (eq-eqb x y h)
+equal x y h =
+    cond-false (nat_lt x y) Less (cond (x == y) Equal Greater) (le-ltb x y (omega arith)) ∙ cond-true (x == y) Equal Greater (eq-eqb x y h)
 
 pub greater : (x y : ℕ) → y < x → nat_cmp x y ≡ Greater
-greater x y h = cond-false (nat_lt x y) Less (cond (x == y) Equal Greater) (le-ltb x y (omega arith)) ∙ cond-false (x == y) Equal Greater (ne_eqb x y (λ e. omega arith))
+greater x y h =
+    cond-false (nat_lt x y) Less (cond (x == y) Equal Greater) (le-ltb x y (omega arith))
+    ∙ cond-false (x == y) Equal Greater (ne_eqb x y (λ e. omega arith))
 
 -- a byte is ordered as its two nibbles are
-byte_cmp : (x y : ℕ) (o : Ordering) → ordering_then (nat_cmp (x / 16) (y / 16)) (ordering_then (nat_cmp (x % 16) (y % 16)) o) ≡ ordering_then (nat_cmp x y) o
+byte_cmp : (x y : ℕ) (o : Ordering)
+    → ordering_then (nat_cmp (x / 16) (y / 16)) (ordering_then (nat_cmp (x % 16) (y % 16)) o) ≡ ordering_then (nat_cmp x y) o
 byte_cmp x y o = by_high (cases_order (x / 16) (y / 16))
   where
     then : Ordering → Ordering → Ordering
@@ -35,14 +39,25 @@ byte_cmp x y o = by_high (cases_order (x / 16) (y / 16))
 
     by_low : x / 16 ≡ y / 16 → (x % 16 ≡ y % 16) ⊎ ((x % 16 < y % 16) ⊎ (y % 16 < x % 16))
         → ordering_then (nat_cmp (x / 16) (y / 16)) (ordering_then (nat_cmp (x % 16) (y % 16)) o) ≡ ordering_then (nat_cmp x y) o
-    by_low same (inl e) = ap (λ a. ordering_then a (ordering_then (nat_cmp (x % 16) (y % 16)) o)) (equal _ _ same) ∙ ap (λ a. ordering_then a o) (equal _ _ e) ∙ sym (ap (λ a. ordering_then a o) (equal x y (omega arith)))
-    by_low same (inr (inl l)) = ap (λ a. ordering_then a (ordering_then (nat_cmp (x % 16) (y % 16)) o)) (equal _ _ same) ∙ ap (λ a. ordering_then a o) (less _ _ l) ∙ sym (ap (λ a. ordering_then a o) (less x y (omega arith)))
-    by_low same (inr (inr g)) = ap (λ a. ordering_then a (ordering_then (nat_cmp (x % 16) (y % 16)) o)) (equal _ _ same) ∙ ap (λ a. ordering_then a o) (greater _ _ g) ∙ sym (ap (λ a. ordering_then a o) (greater x y (omega arith)))
+    by_low same (inl e) =
+        ap (λ a. ordering_then a (ordering_then (nat_cmp (x % 16) (y % 16)) o)) (equal _ _ same) ∙ ap (λ a. ordering_then a o) (equal _ _ e)
+        ∙ sym (ap (λ a. ordering_then a o) (equal x y (omega arith)))
+    by_low same (inr (inl l)) =
+        ap (λ a. ordering_then a (ordering_then (nat_cmp (x % 16) (y % 16)) o)) (equal _ _ same) ∙ ap (λ a. ordering_then a o) (less _ _ l)
+        ∙ sym (ap (λ a. ordering_then a o) (less x y (omega arith)))
+    by_low same (inr (inr g)) =
+        ap (λ a. ordering_then a (ordering_then (nat_cmp (x % 16) (y % 16)) o)) (equal _ _ same)
+        ∙ ap (λ a. ordering_then a o) (greater _ _ g) ∙ sym (ap (λ a. ordering_then a o) (greater x y (omega arith)))
 
-    by_high : (x / 16 ≡ y / 16) ⊎ ((x / 16 < y / 16) ⊎ (y / 16 < x / 16)) → ordering_then (nat_cmp (x / 16) (y / 16)) (ordering_then (nat_cmp (x % 16) (y % 16)) o) ≡ ordering_then (nat_cmp x y) o
+    by_high : (x / 16 ≡ y / 16) ⊎ ((x / 16 < y / 16) ⊎ (y / 16 < x / 16))
+        → ordering_then (nat_cmp (x / 16) (y / 16)) (ordering_then (nat_cmp (x % 16) (y % 16)) o) ≡ ordering_then (nat_cmp x y) o
     by_high (inl e) = by_low e (cases_order (x % 16) (y % 16))
-    by_high (inr (inl l)) = ap (λ a. ordering_then a (ordering_then (nat_cmp (x % 16) (y % 16)) o)) (less _ _ l) ∙ sym (ap (λ a. ordering_then a o) (less x y (omega arith)))
-    by_high (inr (inr g)) = ap (λ a. ordering_then a (ordering_then (nat_cmp (x % 16) (y % 16)) o)) (greater _ _ g) ∙ sym (ap (λ a. ordering_then a o) (greater x y (omega arith)))
+    by_high (inr (inl l)) =
+        ap (λ a. ordering_then a (ordering_then (nat_cmp (x % 16) (y % 16)) o)) (less _ _ l)
+        ∙ sym (ap (λ a. ordering_then a o) (less x y (omega arith)))
+    by_high (inr (inr g)) =
+        ap (λ a. ordering_then a (ordering_then (nat_cmp (x % 16) (y % 16)) o)) (greater _ _ g)
+        ∙ sym (ap (λ a. ordering_then a o) (greater x y (omega arith)))
 
 pub nibbles_cmp : (a b : List ℕ) → slice_cmp nat_cmp (nibbles a) (nibbles b) ≡ slice_cmp nat_cmp a b
 nibbles_cmp [] [] = refl
@@ -57,7 +72,8 @@ front_cmp [] xs ys = refl
 front_cmp (x ∷ p) xs ys = ap (λ o. ordering_then o (slice_cmp nat_cmp (p ++ xs) (p ++ ys))) (equal x x refl) ∙ front_cmp p xs ys
 
 -- what lies under an earlier branch is less
-pub branch_less : (path : List ℕ) (b c : ℕ) (k l : Hash) → b < c → lies_under (path ++ b ∷ []) k ≡ true → lies_under (path ++ c ∷ []) l ≡ true → hash_cmp k l ≡ Less
+pub branch_less : (path : List ℕ) (b c : ℕ) (k l : Hash) → b < c → lies_under (path ++ b ∷ []) k ≡ true
+    → lies_under (path ++ c ∷ []) l ≡ true → hash_cmp k l ≡ Less
 branch_less path b c k l lt under_b under_c =
     let split : (d : ℕ) (m : Hash) → lies_under (path ++ d ∷ []) m ≡ true → nibbles m ≡ path ++ (d ∷ drop (length (path ++ d ∷ [])) (nibbles m)) = λ d m under.
     sym (take-append-drop (length (path ++ d ∷ [])) (nibbles m)) ∙ ap (λ (t : List ℕ). t ++ drop (length (path ++ d ∷ [])) (nibbles m)) (sym (under_begins (path ++ d ∷ []) m under))
@@ -80,7 +96,8 @@ all_weaker P Q weaker [] all = tt
 all_weaker P Q weaker (x ∷ xs) all = (weaker x all.0, all_weaker P Q weaker xs all.1)
 
 -- two maps join where each key of the first is below those of the second
-pub map_append : (xs ys : Items) → IsMap hash_cmp xs → IsMap hash_cmp ys → AllByRecursion (λ (e : Entry). AllByRecursion (λ (f : Entry). hash_cmp e.0 f.0 ≡ Less) ys) xs → IsMap hash_cmp (xs ++ ys)
+pub map_append : (xs ys : Items) → IsMap hash_cmp xs → IsMap hash_cmp ys
+    → AllByRecursion (λ (e : Entry). AllByRecursion (λ (f : Entry). hash_cmp e.0 f.0 ≡ Less) ys) xs → IsMap hash_cmp (xs ++ ys)
 unfolding IsStrictlySortedBy
 map_append [] ys sorted_xs sorted_ys across = sorted_ys
 map_append (x ∷ xs) ys sorted_xs sorted_ys across = (
@@ -93,7 +110,8 @@ map_append (x ∷ xs) ys sorted_xs sorted_ys across = (
 abbrev pub UnderFrom : List ℕ → ℕ → Entry → Type 0
 UnderFrom path a e = (c : ℕ) × (a ≤ c) × (lies_under (path ++ c ∷ []) e.0 ≡ true)
 
-pub under_branches : (path : List ℕ) (g : ℕ → Items) → ((b : ℕ) → AllByRecursion (λ (e : Entry). lies_under (path ++ b ∷ []) e.0 ≡ true) (g b)) → (a n : ℕ)
+pub under_branches : (path : List ℕ) (g : ℕ → Items)
+    → ((b : ℕ) → AllByRecursion (λ (e : Entry). lies_under (path ++ b ∷ []) e.0 ≡ true) (g b)) → (a n : ℕ)
     → AllByRecursion (UnderFrom path a) (flat_map g (range_with_len a n))
 under_branches path g under a zero = tt
 under_branches path g under a (suc n) =
@@ -102,7 +120,8 @@ under_branches path g under a (suc n) =
     (all_weaker (UnderFrom path (a + 1)) (UnderFrom path a) (λ e u. (u.0, omega (arith, u.1), u.2)) (flat_map g (range_with_len (a + 1) n)) (under_branches path g under (a + 1) n))
 
 -- the maps under the branches, joined, are a map
-pub map_branches : (path : List ℕ) (g : ℕ → Items) → ((b : ℕ) → IsMap hash_cmp (g b)) → ((b : ℕ) → AllByRecursion (λ (e : Entry). lies_under (path ++ b ∷ []) e.0 ≡ true) (g b)) → (a n : ℕ)
+pub map_branches : (path : List ℕ) (g : ℕ → Items) → ((b : ℕ) → IsMap hash_cmp (g b))
+    → ((b : ℕ) → AllByRecursion (λ (e : Entry). lies_under (path ++ b ∷ []) e.0 ≡ true) (g b)) → (a n : ℕ)
     → IsMap hash_cmp (flat_map g (range_with_len a n))
 unfolding IsStrictlySortedBy
 map_branches path g sorted under a zero = tt

@@ -33,8 +33,10 @@ take_join (suc n) (x ∷ xs) ys =
     let less : suc n - suc (length (take n xs)) ≡ n - length (take n xs) = omega arith in
     ap (λ l. x ∷ l) (take_join n xs ys ∙ ap (λ m. take n xs ++ take m ys) (sym less))
 
-after_join : (after : Hash) (n : ℕ) (xs ys : Items) → after_key after n (xs ++ ys) ≡ after_key after n xs ++ after_key after (n - length (after_key after n xs)) ys
-after_join after n xs ys = ap (take n) (filter-append (is_behind after) xs ys) ∙ take_join n (filter (is_behind after) xs) (filter (is_behind after) ys)
+after_join : (after : Hash) (n : ℕ) (xs ys : Items)
+    → after_key after n (xs ++ ys) ≡ after_key after n xs ++ after_key after (n - length (after_key after n xs)) ys
+after_join after n xs ys =
+    ap (take n) (filter-append (is_behind after) xs ys) ∙ take_join n (filter (is_behind after) xs) (filter (is_behind after) ys)
 
 -- a list that begins with a lesser front is less
 front_less : (p q xs ys : List ℕ) → length p ≡ length q → slice_cmp nat_cmp p q ≡ Less → slice_cmp nat_cmp (p ++ xs) (q ++ ys) ≡ Less
@@ -43,7 +45,8 @@ front_less [] (y ∷ q) xs ys same e = absurd (omega arith)
 front_less (x ∷ p) [] xs ys same e = absurd (omega arith)
 front_less (x ∷ p) (y ∷ q) xs ys same e = by_heads (nat_cmp x y) (front_less p q xs ys (omega arith)) e
   where
-    by_heads : (o : Ordering) → (slice_cmp nat_cmp p q ≡ Less → slice_cmp nat_cmp (p ++ xs) (q ++ ys) ≡ Less) → ordering_then o (slice_cmp nat_cmp p q) ≡ Less → ordering_then o (slice_cmp nat_cmp (p ++ xs) (q ++ ys)) ≡ Less
+    by_heads : (o : Ordering) → (slice_cmp nat_cmp p q ≡ Less → slice_cmp nat_cmp (p ++ xs) (q ++ ys) ≡ Less)
+        → ordering_then o (slice_cmp nat_cmp p q) ≡ Less → ordering_then o (slice_cmp nat_cmp (p ++ xs) (q ++ ys)) ≡ Less
     by_heads Less go e = refl
     by_heads Equal go e = go e
     by_heads Greater go e = let no : Greater ≡ Less = e in cc
@@ -54,7 +57,8 @@ less_is Equal e = cc
 less_is Greater e = cc
 
 -- what lies under a passed path isn't behind the key
-passed_under : (after : Hash) (path : List ℕ) (e : Entry) → length path ≤ length (nibbles after) → is_passed after path ≡ true → lies_under path e.0 ≡ true → is_behind after e ≡ false
+passed_under : (after : Hash) (path : List ℕ) (e : Entry) → length path ≤ length (nibbles after) → is_passed after path ≡ true
+    → lies_under path e.0 ≡ true → is_behind after e ≡ false
 passed_under after path e within is under =
     let front : nibbles e.0 ≡ path ++ drop (length path) (nibbles e.0) =
     sym (take-append-drop (length path) (nibbles e.0)) ∙ ap (λ (t : List ℕ). t ++ drop (length path) (nibbles e.0)) (sym (under_begins path e.0 under))
@@ -67,7 +71,8 @@ passed_under after path e within is under =
     in
     ap is_gt less
 
-none_behind : (after : Hash) (path : List ℕ) (items : Items) → length path ≤ length (nibbles after) → is_passed after path ≡ true → AllByRecursion (λ (e : Entry). lies_under path e.0 ≡ true) items
+none_behind : (after : Hash) (path : List ℕ) (items : Items) → length path ≤ length (nibbles after) → is_passed after path ≡ true
+    → AllByRecursion (λ (e : Entry). lies_under path e.0 ≡ true) items
     → filter (is_behind after) items ≡ []
 none_behind after path items within is under = filter_none (is_behind after) items (Rattle.tree_laws.proofs.Orders.all_weaker (λ (e : Entry). lies_under path e.0 ≡ true) (λ e. is_behind after e ≡ false) (λ e u. passed_under after path e within is u) items under)
 
@@ -122,7 +127,8 @@ module _ (half : Half) (kind : Kind) (after : Hash) (whole : length (nibbles aft
       spread wrong out = tt
       spread (said more left) out = inr out
 
-      by_rest : (o : Heard) → items ≡ after_key after n (g b) → Says (flat_map g bs) (n - length items) o → Says (g b ++ flat_map g bs) n (followed_by items o)
+      by_rest : (o : Heard) → items ≡ after_key after n (g b) → Says (flat_map g bs) (n - length items) o
+          → Says (g b ++ flat_map g bs) n (followed_by items o)
       by_rest (wants parent path h) is says = tt
       by_rest wrong is says = tt
       by_rest (said more left) is says =
@@ -134,7 +140,8 @@ module _ (half : Half) (kind : Kind) (after : Hash) (whole : length (nibbles aft
           ))
           inr says
 
-  in_turn_says : (g : ℕ → Items) (read : ℕ → Reading) → ((b m : ℕ) (rest : List Held) → b < 16 → AllByRecursion Among rest → Says (g b) m (read b m rest))
+  in_turn_says : (g : ℕ → Items) (read : ℕ → Reading)
+      → ((b m : ℕ) (rest : List Held) → b < 16 → AllByRecursion Among rest → Says (g b) m (read b m rest))
       → (a count : ℕ) → a + count ≤ 16 → (n : ℕ) (used : List Held) → AllByRecursion Among used → Says (flat_map g (range_with_len a count)) n (in_turn read (range_with_len a count) n used)
   in_turn_says g read each a zero within n used among = inl (sym (take_nothing n [] refl), among)
   in_turn_says g read each a (suc count) within n used among =
@@ -142,7 +149,8 @@ module _ (half : Half) (kind : Kind) (after : Hash) (whole : length (nibbles aft
       (λ m rest among'. in_turn_says g read each (a + 1) count (omega arith) m rest among')
 
   -- what is skipped has no entry that is wanted
-  skipped_says : (l : ℕ) (p : Option (List Hash)) (path : List ℕ) (h : Hash) (n : ℕ) (used : List Held) → At l p path h → AllByRecursion Among used → is_skipped after path h n ≡ true
+  skipped_says : (l : ℕ) (p : Option (List Hash)) (path : List ℕ) (h : Hash) (n : ℕ) (used : List Held) → At l p path h
+      → AllByRecursion Among used → is_skipped after path h n ≡ true
       → Says (items_at l p path h) n (said [] used)
   skipped_says l p path h n used at among is =
       ⊎_elim (λ none. inl (sym (ap (λ m. after_key after m (items_at l p path h)) (eqb-true n 0 none)), among))
@@ -154,20 +162,23 @@ module _ (half : Half) (kind : Kind) (after : Hash) (whole : length (nibbles aft
       (or_cases (n == 0) (is_zero h || is_passed after path) is)
 
   -- a node at its place
-  node_says : (l : ℕ) (p : Option (List Hash)) (path : List ℕ) (h : Hash) (below : List Hash → Reading) (n : ℕ) (used : List Held) → At l p path h → is_zero h ≡ false → AllByRecursion Among used
+  node_says : (l : ℕ) (p : Option (List Hash)) (path : List ℕ) (h : Hash) (below : List Hash → Reading) (n : ℕ) (used : List Held)
+      → At l p path h → is_zero h ≡ false → AllByRecursion Among used
       → ((hashes : List Hash) (rest : List Held) → Among (inner hashes) → hash_of half (inner hashes) ≡ h → fault_of (inner hashes) p kind path ≡ None → AllByRecursion Among rest
       → Says (items_at l p path h) (suc n) (below hashes (suc n) rest))
       → Says (items_at l p path h) (suc n) (said_at half kind after p path h below (suc n) used)
   node_says l p path h below n [] at some among go = tt
   node_says l p path h below n (x ∷ rest) at some among go = by_test (same_bytes (hash_of half x) h && is_none (fault_of x p kind path)) refl
     where
-      by_node : (y : Held) → Among y → hash_of half y ≡ h → fault_of y p kind path ≡ None → Says (items_at l p path h) (suc n) (said_by after below y (suc n) rest)
+      by_node : (y : Held) → Among y → hash_of half y ≡ h → fault_of y p kind path ≡ None
+          → Says (items_at l p path h) (suc n) (said_by after below y (suc n) rest)
       by_node (leaf k key bytes) first same fits =
           ⊎_elim (λ is. inl (leaf_page after n key bytes ∙ sym (ap (after_key after (suc n)) is), among.1)) inr (at_leaf l p path h k key bytes at some first same fits)
       by_node (inner hashes) first same fits = go hashes rest first same fits among.1
       by_node (header bytes) first same fits = tt
 
-      by_test : (t : Bool) → (same_bytes (hash_of half x) h && is_none (fault_of x p kind path)) ≡ t → Says (items_at l p path h) (suc n) (if t then said_by after below x (suc n) rest else wrong)
+      by_test : (t : Bool) → (same_bytes (hash_of half x) h && is_none (fault_of x p kind path)) ≡ t
+          → Says (items_at l p path h) (suc n) (if t then said_by after below x (suc n) rest else wrong)
       by_test false is = tt
       by_test true is =
           let both = and_parts (same_bytes (hash_of half x) h) (is_none (fault_of x p kind path)) is in
@@ -180,7 +191,8 @@ module _ (half : Half) (kind : Kind) (after : Hash) (whole : length (nibbles aft
       let other : n ≡ 0 → ⊥ = eqb-false n 0 one.0 in
       (omega arith, (or_parts (is_zero h) (is_passed after path) one.1).0)
 
-  says_at_level : (l : ℕ) (p : Option (List Hash)) (path : List ℕ) (h : Hash) (below : List Hash → Reading) (n : ℕ) (used : List Held) → At l p path h → AllByRecursion Among used
+  says_at_level : (l : ℕ) (p : Option (List Hash)) (path : List ℕ) (h : Hash) (below : List Hash → Reading) (n : ℕ) (used : List Held)
+      → At l p path h → AllByRecursion Among used
       → ((m : ℕ) (hashes : List Hash) (rest : List Held) → is_zero h ≡ false → Among (inner hashes) → hash_of half (inner hashes) ≡ h → fault_of (inner hashes) p kind path ≡ None → AllByRecursion Among rest
       → Says (items_at l p path h) (suc m) (below hashes (suc m) rest))
       → Says (items_at l p path h) n (if is_skipped after path h n then said [] used else said_at half kind after p path h below n used)
@@ -190,15 +202,18 @@ module _ (half : Half) (kind : Kind) (after : Hash) (whole : length (nibbles aft
       by_n zero some nonzero = absurd (omega arith)
       by_n (suc m) some nonzero = node_says l p path h below m used at nonzero among (λ hashes rest. go m hashes rest nonzero)
 
-      by_test : (t : Bool) → is_skipped after path h n ≡ t → Says (items_at l p path h) n (if t then said [] used else said_at half kind after p path h below n used)
+      by_test : (t : Bool) → is_skipped after path h n ≡ t
+          → Says (items_at l p path h) n (if t then said [] used else said_at half kind after p path h below n used)
       by_test true is = skipped_says l p path h n used at among is
       by_test false is = let w = wanted path h n is in by_n n w.0 w.1
 
   -- what the nodes say of a place is its first entries behind the key
-  pub page_says : (l : ℕ) (p : Option (List Hash)) (path : List ℕ) (h : Hash) (n : ℕ) (used : List Held) → At l p path h → AllByRecursion Among used
+  pub page_says : (l : ℕ) (p : Option (List Hash)) (path : List ℕ) (h : Hash) (n : ℕ) (used : List Held) → At l p path h
+      → AllByRecursion Among used
       → Says (items_at l p path h) n (page_from half kind after l p path h n used)
   unfolding page_from
-  page_says zero p path h n used at among = says_at_level 0 p path h (λ hashes m rest. wrong) n used at among (λ m hashes rest nonzero first same fits among'. tt)
+  page_says zero p path h n used at among =
+      says_at_level 0 p path h (λ hashes m rest. wrong) n used at among (λ m hashes rest nonzero first same fits among'. tt)
   page_says (suc l) p path h n used at among =
       says_at_level (suc l) p path h _ n used at among
       (λ m hashes rest nonzero first same fits among'.

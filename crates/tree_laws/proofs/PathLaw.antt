@@ -24,11 +24,13 @@ use Rattle.tree_laws.proofs.Shapes.{passed, none_is, KeepsLeaf, keeps_leaf, abov
 use Rattle.tree_laws.proofs.Standing.{Here, node_at, empty_at, Leaf, leaf_at, step, at_root}
 
 -- a key that lies where nothing is isn't in the map
-none_under : (items : Items) (path : List ℕ) (key : Hash) → lies_under path key ≡ true → part items path ≡ [] → get_in hash_cmp items key ≡ None
+none_under : (items : Items) (path : List ℕ) (key : Hash) → lies_under path key ≡ true → part items path ≡ []
+    → get_in hash_cmp items key ≡ None
 none_under items path key under none = sym (get_in_part items path key under) ∙ ap (λ p. get_in hash_cmp p key) none
 
 -- a key that lies where one leaf is has that leaf's data, or is another
-leaf_under : (items : Items) (path : List ℕ) (key own bytes : Bytes) (e : Entry) (others : List Entry) → lies_under path key ≡ true → part items path ≡ e ∷ others
+leaf_under : (items : Items) (path : List ℕ) (key own bytes : Bytes) (e : Entry) (others : List Entry) → lies_under path key ≡ true
+    → part items path ≡ e ∷ others
     → e.0 ≡ own → e.1 ≡ bytes → (others ≡ []) ⊎ (key ≡ e.0) → (if same_bytes own key then value bytes else nothing) ≡ answer_of (get_in hash_cmp items key)
 leaf_under items path key own bytes e others under is same_own same_bytes' one = by_test (same_bytes own key) refl
   where
@@ -45,7 +47,8 @@ leaf_under items path key own bytes e others under is same_own same_bytes' one =
         (λ none. by_alone (is_at (hash_cmp key) e.0) refl none differ)
         (λ s. absurd (differ s)) one
       where
-        by_alone : (t : Bool) → is_at (hash_cmp key) e.0 ≡ t → others ≡ [] → (key ≡ e.0 → ⊥) → nothing ≡ answer_of (get_in hash_cmp items key)
+        by_alone : (t : Bool) → is_at (hash_cmp key) e.0 ≡ t → others ≡ [] → (key ≡ e.0 → ⊥)
+            → nothing ≡ answer_of (get_in hash_cmp items key)
         by_alone true at none differ = absurd (differ (same_key key e.0 at))
         by_alone false at none differ =
             ap answer_of (sym (found ∙ lookup_tail (is_at (hash_cmp key)) e others at ∙ ap (λ l. get_in hash_cmp l key) none))
@@ -67,7 +70,8 @@ module _ (half : Half) (sized : Sized half) (kind : Kind) (root key : Hash) (is_
   length_at depth within = length-take-le depth (nibbles key) (omega (arith, length-nibbles key, is_key.size))
 
   -- the map has this leaf
-  leaf_ends : (depth : ℕ) → depth ≤ 64 → (k : Kind) (own bytes : Bytes) → IsHeld half (leaf k own bytes) → form_at half kind items (at depth) ≡ Some (form_of (leaf k own bytes))
+  leaf_ends : (depth : ℕ) → depth ≤ 64 → (k : Kind) (own bytes : Bytes) → IsHeld half (leaf k own bytes)
+      → form_at half kind items (at depth) ≡ Some (form_of (leaf k own bytes))
       → (if same_bytes own key then value bytes else nothing) ≡ answer_of (get_in hash_cmp items key)
   leaf_ends depth within k own bytes is_leaf same =
       let l : Leaf half sized kind root used held items are (at depth) own bytes = leaf_at half sized kind root used held items are (at depth) (omega (arith, length_at depth within)) k own bytes is_leaf same in
@@ -78,7 +82,8 @@ module _ (half : Half) (sized : Sized half) (kind : Kind) (root key : Hash) (is_
       l.alone)
 
   -- the way goes on
-  deeper : (depth : ℕ) (h : Hash) (hashes : List Hash) (parent : Option (List Hash)) → depth ≤ 64 → On depth h → Contains used (inner hashes) → hash_of half (inner hashes) ≡ h
+  deeper : (depth : ℕ) (h : Hash) (hashes : List Hash) (parent : Option (List Hash)) → depth ≤ 64 → On depth h
+      → Contains used (inner hashes) → hash_of half (inner hashes) ≡ h
       → fault_of (inner hashes) parent kind (at depth) ≡ None → form_at half kind items (at depth) ≡ Some (form_of (inner hashes))
       → (depth < 64) × On (depth + 1) (slice_index_or hashes (nibble_of key depth) zero_hash)
   deeper depth h hashes parent within here among is fits same =
@@ -98,7 +103,8 @@ module _ (half : Half) (sized : Sized half) (kind : Kind) (root key : Hash) (is_
       ⊎_elim (λ gone. inl (ap answer_of (sym (none_under items (at depth) key (under_own depth key within is_key.size) gone)))) inr (empty_at half sized kind root used held items are (at depth) h here none)
 
   -- the last node answers, or a collision shows
-  ends : (depth : ℕ) (h : Hash) (n : Held) (parent : Option (List Hash)) (outcome : Outcome) → depth ≤ 64 → On depth h → Contains used n → hash_of half n ≡ h
+  ends : (depth : ℕ) (h : Hash) (n : Held) (parent : Option (List Hash)) (outcome : Outcome) → depth ≤ 64 → On depth h → Contains used n
+      → hash_of half n ≡ h
       → fault_of n parent kind (at depth) ≡ None → form_at half kind items (at depth) ≡ Some (form_of n) → ends_at key depth n ≡ Some outcome → Answer outcome
   ends depth h (leaf k own bytes) parent outcome within here among is fits same says =
       let outcome_is : (if same_bytes own key then value bytes else nothing) ≡ outcome = cc in
@@ -109,17 +115,20 @@ module _ (half : Half) (sized : Sized half) (kind : Kind) (root key : Hash) (is_
       let outcome_is : nothing ≡ outcome = cc (t.1) in
       let on = deeper depth h hashes parent within here among is fits same in
       subst Answer outcome_is (empty_answer (depth + 1) (slice_index_or hashes (nibble_of key depth) zero_hash) (omega (arith, on.0)) on.1 t.0)
-  ends depth h (header bytes) parent outcome within here among is fits same says = let no : Some Rattle.ledger_spec.specs.declared.ShapeFault.TheVariants.Foreign ≡ None = fits in cc
+  ends depth h (header bytes) parent outcome within here among is fits same says =
+      let no : Some Rattle.ledger_spec.specs.declared.ShapeFault.TheVariants.Foreign ≡ None = fits in cc
 
   -- what holds of the first node of a list, which is among the nodes used
-  here_of : (h : Hash) (n : Held) (parent : Option (List Hash)) (path : List ℕ) → (same_bytes (hash_of half n) h && is_none (fault_of n parent kind path)) ≡ true
+  here_of : (h : Hash) (n : Held) (parent : Option (List Hash)) (path : List ℕ)
+      → (same_bytes (hash_of half n) h && is_none (fault_of n parent kind path)) ≡ true
       → (hash_of half n ≡ h) × (fault_of n parent kind path ≡ None)
   here_of h n parent path tests =
       let both = and_parts (same_bytes (hash_of half n) h) (is_none (fault_of n parent kind path)) tests in
       ((bytes_eq-Decides (hash_of half n) h).0 both.0, none_is (fault_of n parent kind path) both.1)
 
   -- from a depth on
-  from : (rest : List Held) → ((n : Held) → Contains rest n → Contains used n) → (depth : ℕ) (h : Hash) (parent : Option (List Hash)) (outcome : Outcome)
+  from : (rest : List Held) → ((n : Held) → Contains rest n → Contains used n)
+      → (depth : ℕ) (h : Hash) (parent : Option (List Hash)) (outcome : Outcome)
       → depth ≤ 64 → On depth h → follow_from half kind key depth parent h rest ≡ Some outcome → Answer outcome
   from [] among depth h parent outcome within here says = let no : None ≡ Some outcome = says in cc
   from (n ∷ []) among depth h parent outcome within here says =
@@ -139,7 +148,8 @@ module _ (half : Half) (sized : Sized half) (kind : Kind) (root key : Hash) (is_
       t.1)
       inr (node_at half sized kind root used held items are (at depth) h here n first fits.0)
     where
-      further : (n : Held) → Contains used n → hash_of half n ≡ h → fault_of n parent kind (at depth) ≡ None → form_at half kind items (at depth) ≡ Some (form_of n)
+      further : (n : Held) → Contains used n → hash_of half n ≡ h → fault_of n parent kind (at depth) ≡ None
+          → form_at half kind items (at depth) ≡ Some (form_of n)
           → ((hashes : List Hash) → (depth < 64) × On (depth + 1) (slice_index_or hashes (nibble_of key depth) zero_hash)
           → follow_from half kind key (depth + 1) (Some hashes) (slice_index_or hashes (nibble_of key depth) zero_hash) (m ∷ rest) ≡ Some outcome → Answer outcome)
           → option_and_then (λ hashes. follow_from half kind key (depth + 1) (Some hashes) (slice_index_or hashes (nibble_of key depth) zero_hash) (m ∷ rest)) (inner_hashes n) ≡ Some outcome → Answer outcome
@@ -162,6 +172,8 @@ module _ (half : Half) (sized : Sized half) (kind : Kind) (root key : Hash) (is_
           by_zero false says' = from (n ∷ rest) (λ x there. subst (λ l. Contains l x) (sym e) there) 0 root None outcome (omega arith) (at_root half sized kind root used held items are is) says'
 
 -- the law
-pub answers_or_shows : (half : Half) → Sized half → (kind : Kind) (root key : Hash) (used : List Held) (outcome : Outcome) → IsKey key → AreNodes half kind used
+pub answers_or_shows : (half : Half) → Sized half → (kind : Kind) (root key : Hash) (used : List Held) (outcome : Outcome) → IsKey key
+    → AreNodes half kind used
     → follow half kind root key used ≡ Some outcome → AnswersOrShows half kind root key used outcome
-answers_or_shows half sized kind root key used outcome is_key held says items are is = path_answers half sized kind root key is_key used held items are is outcome says
+answers_or_shows half sized kind root key used outcome is_key held says items are is =
+    path_answers half sized kind root key is_key used held items are is outcome says

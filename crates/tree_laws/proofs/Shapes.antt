@@ -46,7 +46,8 @@ pub record KeepsLeaf (kind own : Kind) (key : Hash) (path : List ℕ) : Type 0 w
   pub below : 0 < length path
   pub under : lies_under path key ≡ true
 
-leaf_tests : (a b c d : Bool) (w r e l : ShapeFault) → (if a then Some w else if b then Some r else if c then Some e else if d then Some l else None) ≡ None
+leaf_tests : (a b c d : Bool) (w r e l : ShapeFault)
+    → (if a then Some w else if b then Some r else if c then Some e else if d then Some l else None) ≡ None
     → (a ≡ false) × (b ≡ false) × (c ≡ false)
 leaf_tests true b c d w r e l h = cc
 leaf_tests false true c d w r e l h = cc
@@ -57,7 +58,8 @@ not_is : (b : Bool) → not b ≡ false → b ≡ true
 not_is true e = refl
 not_is false e = cc
 
-pub keeps_leaf : (kind own : Kind) (key bytes : Bytes) (parent : Option (List Hash)) (path : List ℕ) → fault_of (leaf own key bytes) parent kind path ≡ None → KeepsLeaf kind own key path
+pub keeps_leaf : (kind own : Kind) (key bytes : Bytes) (parent : Option (List Hash)) (path : List ℕ)
+    → fault_of (leaf own key bytes) parent kind path ≡ None → KeepsLeaf kind own key path
 keeps_leaf kind own key bytes parent path e =
     let t = leaf_tests (not (same_kind own kind)) (length path == 0) (not (lies_under path key)) (is_lone parent path) WrongKind LeafAtRoot (LeafElsewhere key) LoneLeaf e in
     let some : (length path ≡ 0) → ⊥ = eqb-false (length path) 0 t.1 in
@@ -68,7 +70,8 @@ one_test true w e = cc
 one_test false w e = refl
 
 -- an inner node that breaks no rule stands above the bottom
-pub above_bottom : (kind : Kind) (hashes : List Hash) (parent : Option (List Hash)) (path : List ℕ) → length path ≤ 64 → fault_of (inner hashes) parent kind path ≡ None → length path < 64
+pub above_bottom : (kind : Kind) (hashes : List Hash) (parent : Option (List Hash)) (path : List ℕ) → length path ≤ 64
+    → fault_of (inner hashes) parent kind path ≡ None → length path < 64
 above_bottom kind hashes parent path within e =
     let other : (length path ≡ 64) → ⊥ = eqb-false (length path) 64 (one_test (length path == 64) InnerAtBottom e) in
     omega arith
@@ -113,7 +116,8 @@ one_other : (others : List Entry) → suc (length others) ≡ 1 → others ≡ [
 one_other [] e = refl
 one_other (x ∷ others) e = absurd (omega arith)
 
-pub branch_below : (half : Half) → Sized half → (kind : Kind) (items : Items) (path : List ℕ) (b : ℕ) (hashes : List Hash) → IsHeld half (inner hashes) → length path < 64 → b < 16
+pub branch_below : (half : Half) → Sized half → (kind : Kind) (items : Items) (path : List ℕ) (b : ℕ) (hashes : List Hash)
+    → IsHeld half (inner hashes) → length path < 64 → b < 16
     → form_at half kind items path ≡ Some (form_of (inner hashes)) → Below half kind items path b (slice_index_or hashes b zero_hash)
 unfolding form_at
 branch_below half sized kind items path b hashes held above below is =
@@ -126,7 +130,9 @@ branch_below half sized kind items path b hashes held above below is =
     let are : hashes ≡ map (kid_hash half kind items n path) branches = hashes_are (kid_hash half kind items n path) hashes (λ c. size_or_zero half sized _) held.count held.sizes pieces in
     let levels : 64 - length (path ++ b ∷ []) ≡ n = omega (arith, length-append path (b ∷ [])) in
     record {
-      kid = ap (λ l. hash_or_zero half (form_of_part half kind items l (path ++ b ∷ []) (part items (path ++ b ∷ [])))) levels ∙ sym (hash_at_branch (kid_hash half kind items n path) hashes b below are);
+      kid =
+          ap (λ l. hash_or_zero half (form_of_part half kind items l (path ++ b ∷ []) (part items (path ++ b ∷ [])))) levels
+          ∙ sym (hash_at_branch (kid_hash half kind items n path) hashes b below are);
       crowded = λ some one. crowd path others many some (one_other others (sym (ap length there) ∙ one));
     })
     is

@@ -18,7 +18,8 @@ use Rattle.tree_laws.proofs.Shapes.{above_bottom, same_or_not, zero_is, key_size
 
 list_all_push : (p : ℕ → Bool) (l : List ℕ) (b : ℕ) → IsTrue (list_all p l) → p b ≡ true → IsTrue (list_all p (l ++ b ∷ []))
 list_all_push p [] b all one = and_from (p b) true one refl
-list_all_push p (x ∷ l) b all one = let both = and_parts (p x) (list_all p l) all in and_from (p x) _ both.0 (list_all_push p l b both.1 one)
+list_all_push p (x ∷ l) b all one =
+    let both = and_parts (p x) (list_all p l) all in and_from (p x) _ both.0 (list_all_push p l b both.1 one)
 
 module _ (half : Half) (sized : Sized half) (kind : Kind) (root : Hash) (used : List Held) (held : AreNodes half kind used) (items : Items) (are : AreItems half kind items) where
   -- the hash at a path is that of the map's node, and stands there through the nodes
@@ -28,7 +29,8 @@ module _ (half : Half) (sized : Sized half) (kind : Kind) (root : Hash) (used : 
     pub hash : hash_or_zero half (form_at half kind items path) ≡ h
     pub above : NoLeafAbove items path
 
-  pub shows : (path : List ℕ) (h : Hash) → Here path h → (read : Option Bytes) → Stands half used h [] read → hash_or_zero half read ≡ h → read ≢ form_at half kind items path
+  pub shows : (path : List ℕ) (h : Hash) → Here path h → (read : Option Bytes) → Stands half used h [] read → hash_or_zero half read ≡ h
+      → read ≢ form_at half kind items path
       → Shows half kind items root used
   shows path h here read stands is differ = record {
     path = path;
@@ -68,7 +70,8 @@ module _ (half : Half) (sized : Sized half) (kind : Kind) (root : Hash) (used : 
     pub alone : (others ≡ []) ⊎ (length path ≡ 64)
     pub sizes : AllByRecursion (λ (x : Entry). length x.0 ≡ 32) (e ∷ others)
 
-  pub leaf_at : (path : List ℕ) → length path ≤ 64 → (k : Kind) (key bytes : Bytes) → IsHeld half (leaf k key bytes) → form_at half kind items path ≡ Some (form_of (leaf k key bytes)) → Leaf path key bytes
+  pub leaf_at : (path : List ℕ) → length path ≤ 64 → (k : Kind) (key bytes : Bytes) → IsHeld half (leaf k key bytes)
+      → form_at half kind items path ≡ Some (form_of (leaf k key bytes)) → Leaf path key bytes
   unfolding form_at
   leaf_at path within k key bytes is_leaf same =
       node_cases half kind items (64 - length path) path (part items path) (λ o. o ≡ Some (form_of (leaf k key bytes)) → Leaf path key bytes)
@@ -95,12 +98,14 @@ module _ (half : Half) (sized : Sized half) (kind : Kind) (root : Hash) (used : 
       absurd (leaf_no_inner k key bytes (flat_map (kid_hash half kind items n path) branches) form))
       same
     where
-      sizes_of : (l : List Entry) → AllByRecursion (λ (x : Entry). IsHeld half (leaf kind x.0 x.1)) l → AllByRecursion (λ (x : Entry). length x.0 ≡ 32) l
+      sizes_of : (l : List Entry) → AllByRecursion (λ (x : Entry). IsHeld half (leaf kind x.0 x.1)) l
+          → AllByRecursion (λ (x : Entry). length x.0 ≡ 32) l
       sizes_of [] all = tt
       sizes_of (x ∷ l) all = (key_size half kind x.0 x.1 all.0, sizes_of l all.1)
 
   -- the map has this inner node, so each branch stands below it
-  pub step : (path : List ℕ) (h : Hash) (hashes : List Hash) (parent : Option (List Hash)) (b : ℕ) → b < 16 → Here path h → Contains used (inner hashes) → hash_of half (inner hashes) ≡ h
+  pub step : (path : List ℕ) (h : Hash) (hashes : List Hash) (parent : Option (List Hash)) (b : ℕ) → b < 16 → Here path h
+      → Contains used (inner hashes) → hash_of half (inner hashes) ≡ h
       → fault_of (inner hashes) parent kind path ≡ None → form_at half kind items path ≡ Some (form_of (inner hashes)) → Here (path ++ b ∷ []) (slice_index_or hashes b zero_hash)
   step path h hashes parent b low here among is fits same =
       let up : length path < 64 = above_bottom kind hashes parent path here.is_path.short fits in

@@ -37,7 +37,8 @@ module _ (half : Half) (nodes : Lookup) (kind : Kind) where
   Under path items = AllByRecursion (λ (e : Entry). lies_under path e.0 ≡ true) items
 
   -- what a walk meets lies under its path
-  by_sight : (p : Option (List Hash)) (path : List ℕ) (h : Hash) (x : Sight) (below : List Hash → List Met) → seen_at p path h ≡ x → ((hashes : List Hash) → Under path (entries (below hashes)))
+  by_sight : (p : Option (List Hash)) (path : List ℕ) (h : Hash) (x : Sight) (below : List Hash → List Met) → seen_at p path h ≡ x
+      → ((hashes : List Hash) → Under path (entries (below hashes)))
       → Under path (entries (met (Node kind path) h p x ∷ branches_of x below))
   by_sight p path h missing below is each = tt
   by_sight p path h (broken fault) below is each = tt
@@ -46,7 +47,8 @@ module _ (half : Half) (nodes : Lookup) (kind : Kind) where
   by_sight p path h (sound (inner hashes)) below is each = each hashes
   by_sight p path h (sound (header bytes)) below is each = tt
 
-  bottom_under : (p : Option (List Hash)) (path : List ℕ) (h : Hash) (x : Sight) → seen_at p path h ≡ x → Under path (entries (met (Node kind path) h p x ∷ []))
+  bottom_under : (p : Option (List Hash)) (path : List ℕ) (h : Hash) (x : Sight) → seen_at p path h ≡ x
+      → Under path (entries (met (Node kind path) h p x ∷ []))
   bottom_under p path h missing is = tt
   bottom_under p path h (broken fault) is = tt
   bottom_under p path h (sound (leaf k key bytes)) is =
@@ -54,7 +56,8 @@ module _ (half : Half) (nodes : Lookup) (kind : Kind) where
   bottom_under p path h (sound (inner hashes)) is = tt
   bottom_under p path h (sound (header bytes)) is = tt
 
-  under_join : (path : List ℕ) (walked : ℕ → List Met) → ((b : ℕ) → Under (path ++ b ∷ []) (entries (walked b))) → (xs : List ℕ) → Under path (entries (flat_map walked xs))
+  under_join : (path : List ℕ) (walked : ℕ → List Met) → ((b : ℕ) → Under (path ++ b ∷ []) (entries (walked b))) → (xs : List ℕ)
+      → Under path (entries (flat_map walked xs))
   under_join path walked each [] = tt
   under_join path walked each (b ∷ xs) =
       subst (Under path) (sym (Rattle.std.proofs.lemmas.List.Elements.filter_map-append (λ (m : Met). item_at m.sight) (walked b) (flat_map walked xs)))
@@ -78,7 +81,8 @@ module _ (half : Half) (nodes : Lookup) (kind : Kind) where
       by_zero false each = by_sight p path h (seen_at p path h) (λ hashes. flat_map (λ b. Walked l (Some hashes) (path ++ b ∷ []) (slice_index_or hashes b zero_hash)) branches) refl each
 
   -- a stored node that breaks no rule is seen
-  sees_stored : (p : Option (List Hash)) (path : List ℕ) (h : Hash) (n : Held) → IsStoredNode half nodes n → hash_of half n ≡ h → fault_of n p kind path ≡ None → seen_at p path h ≡ sound n
+  sees_stored : (p : Option (List Hash)) (path : List ℕ) (h : Hash) (n : Held) → IsStoredNode half nodes n → hash_of half n ≡ h
+      → fault_of n p kind path ≡ None → seen_at p path h ≡ sound n
   sees_stored p path h n stored is fits =
       ap (λ g. seen_at p path g) (sym is) ∙ ap (sight_of half (λ m. fault_of m p kind path)) stored.stored ∙ ap (judged (λ m. fault_of m p kind path)) (sees half n (form_of n) (stored.held, refl)) ∙ ap (seen_as n) fits
 
@@ -87,14 +91,17 @@ module _ (half : Half) (nodes : Lookup) (kind : Kind) where
   no_entries zero p path h none = ap entries (cond-true (is_zero h) _ _ none)
   no_entries (suc l) p path h none = ap entries (cond-true (is_zero h) _ _ none)
 
-  leaf_entry : (l : ℕ) (p : Option (List Hash)) (path : List ℕ) (h : Hash) (k : Kind) (key bytes : Bytes) → is_zero h ≡ false → seen_at p path h ≡ sound (leaf k key bytes) → entries (Walked l p path h) ≡ (key, bytes) ∷ []
+  leaf_entry : (l : ℕ) (p : Option (List Hash)) (path : List ℕ) (h : Hash) (k : Kind) (key bytes : Bytes) → is_zero h ≡ false
+      → seen_at p path h ≡ sound (leaf k key bytes) → entries (Walked l p path h) ≡ (key, bytes) ∷ []
   unfolding walk
-  leaf_entry zero p path h k key bytes some seen = ap entries (cond-false (is_zero h) _ _ some) ∙ ap (λ x. entries (met (Node kind path) h p x ∷ [])) seen
+  leaf_entry zero p path h k key bytes some seen =
+      ap entries (cond-false (is_zero h) _ _ some) ∙ ap (λ x. entries (met (Node kind path) h p x ∷ [])) seen
   leaf_entry (suc l) p path h k key bytes some seen =
       ap entries (cond-false (is_zero h) _ _ some)
       ∙ ap (λ x. entries (met (Node kind path) h p x ∷ branches_of x (λ hashes. flat_map (λ b. Walked l (Some hashes) (path ++ b ∷ []) (slice_index_or hashes b zero_hash)) branches))) seen
 
-  inner_entries : (l : ℕ) (p : Option (List Hash)) (path : List ℕ) (h : Hash) (hashes : List Hash) → is_zero h ≡ false → seen_at p path h ≡ sound (inner hashes)
+  inner_entries : (l : ℕ) (p : Option (List Hash)) (path : List ℕ) (h : Hash) (hashes : List Hash) → is_zero h ≡ false
+      → seen_at p path h ≡ sound (inner hashes)
       → entries (Walked (suc l) p path h) ≡ flat_map (λ b. entries (Walked l (Some hashes) (path ++ b ∷ []) (slice_index_or hashes b zero_hash))) branches
   unfolding walk
   inner_entries l p path h hashes some seen =
@@ -105,7 +112,8 @@ module _ (half : Half) (nodes : Lookup) (kind : Kind) where
   abbrev At : ℕ → Option (List Hash) → List ℕ → Hash → Type 0
   At l p path h = l + length path ≡ 64
 
-  pub page_of_store : (root after : Hash) (is_key : IsKey after) (n : ℕ) (used : List Held) (page : Items) → AllByRecursion (IsStoredNode half nodes) used → IsPageOf half kind root after n used page
+  pub page_of_store : (root after : Hash) (is_key : IsKey after) (n : ℕ) (used : List Held) (page : Items)
+      → AllByRecursion (IsStoredNode half nodes) used → IsPageOf half kind root after n used page
       → page ≡ after_key after n (items_of half nodes kind root)
   unfolding heard_from walk_map
   page_of_store root after is_key n used page stored says =
@@ -113,11 +121,14 @@ module _ (half : Half) (nodes : Lookup) (kind : Kind) where
       (page_says half kind after (omega (arith, length-nibbles after, is_key.size)) (IsStoredNode half nodes) ⊥ At (λ l p path h. entries (Walked l p path h)) (λ l p path h at. at) (λ l p path h at. walk_under l p path h)
       (λ l p path h at none. inl (no_entries l p path h none)) at_leaf at_inner 64 None [] root n used refl stored)
     where
-      at_leaf : (l : ℕ) (p : Option (List Hash)) (path : List ℕ) (h : Hash) (k : Kind) (key bytes : Bytes) → At l p path h → is_zero h ≡ false → IsStoredNode half nodes (leaf k key bytes) → hash_of half (leaf k key bytes) ≡ h
+      at_leaf : (l : ℕ) (p : Option (List Hash)) (path : List ℕ) (h : Hash) (k : Kind) (key bytes : Bytes) → At l p path h
+          → is_zero h ≡ false → IsStoredNode half nodes (leaf k key bytes) → hash_of half (leaf k key bytes) ≡ h
           → fault_of (leaf k key bytes) p kind path ≡ None → (entries (Walked l p path h) ≡ (key, bytes) ∷ []) ⊎ ⊥
-      at_leaf l p path h k key bytes at some first is fits = inl (leaf_entry l p path h k key bytes some (sees_stored p path h (leaf k key bytes) first is fits))
+      at_leaf l p path h k key bytes at some first is fits =
+          inl (leaf_entry l p path h k key bytes some (sees_stored p path h (leaf k key bytes) first is fits))
 
-      at_inner : (l : ℕ) (p : Option (List Hash)) (path : List ℕ) (h : Hash) (hashes : List Hash) → At (suc l) p path h → is_zero h ≡ false → IsStoredNode half nodes (inner hashes) → hash_of half (inner hashes) ≡ h
+      at_inner : (l : ℕ) (p : Option (List Hash)) (path : List ℕ) (h : Hash) (hashes : List Hash) → At (suc l) p path h → is_zero h ≡ false
+          → IsStoredNode half nodes (inner hashes) → hash_of half (inner hashes) ≡ h
           → fault_of (inner hashes) p kind path ≡ None
           → ((entries (Walked (suc l) p path h) ≡ flat_map (λ b. entries (Walked l (Some hashes) (path ++ b ∷ []) (slice_index_or hashes b zero_hash))) branches)
           × ((b : ℕ) → b < 16 → At l (Some hashes) (path ++ b ∷ []) (slice_index_or hashes b zero_hash))) ⊎ ⊥

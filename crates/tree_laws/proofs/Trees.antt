@@ -44,7 +44,8 @@ under_own depth key within size =
     under_from (take depth (nibbles key)) key (ap (λ n. take n (nibbles key)) (sym (length-take-le depth (nibbles key) enough)))
 
 -- two keys under a path of 64 nibbles are one
-pub under_whole : (path a b : List ℕ) → length path ≡ 64 → length a ≡ 32 → length b ≡ 32 → lies_under path a ≡ true → lies_under path b ≡ true → a ≡ b
+pub under_whole : (path a b : List ℕ) → length path ≡ 64 → length a ≡ 32 → length b ≡ 32 → lies_under path a ≡ true
+    → lies_under path b ≡ true → a ≡ b
 under_whole path a b whole size_a size_b under_a under_b =
     let all : (k : Hash) → length k ≡ 32 → lies_under path k ≡ true → path ≡ nibbles k = λ k size under.
     let short : length (nibbles k) ≤ length path = omega (arith, length-nibbles k) in
@@ -53,12 +54,14 @@ under_whole path a b whole size_a size_b under_a under_b =
     sym (packed-nibbles a) ∙ ap packed (sym (all a size_a under_a) ∙ all b size_b under_b) ∙ packed-nibbles b
 
 -- a look-up under a path is one among what lies there
-pub get_in_part : (items : Items) (path key : List ℕ) → lies_under path key ≡ true → get_in hash_cmp (part items path) key ≡ get_in hash_cmp items key
+pub get_in_part : (items : Items) (path key : List ℕ) → lies_under path key ≡ true
+    → get_in hash_cmp (part items path) key ≡ get_in hash_cmp items key
 get_in_part items path key under =
     lookup-filter-keys (is_at (hash_cmp key)) (lies_under path) true (λ k e. subst (λ q. lies_under path q ≡ true) (same_key key k e) under) items
 
 -- what is true of each entry is true of what lies under a path
-pub each_in_part : (P : Entry → Type 0) (test : Entry → Bool) (items : Items) → AllByRecursion P items → AllByRecursion P (filter test items)
+pub each_in_part : (P : Entry → Type 0) (test : Entry → Bool) (items : Items) → AllByRecursion P items
+    → AllByRecursion P (filter test items)
 each_in_part P test [] all = tt
 each_in_part P test (e ∷ items) all = kept (test e) (filter test items) (each_in_part P test items all.1)
   where
@@ -96,7 +99,8 @@ node_cases half kind items left path [] P nothing at_leaf at_inner = nothing ref
 node_cases half kind items zero path (e ∷ others) P nothing at_leaf at_inner = at_leaf e others refl (inr refl)
 node_cases half kind items (suc n) path (e ∷ others) P nothing at_leaf at_inner = by_test (is_alone path others) refl
   where
-    by_test : (b : Bool) → is_alone path others ≡ b → P (Some (if b then leaf_form kind e.0 e.1 else inner_prefix ++ flat_map (kid_hash half kind items n path) branches))
+    by_test : (b : Bool) → is_alone path others ≡ b
+        → P (Some (if b then leaf_form kind e.0 e.1 else inner_prefix ++ flat_map (kid_hash half kind items n path) branches))
     by_test true is = at_leaf e others refl (inl (alone_nil path others is))
     by_test false is = at_inner e others n refl refl is
 
@@ -123,14 +127,18 @@ concat_map f (x ∷ xs) = ap (λ t. f x ++ t) (concat_map f xs)
 
 pub sizes_map : (f : ℕ → Hash) (xs : List ℕ) → ((b : ℕ) → length (f b) ≡ 32) → IsTrue (list_all (λ h. length h == 32) (map f xs))
 sizes_map f [] size = refl
-sizes_map f (x ∷ xs) size = and_from (length (f x) == 32) (list_all (λ h. length h == 32) (map f xs)) (eq-eqb (length (f x)) 32 (size x)) (sizes_map f xs size)
+sizes_map f (x ∷ xs) size =
+    and_from (length (f x) == 32) (list_all (λ h. length h == 32) (map f xs)) (eq-eqb (length (f x)) 32 (size x)) (sizes_map f xs size)
 
 -- sixteen hashes that join to the pieces are the pieces
-pub hashes_are : (f : ℕ → Hash) (hashes : List Hash) → ((b : ℕ) → length (f b) ≡ 32) → length hashes ≡ 16 → IsTrue (list_all (λ h. length h == 32) hashes)
+pub hashes_are : (f : ℕ → Hash) (hashes : List Hash) → ((b : ℕ) → length (f b) ≡ 32) → length hashes ≡ 16
+    → IsTrue (list_all (λ h. length h == 32) hashes)
     → concat hashes ≡ flat_map f branches → hashes ≡ map f branches
 hashes_are f hashes size count sizes e =
     sym (hashes_of-concat hashes sizes) ∙ ap (λ n. hashes_of n (concat hashes)) count
     ∙ ap (hashes_of 16) (e ∙ sym (concat_map f branches)) ∙ hashes_of-concat (map f branches) (sizes_map f branches size)
 
-pub hash_at_branch : (f : ℕ → Hash) (hashes : List Hash) (b : ℕ) → b < 16 → hashes ≡ map f branches → slice_index_or hashes b zero_hash ≡ f b
-hash_at_branch f hashes b below e = ap (λ l. slice_index_or l b zero_hash) e ∙ get_or-map-range_with_len f 0 16 b b zero_hash below (omega arith)
+pub hash_at_branch : (f : ℕ → Hash) (hashes : List Hash) (b : ℕ) → b < 16 → hashes ≡ map f branches
+    → slice_index_or hashes b zero_hash ≡ f b
+hash_at_branch f hashes b below e =
+    ap (λ l. slice_index_or l b zero_hash) e ∙ get_or-map-range_with_len f 0 16 b b zero_hash below (omega arith)

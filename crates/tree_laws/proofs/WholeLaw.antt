@@ -37,13 +37,15 @@ use Rattle.tree_laws.proofs.Shapes.{zero_is, KeepsLeaf, keeps_leaf, above_bottom
 use Rattle.tree_laws.proofs.Orders.{all_append, all_weaker, map_branches}
 
 -- nothing is found in a join where nothing is found in each part
-pub clean_each : {A B F : Type 0} (find : B → Option F) (f : A → List B) (xs : List A) → filter_map find (flat_map f xs) ≡ [] → AllByRecursion (λ x. filter_map find (f x) ≡ []) xs
+pub clean_each : {A B F : Type 0} (find : B → Option F) (f : A → List B) (xs : List A) → filter_map find (flat_map f xs) ≡ []
+    → AllByRecursion (λ x. filter_map find (f x) ≡ []) xs
 clean_each find f [] clean = tt
 clean_each find f (x ∷ xs) clean =
     let both : (filter_map find (f x) ≡ []) × (filter_map find (flat_map f xs) ≡ []) = both_nil _ _ (sym (filter_map-append find (f x) (flat_map f xs)) ∙ clean) in
     (both.0, clean_each find f xs both.1)
 
-pub found_join : {A B F : Type 0} (find : B → Option F) (f : A → List B) (xs : List A) → filter_map find (flat_map f xs) ≡ flat_map (λ x. filter_map find (f x)) xs
+pub found_join : {A B F : Type 0} (find : B → Option F) (f : A → List B) (xs : List A)
+    → filter_map find (flat_map f xs) ≡ flat_map (λ x. filter_map find (f x)) xs
 found_join find f [] = refl
 found_join find f (x ∷ xs) = filter_map-append find (f x) (flat_map f xs) ∙ ap (λ l. filter_map find (f x) ++ l) (found_join find f xs)
 
@@ -54,7 +56,8 @@ at_branch P all b below =
     subst P is (All-get_or P branches b 0 (omega (arith, length-range_with_len 0 16)) (All-from_recursion P branches all))
 
 -- a branch's hash has 32 bytes, also past the end
-pub size_at : (hashes : List Hash) (b : ℕ) → IsTrue (list_all (λ h. length h == 32) hashes) → length (slice_index_or hashes b zero_hash) ≡ 32
+pub size_at : (hashes : List Hash) (b : ℕ) → IsTrue (list_all (λ h. length h == 32) hashes)
+    → length (slice_index_or hashes b zero_hash) ≡ 32
 size_at [] b sizes = refl
 size_at (h ∷ hashes) zero sizes = eqb-true (length h) 32 (and_parts (length h == 32) (list_all (λ h. length h == 32) hashes) sizes).0
 size_at (h ∷ hashes) (suc b) sizes = size_at hashes b (and_parts (length h == 32) (list_all (λ h. length h == 32) hashes) sizes).1
@@ -118,7 +121,8 @@ weight_most : (t : Bool) → (if t then 2 else 1) ≤ 2
 weight_most true = omega arith
 weight_most false = omega arith
 
-five_tests : (a b c d : Bool) (w r e l : ShapeFault) → (if a then Some w else if b then Some r else if c then Some e else if d then Some l else None) ≡ None → d ≡ false
+five_tests : (a b c d : Bool) (w r e l : ShapeFault)
+    → (if a then Some w else if b then Some r else if c then Some e else if d then Some l else None) ≡ None → d ≡ false
 five_tests true b c d w r e l h = cc
 five_tests false true c d w r e l h = cc
 five_tests false false true d w r e l h = cc
@@ -126,7 +130,8 @@ five_tests false false false true w r e l h = cc
 five_tests false false false false w r e l h = refl
 
 -- a leaf that breaks no rule isn't alone
-pub not_lone : (kind own : Kind) (key bytes : Bytes) (parent : Option (List Hash)) (path : List ℕ) → fault_of (leaf own key bytes) parent kind path ≡ None → is_lone parent path ≡ false
+pub not_lone : (kind own : Kind) (key bytes : Bytes) (parent : Option (List Hash)) (path : List ℕ)
+    → fault_of (leaf own key bytes) parent kind path ≡ None → is_lone parent path ≡ false
 not_lone kind own key bytes parent path e =
     five_tests (not (Rattle.ledger_spec.specs.Rules.same_kind own kind)) (length path == 0) (not (lies_under path key)) (is_lone parent path) Rattle.ledger_spec.specs.declared.ShapeFault.TheVariants.WrongKind
     Rattle.ledger_spec.specs.declared.ShapeFault.TheVariants.LeafAtRoot (Rattle.ledger_spec.specs.declared.ShapeFault.TheVariants.LeafElsewhere key) Rattle.ledger_spec.specs.declared.ShapeFault.TheVariants.LoneLeaf e
@@ -136,7 +141,8 @@ some_counted : (hashes : List Hash) → IsTrue (list_any is_nonzero hashes) → 
 some_counted [] some = cc
 some_counted (h ∷ hashes) some = by_test (is_nonzero h) some (some_counted hashes)
   where
-    by_test : (t : Bool) → (Rattle.std.proofs.Common.◌||◌ t (list_any is_nonzero hashes)) ≡ true → (IsTrue (list_any is_nonzero hashes) → 1 ≤ length (filter is_nonzero hashes))
+    by_test : (t : Bool) → (Rattle.std.proofs.Common.◌||◌ t (list_any is_nonzero hashes)) ≡ true
+        → (IsTrue (list_any is_nonzero hashes) → 1 ≤ length (filter is_nonzero hashes))
         → 1 ≤ length (cond t (h ∷ filter is_nonzero hashes) (filter is_nonzero hashes))
     by_test true is rest = omega arith
     by_test false is rest = rest is
@@ -150,17 +156,20 @@ two_at_least k count size some alone one fits =
     (cases_eq count 1)
 
 one_at_least : (k count size : ℕ) → 1 ≤ count → 1 ≤ k → k * count ≤ size → 1 ≤ size
-one_at_least k count size some one fits = let times : 1 * count ≤ k * count = Rattle.std.proofs.Common.mul-le-mul_right count one in omega arith
+one_at_least k count size some one fits =
+    let times : 1 * count ≤ k * count = Rattle.std.proofs.Common.mul-le-mul_right count one in omega arith
 
 -- one entry below the root is a leaf
-single_form : (half : Half) (kind : Kind) (all : Items) (left : ℕ) (path : List ℕ) (e : Entry) → 0 < length path → form_of_part half kind all left path (e ∷ []) ≡ Some (leaf_form kind e.0 e.1)
+single_form : (half : Half) (kind : Kind) (all : Items) (left : ℕ) (path : List ℕ) (e : Entry) → 0 < length path
+    → form_of_part half kind all left path (e ∷ []) ≡ Some (leaf_form kind e.0 e.1)
 unfolding form_of_part
 single_form half kind all zero path e below = refl
 single_form half kind all (suc left) [] e below = absurd (omega arith)
 single_form half kind all (suc left) (n ∷ path) e below = refl
 
 -- more are an inner node
-inner_form : (half : Half) (kind : Kind) (all : Items) (left : ℕ) (path : List ℕ) (there : Items) → (1 ≤ length there) → (0 < length path → 2 ≤ length there)
+inner_form : (half : Half) (kind : Kind) (all : Items) (left : ℕ) (path : List ℕ) (there : Items) → (1 ≤ length there)
+    → (0 < length path → 2 ≤ length there)
     → form_of_part half kind all (suc left) path there ≡ Some (inner_prefix ++ flat_map (kid_hash half kind all left path) branches)
 unfolding form_of_part
 inner_form half kind all left path [] some many = absurd (omega arith)
@@ -198,7 +207,8 @@ module _ (half : Half) (sized : Sized half) (nodes : Lookup) (own : (h : Hash) (
   empty_form all left path = refl
 
   -- nothing at a zero hash
-  made_zero : (left : ℕ) (parent : Option (List Hash)) (path : List ℕ) (h : Hash) → length h ≡ 32 → is_zero h ≡ true → Made left parent path h []
+  made_zero : (left : ℕ) (parent : Option (List Hash)) (path : List ℕ) (h : Hash) → length h ≡ 32 → is_zero h ≡ true
+      → Made left parent path h []
   made_zero left parent path h size none = record {
     rising = no_rise;
     each = tt;
@@ -208,7 +218,8 @@ module _ (half : Half) (sized : Sized half) (nodes : Lookup) (own : (h : Hash) (
   }
 
   -- a leaf
-  made_leaf : (left : ℕ) (parent : Option (List Hash)) (path : List ℕ) (h : Hash) (k : Kind) (key bytes : Bytes) → Sees half (λ n. fault_of n parent kind path) (nodes h) (leaf k key bytes)
+  made_leaf : (left : ℕ) (parent : Option (List Hash)) (path : List ℕ) (h : Hash) (k : Kind) (key bytes : Bytes)
+      → Sees half (λ n. fault_of n parent kind path) (nodes h) (leaf k key bytes)
       → Made left parent path h ((key, bytes) ∷ [])
   made_leaf left parent path h k key bytes sees =
       let kept : KeepsLeaf kind k key path = keeps_leaf kind k key bytes parent path sees.fits in
@@ -242,7 +253,8 @@ module _ (half : Half) (sized : Sized half) (nodes : Lookup) (own : (h : Hash) (
   weight_some false = omega arith
 
   -- an inner node with what is below it
-  made_inner : (left : ℕ) (parent : Option (List Hash)) (path : List ℕ) (h : Hash) (hashes : List Hash) → Sees half (λ n. fault_of n parent kind path) (nodes h) (inner hashes)
+  made_inner : (left : ℕ) (parent : Option (List Hash)) (path : List ℕ) (h : Hash) (hashes : List Hash)
+      → Sees half (λ n. fault_of n parent kind path) (nodes h) (inner hashes)
       → (g : ℕ → Items) → ((b : ℕ) → Made left (Some hashes) (path ++ b ∷ []) (slice_index_or hashes b zero_hash) (g b)) → ((b : ℕ) → 16 ≤ b → g b ≡ [])
       → Made (suc left) parent path h (flat_map g branches)
   made_inner left parent path h hashes sees g kids past =
@@ -298,22 +310,27 @@ module _ (half : Half) (sized : Sized half) (nodes : Lookup) (own : (h : Hash) (
   Clean walked = filter_map found walked ≡ []
 
   -- what is seen at a place, where nothing is found, and what is below it
-  by_sight : (left : ℕ) (parent : Option (List Hash)) (path : List ℕ) (h : Hash) (x : Sight) (below : List Hash → List Met) → seen_at parent path h ≡ x → is_zero h ≡ false
+  by_sight : (left : ℕ) (parent : Option (List Hash)) (path : List ℕ) (h : Hash) (x : Sight) (below : List Hash → List Met)
+      → seen_at parent path h ≡ x → is_zero h ≡ false
       → ((hashes : List Hash) → Sees half (λ n. fault_of n parent kind path) (nodes h) (inner hashes) → Clean (below hashes) → Made left parent path h (entries (below hashes)))
       → Clean (met (Node kind path) h parent x ∷ branches_of x below) → Made left parent path h (entries (met (Node kind path) h parent x ∷ branches_of x below))
   by_sight left parent path h missing below is some go clean = absurd (no_cons clean)
   by_sight left parent path h (broken fault) below is some go clean = absurd (no_cons clean)
-  by_sight left parent path h (sound (leaf k key bytes)) below is some go clean = made_leaf left parent path h k key bytes (sees_sound half _ (nodes h) (leaf k key bytes) is)
-  by_sight left parent path h (sound (inner hashes)) below is some go clean = go hashes (sees_sound half _ (nodes h) (inner hashes) is) clean
+  by_sight left parent path h (sound (leaf k key bytes)) below is some go clean =
+      made_leaf left parent path h k key bytes (sees_sound half _ (nodes h) (leaf k key bytes) is)
+  by_sight left parent path h (sound (inner hashes)) below is some go clean =
+      go hashes (sees_sound half _ (nodes h) (inner hashes) is) clean
   by_sight left parent path h (sound (header bytes)) below is some go clean =
       let foreign : Some Foreign ≡ None = (sees_sound half (λ n. fault_of n parent kind path) (nodes h) (header bytes) is).fits in cc
 
   -- at the bottom there is no inner node
-  bottom : (parent : Option (List Hash)) (path : List ℕ) (h : Hash) (x : Sight) → length path ≡ 64 → seen_at parent path h ≡ x → is_zero h ≡ false
+  bottom : (parent : Option (List Hash)) (path : List ℕ) (h : Hash) (x : Sight) → length path ≡ 64 → seen_at parent path h ≡ x
+      → is_zero h ≡ false
       → Clean (met (Node kind path) h parent x ∷ []) → Made 0 parent path h (entries (met (Node kind path) h parent x ∷ []))
   bottom parent path h missing deep is some clean = absurd (no_cons clean)
   bottom parent path h (broken fault) deep is some clean = absurd (no_cons clean)
-  bottom parent path h (sound (leaf k key bytes)) deep is some clean = made_leaf 0 parent path h k key bytes (sees_sound half _ (nodes h) (leaf k key bytes) is)
+  bottom parent path h (sound (leaf k key bytes)) deep is some clean =
+      made_leaf 0 parent path h k key bytes (sees_sound half _ (nodes h) (leaf k key bytes) is)
   bottom parent path h (sound (inner hashes)) deep is some clean =
       let above : length path < 64 = above_bottom kind hashes parent path (omega arith) (sees_sound half (λ n. fault_of n parent kind path) (nodes h) (inner hashes) is).fits in
       absurd (omega arith)
@@ -341,7 +358,8 @@ module _ (half : Half) (sized : Sized half) (nodes : Lookup) (own : (h : Hash) (
       let none : slice_index_or hashes b zero_hash ≡ zero_hash = get_or_past hashes b zero_hash (omega arith) in
       no_walk left (Some hashes) (path ++ b ∷ []) (slice_index_or hashes b zero_hash) (ap is_zero none)
 
-  kid_clean : (left : ℕ) (path : List ℕ) (hashes : List Hash) → length hashes ≡ 16 → Clean (below left path hashes) → (b : ℕ) → Clean (kid left path hashes b)
+  kid_clean : (left : ℕ) (path : List ℕ) (hashes : List Hash) → length hashes ≡ 16 → Clean (below left path hashes) → (b : ℕ)
+      → Clean (kid left path hashes b)
   kid_clean left path hashes count clean b =
       ⊎_elim (λ (low : b < 16). at_branch (λ c. Clean (kid left path hashes c)) (clean_each found (kid left path hashes) branches clean) b low)
       (λ (past : 16 ≤ b). ap (filter_map found) (past_end left path hashes b count past))
@@ -352,7 +370,8 @@ module _ (half : Half) (sized : Sized half) (nodes : Lookup) (own : (h : Hash) (
   EachMade left path = (hashes : List Hash) (b : ℕ) → IsTrue (list_all (λ g. length g == 32) hashes) → Clean (kid left path hashes b)
       → Made left (Some hashes) (path ++ b ∷ []) (slice_index_or hashes b zero_hash) (entries (kid left path hashes b))
 
-  made_below : (left : ℕ) (parent : Option (List Hash)) (path : List ℕ) (h : Hash) → EachMade left path → (hashes : List Hash) → Sees half (λ n. fault_of n parent kind path) (nodes h) (inner hashes)
+  made_below : (left : ℕ) (parent : Option (List Hash)) (path : List ℕ) (h : Hash) → EachMade left path → (hashes : List Hash)
+      → Sees half (λ n. fault_of n parent kind path) (nodes h) (inner hashes)
       → Clean (below left path hashes) → Made (suc left) parent path h (entries (below left path hashes))
   made_below left parent path h each hashes sees clean =
       let is : Form half (inner hashes) sees.form = holds half sized (inner hashes) sees.form sees.holds in
@@ -361,7 +380,8 @@ module _ (half : Half) (sized : Sized half) (nodes : Lookup) (own : (h : Hash) (
       (λ b past. ap entries (past_end left path hashes b is.0.count past)))
 
   -- the walk below a place where nothing is found
-  made : (left : ℕ) (parent : Option (List Hash)) (path : List ℕ) (h : Hash) → left + length path ≡ 64 → length h ≡ 32 → Clean (Walked left parent path h) → Made left parent path h (entries (Walked left parent path h))
+  made : (left : ℕ) (parent : Option (List Hash)) (path : List ℕ) (h : Hash) → left + length path ≡ 64 → length h ≡ 32
+      → Clean (Walked left parent path h) → Made left parent path h (entries (Walked left parent path h))
   unfolding walk
   made zero parent path h level size clean = by_zero (is_zero h) refl clean
     where
@@ -378,10 +398,12 @@ module _ (half : Half) (sized : Sized half) (nodes : Lookup) (own : (h : Hash) (
           → Clean (if t then [] else met (Node kind path) h parent (seen_at parent path h) ∷ branches_of (seen_at parent path h) (below left path))
           → Made (suc left) parent path h (entries (if t then [] else met (Node kind path) h parent (seen_at parent path h) ∷ branches_of (seen_at parent path h) (below left path)))
       by_zero true is each clean = made_zero (suc left) parent path h size is
-      by_zero false is each clean = by_sight (suc left) parent path h (seen_at parent path h) (below left path) refl is (made_below left parent path h each) clean
+      by_zero false is each clean =
+          by_sight (suc left) parent path h (seen_at parent path h) (below left path) refl is (made_below left parent path h each) clean
 
 -- a whole map commits to its items
-pub map_commits : (half : Half) → IsHalf half → (nodes : Lookup) → AreOwn half nodes → AreByteForms nodes → (kind : Kind) (root : Hash) → length root ≡ 32 → IsWholeMap half nodes kind root → Commits half nodes kind root
+pub map_commits : (half : Half) → IsHalf half → (nodes : Lookup) → AreOwn half nodes → AreByteForms nodes → (kind : Kind) (root : Hash)
+    → length root ≡ 32 → IsWholeMap half nodes kind root → Commits half nodes kind root
 unfolding walk_map form_at
 map_commits half is_half nodes own forms kind root size whole =
     let sized : Sized half = is_half.size in
@@ -399,12 +421,14 @@ root_size : (bytes : Bytes) (at : ℕ) → length bytes ≡ 118 → at ≤ 86 �
 root_size bytes at size within = length-take-le 32 (drop at bytes) (omega (arith, length-drop at bytes))
 
 -- a whole ledger commits to its items
-pub ledger_commits : (half : Half) → IsHalf half → (nodes : Lookup) → AreOwn half nodes → AreByteForms nodes → (target : Hash) (bytes : Bytes) → header_in nodes target ≡ Some bytes → Whole half nodes target
+pub ledger_commits : (half : Half) → IsHalf half → (nodes : Lookup) → AreOwn half nodes → AreByteForms nodes
+    → (target : Hash) (bytes : Bytes) → header_in nodes target ≡ Some bytes → Whole half nodes target
     → Commits half nodes State (state_root_of bytes) × Commits half nodes Tx (tx_root_of bytes)
 unfolding walk_ledger
 ledger_commits half is_half nodes own forms target bytes stored whole = at (nodes target) stored whole
   where
-    by_header : (form : Bytes) (o : Option Bytes) → header_of form ≡ o → o ≡ Some bytes → filter_map found (met Header target None (header_or_foreign o) ∷ maps_of half nodes (header_or_foreign o)) ≡ []
+    by_header : (form : Bytes) (o : Option Bytes) → header_of form ≡ o → o ≡ Some bytes
+        → filter_map found (met Header target None (header_or_foreign o) ∷ maps_of half nodes (header_or_foreign o)) ≡ []
         → Commits half nodes State (state_root_of bytes) × Commits half nodes Tx (tx_root_of bytes)
     by_header form None is e clean = let no : None ≡ Some bytes = e in cc
     by_header form (Some b) is e clean =
@@ -417,7 +441,8 @@ ledger_commits half is_half nodes own forms target bytes stored whole = at (node
           map_commits half is_half nodes own forms Tx (tx_root_of bytes) (root_size bytes 44 size (lit≤ tt)) (subst (λ x. IsWholeMap half nodes Tx (tx_root_of x)) same both.1),
         )
 
-    at : (o : Option Bytes) → option_and_then header_of o ≡ Some bytes → filter_map found (met Header target None (header_sight o) ∷ maps_of half nodes (header_sight o)) ≡ []
+    at : (o : Option Bytes) → option_and_then header_of o ≡ Some bytes
+        → filter_map found (met Header target None (header_sight o) ∷ maps_of half nodes (header_sight o)) ≡ []
         → Commits half nodes State (state_root_of bytes) × Commits half nodes Tx (tx_root_of bytes)
     at None e clean = let no : None ≡ Some bytes = e in cc
     at (Some form) e clean = by_header form (header_of form) refl e clean

@@ -1,24 +1,30 @@
-use Rattle.missing_walk.proofs.Ledgers.{lacks_header, foreign_header, sound_header, refused_header, refused_maps}
-use Rattle.missing_walk.proofs.Noting.{refused}
+use Rattle.std.proofs.Common.{refl, sym, ap, ◌∙◌}
+use Rattle.std.specs.FinMap as map
+use Rattle.ledger_spec.specs.declared.Place.TheVariants.{Header}
+use Rattle.ledger_spec.specs.declared.ShapeFault.TheVariants.{Foreign}
+use Rattle.ledger_spec.specs.Findings.{lacks, breaks}
+use Rattle.ledger_spec.specs.Header.{header_bytes}
+use Rattle.ledger_spec.specs.Own.{own_forms}
+use Rattle.ledger_header.specs.Fields.{fields}
+use Rattle.rotating_store.specs.Stores.{nodes_of}
+use Rattle.missing_walk.specs.Sees.{nothing_seen, noted, sees, found_in_maps}
+use Rattle.missing_walk.proofs.Ledgers.{lacks_header, foreign_header, sound_header}
+use Rattle.missing_walk.proofs.Parts.{walks_after}
 use Rattle.missing_walk.proofs.walk_ledger.Goals as goal
 
-pub returns-in_default : goal.returns-in_default
-returns-in_default g c = lacks_header _ _ c.args.target.now _ _ c.requires c.in_default.ensures c.in_ok-add_missing.ensures
+pub returns-in_default-clause-found : goal.returns-in_default-clause-found
+returns-in_default-clause-found g c tells =
+    lacks_header g.H.NodeHash.half (own_forms g.H.NodeHash.half (map.get (nodes_of c.args.store.now))) c.args.target.now nothing_seen _ refl (sym c.in_default.is ∙ c.in_ok-form.ensures.form tells)
+    (c.in_ok-add_missing.ensures.seen ∙ ap (λ s. noted s (lacks Header)) c.requires.open)
 
-pub returns-in_ok-walk_maps-in-Some-from_form : goal.returns-in_ok-walk_maps-in-Some-from_form
-returns-in_ok-walk_maps-in-Some-from_form g c =
-    sound_header _ _ c.args.target.now _ _ c.in-Some.form.now c.bytes.result.now _
-    c.in-Some.ensures c.bytes.ensures c.in-Some-from_form.ensures.exact c.in_ok-walk_maps-in-Some-from_form.ensures
+pub returns-in-Some-from_form-clause-found : goal.returns-in-Some-from_form-clause-found
+returns-in-Some-from_form-clause-found g c tells =
+    sound_header g.H.NodeHash.half (own_forms g.H.NodeHash.half (map.get (nodes_of c.args.store.now))) c.args.target.now nothing_seen _ c.in-Some.form c.bytes.result.now (header_bytes (fields c.in-Some-from_form.header))
+    (sym c.in-Some.is ∙ c.in_ok-form.ensures.form tells) c.bytes.ensures c.in-Some-from_form.ensures.exact
+    ((walks_after _ _ _ _ _ _ _ (λ nodes. found_in_maps g.H.NodeHash.half nodes (header_bytes (fields c.in-Some-from_form.header))) c.own_form.ensures.read c.in_ok-walk_maps-in-Some-from_form.ensures.walks).found tells
+    ∙ ap (λ s. sees s (found_in_maps g.H.NodeHash.half (own_forms g.H.NodeHash.half (map.get (nodes_of c.args.store.now))) (header_bytes (fields c.in-Some-from_form.header)))) c.requires.open)
 
-pub returns-in-None : goal.returns-in-None
-returns-in-None g c =
-    foreign_header _ _ c.args.target.now _ _ c.in-Some.form.now c.bytes.result.now c.requires c.in-Some.ensures c.bytes.ensures c.in-None.ensures.exact c.add_broken.ensures
-
-pub returns-in_err-add_missing : goal.returns-in_err-add_missing
-returns-in_err-add_missing g c = refused _ _ _ _ c.from_residual.ensures.0 (refused_header _ _ c.args.target.now _ c.requires c.in_default.ensures)
-
-pub returns-in_err-walk_maps-in-Some-from_form : goal.returns-in_err-walk_maps-in-Some-from_form
-returns-in_err-walk_maps-in-Some-from_form g c =
-    refused _ _ _ _ c.from_residual-in_err-walk_maps-in-Some-from_form.ensures.0
-    (refused_maps _ _ c.args.target.now _ c.in-Some.form.now c.bytes.result.now _
-    c.in-Some.ensures c.bytes.ensures c.in-Some-from_form.ensures.exact c.in_err-walk_maps-in-Some-from_form.ensures)
+pub returns-clause-found : goal.returns-clause-found
+returns-clause-found g c tells =
+    foreign_header g.H.NodeHash.half (own_forms g.H.NodeHash.half (map.get (nodes_of c.args.store.now))) c.args.target.now nothing_seen _ c.in-Some.form c.bytes.result.now refl
+    (sym c.in-Some.is ∙ c.in_ok-form.ensures.form tells) c.bytes.ensures c.in-None.ensures.exact (c.add_broken.ensures.seen ∙ ap (λ s. noted s (breaks Header Foreign)) c.requires.open)

@@ -9,7 +9,8 @@ use Rattle.actor_pool.proofs.tests.in_turn.Goals as goal
 three : (P : Line → Type 0) (a b d : Line) → P a → P b → P d → All P (a ∷ b ∷ d ∷ [])
 three P a b d one other third = All-cons P a (b ∷ d ∷ []) one (All-cons P b (d ∷ []) other (All-cons P d [] third (All-nil P)))
 
-three_servable : (a b d : Line) → a.actor < 64 → b.actor < 64 → d.actor < 64 → a.number ≡ 1 → b.number ≡ 2 → d.number ≡ 3 → a.after ≡ 0 → b.after ≡ 1 → d.after ≡ 2
+three_servable : (a b d : Line) → a.actor < 64 → b.actor < 64 → d.actor < 64 → a.number ≡ 1 → b.number ≡ 2 → d.number ≡ 3 → a.after ≡ 0
+    → b.after ≡ 1 → d.after ≡ 2
     → IsServed a.command → IsServed b.command → IsServed d.command → IsInRange a.command → IsInRange b.command → IsInRange d.command → AreServable (a ∷ b ∷ d ∷ [])
 three_servable a b d actor_a actor_b actor_d first second third free_a after_b after_d served_a served_b served_d range_a range_b range_d = record {
   actors_known = three (λ l. l.actor < 64) a b d actor_a actor_b actor_d;

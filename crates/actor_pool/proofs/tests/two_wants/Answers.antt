@@ -9,7 +9,8 @@ use Rattle.actor_pool.proofs.tests.two_wants.Goals as goal
 two : (P : Line → Type 0) (a b : Line) → P a → P b → All P (a ∷ b ∷ [])
 two P a b one other = All-cons P a (b ∷ []) one (All-cons P b [] other (All-nil P))
 
-two_servable : (a b : Line) → a.actor < 64 → b.actor < 64 → a.number ≡ 1 → b.number ≡ 2 → a.after ≡ 0 → b.after ≡ 0 → IsServed a.command → IsServed b.command → IsInRange a.command → IsInRange b.command → AreServable (a ∷ b ∷ [])
+two_servable : (a b : Line) → a.actor < 64 → b.actor < 64 → a.number ≡ 1 → b.number ≡ 2 → a.after ≡ 0 → b.after ≡ 0 → IsServed a.command
+    → IsServed b.command → IsInRange a.command → IsInRange b.command → AreServable (a ∷ b ∷ [])
 two_servable a b actor_a actor_b first second free_a free_b served_a served_b range_a range_b = record {
   actors_known = two (λ l. l.actor < 64) a b actor_a actor_b;
   numbers_rise = (omega (arith, first), (omega (arith, first, second), tt));

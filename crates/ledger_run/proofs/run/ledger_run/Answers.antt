@@ -1,44 +1,49 @@
 -- what the core keeps, told of its status
-use Rattle.std.proofs.Common.{◌≡◌, ℕ, Some, sym, ◌∙◌, ap, subst, take, List}
-use Rattle.std.specs.Option.{IfSome}
-use Rattle.ledger_spec.specs.Bytes.{Bytes}
-use Rattle.ledger_machine.specs.declared.commands.Line.{Line}
-use Rattle.script_form.specs.Grammar.{IsScript, most_read}
-use Rattle.ledger_run.specs.Output.{status_of}
-use Rattle.ledger_run.specs.Top.{IsRunOfInput, HasStatus}
-use Rattle.ledger_run.proofs.Refusals.{run_refusal}
-use Rattle.ledger_run.proofs.Statuses.{said_status, failed_status, memory_status, said_ends, memory_ends}
+use Rattle.ledger_run.proofs.Opening.{opened_by}
+use Rattle.ledger_run.proofs.Ending.{printed_asked}
+use Rattle.std.proofs.Common.{Err, refl, is_some, sym, ◌∙◌, ap}
+use Rattle.ledger_run.proofs.Refusals.{run_refusal, script_as, full_as}
+use Rattle.ledger_run.proofs.Statuses.{status_from, ends_from}
 use Rattle.ledger_run.proofs.run.ledger_run.Goals as goal
-use Rattle.ledger_run.proofs.run.ledger_run.Goals.{in-Ok-print, in-Err-Fault-print, in-Err-Memory-print}
 
 pub returns-clause-run : goal.returns-clause-run
 returns-clause-run g c =
     let same = c.run_actors-core.ensures.same in
-    let lines = same.lines ∙ c.in-Ok-open.ensures.lines in
+    let listed = c.print_all-status.ensures.lists in
+    let lines = listed.lines ∙ same.lines ∙ c.in-Ok-open.ensures.script.lines in
+    let records = listed.records ∙ same.records ∙ c.in-Ok-open.ensures.script.records in
     record {
-      script = subst (λ (ls : List Line). IfSome (g.S.Source.left c.args.source.now) (λ bytes. IsScript (take most_read bytes) ls)) (sym lines) c.in-Ok.ensures.script;
+      script = script_as g.H.NodeHash.half (g.S.Source.left c.args.source.now) _ _ _ _ (sym records) (sym lines) c.in-Ok.ensures.script;
       read = c.in-Ok.ensures.ended;
-      interval = same.interval ∙ c.in-Ok-open.ensures.interval;
-      whole = record { kept = c.run_actors-core.ensures.kept; full = c.run_actors-core.ensures.full };
+      interval = listed.interval ∙ same.interval ∙ c.in-Ok-open.ensures.script.interval;
+      whole = record { kept = c.journal.ensures.kept; full = full_as _ _ _ _ (sym listed.lines) (sym listed.journal) c.run_actors-core.ensures.full };
     }
+
+pub returns-clause-printed : goal.returns-clause-printed
+returns-clause-printed g c =
+    printed_asked g.Sh.B.Backend.tells _ _ (g.K.Sink.held c.args.sink.now) (g.K.Sink.held c.print_all-status.new.sink)
+    c.print_all-status.result.0 c.print_all-status.result.1 c.print_all-status.new.core c.asks_dump.ensures c.print_all-status.ensures.printed
 
 pub returns-clause-status : goal.returns-clause-status
 returns-clause-status g c =
-    elim c.match-print.branch [
-      | in-Ok-print w ↦ said_status _ _ _ c.run_actors-core.ensures.kept (w.status-is ∙ w.journal_status-status.ensures ∙ ap status_of w.journal.ensures.journal)
-      | in-Err-Fault-print w ↦ failed_status _ _ _ w.status-is
-      | in-Err-Memory-print w ↦ memory_status _ _ _ w.status-is
-    ]
+    status_from g.H.NodeHash.half g.Sh.B.Backend.tells c.print_all-status.result.0 c.print_all-status.new.core
+    (g.K.Sink.faults c.args.sink.now) (g.K.Sink.faults c.print_all-status.new.sink) c.journal.ensures.kept c.print_all-status.ensures.said
 
 pub returns-clause-refusal : goal.returns-clause-refusal
-returns-clause-refusal g c = run_refusal _ _ _ _ _ _ _ _ _ _ (returns-clause-run g c).script (returns-clause-status g c).one_of
+returns-clause-refusal g c = run_refusal g.H.NodeHash.half _ _ _ _ _ _ _ _ _ (returns-clause-run g c).script (returns-clause-status g c).one_of
 
 pub returns-clause-complete : goal.returns-clause-complete
-returns-clause-complete g c _ calm =
-    elim c.match-print.branch [
-      | in-Ok-print w ↦
-          said_ends _ _ _ _ _ c.run_actors-core.ensures.kept (returns-clause-run g c).script
-          (w.status-is ∙ w.journal_status-status.ensures ∙ ap status_of w.journal.ensures.journal)
-      | in-Err-Fault-print w ↦ absurd (calm (w.in-Err-Fault-print.ensures.cause w.in-Err-Fault-print.field-0-is))
-      | in-Err-Memory-print w ↦ memory_ends _ _ _ _ w.status-is
-    ]
+returns-clause-complete g c _ calm still _ =
+    ends_from g.H.NodeHash.half g.Sh.B.Backend.tells c.args.words.now (g.S.Source.left c.args.source.now) c.print_all-status.result.0
+    c.print_all-status.new.core (g.K.Sink.faults c.args.sink.now) (g.K.Sink.faults c.print_all-status.new.sink) c.journal.ensures.kept
+    (returns-clause-run g c).script still calm c.print_all-status.ensures.said
+
+pub returns-in-Err-clause-opening : goal.returns-in-Err-clause-opening
+returns-in-Err-clause-opening g c = record {
+  no_core = λ s. ap is_some c.not_opened.ensures.core;
+  unwritten = λ s. refl;
+  cause = rw c.not_opened.ensures.unopened (opened_by g.Sh.Shelf.faults (g.Sh.Shelf.faults c.args.shelf) c.not_opened.result.status c.in-Err.unopened
+      c.not_opened.ensures.shelf c.not_opened.ensures.store c.not_opened.ensures.memory
+      (λ s e. c.open.ensures.shelf s (c.in-Err.is ∙ ap Err e)) (λ t e. c.open.ensures.store t (c.in-Err.is ∙ ap Err e)));
+  only = λ a b. ap is_some c.not_opened.ensures.unopened;
+}

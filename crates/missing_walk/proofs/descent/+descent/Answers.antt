@@ -1,49 +1,71 @@
-use Rattle.std.proofs.Common.{refl}
-use Rattle.missing_walk.proofs.Walking.{walk_over, walk_zero, walk_missing, walk_broken, walk_leaf, walk_inner, walk_none, walk_branch}
-use Rattle.missing_walk.proofs.Walking.{refused_missing, refused_inner, refused_branch}
-use Rattle.missing_walk.proofs.Noting.{refused}
+use Rattle.std.proofs.Common.{◌-◌, length, Some, refl, ◌∙◌}
+use Rattle.std.specs.FinMap as map
+use Rattle.ledger_spec.specs.Own.{own_forms}
+use Rattle.ledger_spec.specs.declared.Place.TheVariants.{Node}
+use Rattle.shamap_node.specs.Nodes.{hashes_above}
+use Rattle.rotating_store.specs.Stores.{nodes_of}
+use Rattle.own_forms.proofs.Reading.{read_same}
+use Rattle.missing_walk.specs.Sees.{Walks, shown}
+use Rattle.tree_laws.specs.Walks.{found_below, found_in}
+use Rattle.missing_walk.proofs.Noting.{one_more, same_missing}
+use Rattle.missing_walk.proofs.Parts.{walks_none, walks_after}
+use Rattle.missing_walk.proofs.Walking.{walk_over, walk_zero, walk_missing, walk_broken, walk_leaf, walk_inner, walk_none, walk_branch, above_inner}
 use Rattle.missing_walk.proofs.descent.+descent.Goals as goal
-use Rattle.missing_walk.proofs.descent.+descent.Goals.{walk-then-is_over-via-then-is_over, walk-then-is_over-via-else-is_over+then-is_zero}
 
-pub walk-returns-then-is_over : goal.walk-returns-then-is_over
-walk-returns-then-is_over g t c = elim c.then-is_over.branch [
-  | walk-then-is_over-via-then-is_over w ↦ walk_over _ _ _ _ _ _ _ _ w.if-is_over.ensures
-  | walk-then-is_over-via-else-is_over+then-is_zero w ↦ walk_zero _ _ _ _ _ _ _ _ w.if-is_zero.ensures
-]
+pub walk-returns-then-is_over-clause-walks : goal.walk-returns-then-is_over-clause-walks
+walk-returns-then-is_over-clause-walks g t c =
+    walks_none _ _ _ _ _ (read_same _ _) (λ tells. walk_over _ _ _ _ _ _ _ _ c.if-is_over.ensures)
 
-pub walk-returns-in_ok-add_missing-in-Missing : goal.walk-returns-in_ok-add_missing-in-Missing
-walk-returns-in_ok-add_missing-in-Missing g t c =
-    walk_missing _ _ _ _ _ _ _ _ _ _ c.if-is_over.ensures c.if-is_zero.ensures c.in-Missing.is c.look.ensures c.in_ok-add_missing-in-Missing.ensures
+pub walk-returns-then-is_zero-clause-walks : goal.walk-returns-then-is_zero-clause-walks
+walk-returns-then-is_zero-clause-walks g t c =
+    walks_none _ _ _ _ _ (read_same _ _) (λ tells. walk_zero _ _ _ _ _ _ _ _ c.if-is_zero.ensures)
 
-pub walk-returns-in-Broken : goal.walk-returns-in-Broken
-walk-returns-in-Broken g t c =
-    walk_broken _ _ _ _ _ _ _ _ _ _ _ c.if-is_over.ensures c.if-is_zero.ensures c.in-Broken.is c.look.ensures c.add_broken.ensures
+pub walk-returns-in_ok-add_missing-in-Missing-clause-walks : goal.walk-returns-in_ok-add_missing-in-Missing-clause-walks
+walk-returns-in_ok-add_missing-in-Missing-clause-walks g t c = record {
+  read = c.look.ensures.read;
+  header = c.add_missing.ensures.header;
+  few = λ few. one_more c.args.found.now c.add_missing.new.self _ c.if-is_over.ensures c.in_ok-add_missing-in-Missing.ensures.seen;
+  found = λ tells. walk_missing _ _ _ _ _ _ _ _ _ _ c.if-is_over.ensures c.if-is_zero.ensures c.in-Missing.is (c.in_ok-look.ensures.sight tells) c.in_ok-add_missing-in-Missing.ensures.seen;
+}
 
-pub walk-returns-in-Leaf : goal.walk-returns-in-Leaf
-walk-returns-in-Leaf g t c = walk_leaf _ _ _ _ _ _ _ _ _ c.if-is_zero.ensures c.in-Leaf.is c.look.ensures
+pub walk-returns-in-Broken-clause-walks : goal.walk-returns-in-Broken-clause-walks
+walk-returns-in-Broken-clause-walks g t c = record {
+  read = c.look.ensures.read;
+  header = c.add_broken.ensures.header;
+  few = λ few. same_missing c.args.found.now c.add_broken.new.self (Node c.args.kind c.args.id.now) c.in-Broken.fault c.add_broken.ensures.seen few;
+  found = λ tells. walk_broken _ _ _ _ _ _ _ _ _ _ _ c.if-is_over.ensures c.if-is_zero.ensures c.in-Broken.is (c.in_ok-look.ensures.sight tells) c.add_broken.ensures.seen;
+}
 
-pub walk-returns-in_ok-walk_branches-in-Inner : goal.walk-returns-in_ok-walk_branches-in-Inner
-walk-returns-in_ok-walk_branches-in-Inner g t c =
-    walk_inner _ _ _ _ _ _ _ _ _ c.in-Inner.inner _ c.if-is_zero.ensures c.in-Inner.is c.look.ensures refl c.known.ensures.short
-    c.in_ok-walk_branches-in-Inner.ensures
+pub walk-returns-in-Leaf-clause-walks : goal.walk-returns-in-Leaf-clause-walks
+walk-returns-in-Leaf-clause-walks g t c = walks_none _ _ _ _ _ c.look.ensures.read (λ tells. walk_leaf _ _ _ _ _ _ _ _ _ c.if-is_zero.ensures c.in-Leaf.is (c.in_ok-look.ensures.sight tells))
+
+pub walk-returns-in_ok-walk_branches-in-Inner-clause-walks : goal.walk-returns-in_ok-walk_branches-in-Inner-clause-walks
+walk-returns-in_ok-walk_branches-in-Inner-clause-walks g t c =
+    let part : Walks g.Sh.B.Backend.tells c.args.store.now c.walk_branches.new.store c.args.found.now c.walk_branches.new.found
+    (found_in g.H.NodeHash.half (own_forms g.H.NodeHash.half (map.get (nodes_of c.args.store.now))) c.args.kind (63 - length c.args.id.now) c.in-Inner.inner.hashes c.args.id.now 16) =
+    walks_after g.Sh.B.Backend.tells g.H.NodeHash.half c.args.store.now c.look.new.store c.walk_branches.new.store c.args.found.now c.walk_branches.new.found
+    (λ nodes. found_in g.H.NodeHash.half nodes c.args.kind (63 - length c.args.id.now) c.in-Inner.inner.hashes c.args.id.now 16) c.look.ensures.read c.in_ok-walk_branches-in-Inner.ensures.walks in
+    record {
+      read = part.read;
+      header = part.header;
+      few = part.few;
+      found = λ tells. walk_inner g.H.NodeHash.half (own_forms g.H.NodeHash.half (map.get (nodes_of c.args.store.now))) c.args.kind (64 - length c.args.id.now) (hashes_above c.args.parent) c.args.id.now c.args.hash.now (shown c.args.found.now) _ c.in-Inner.inner _
+          c.if-is_zero.ensures c.in-Inner.is (c.in_ok-look.ensures.sight tells) refl (above_inner _ _ _ c.in-Inner.is c.in_ok-look.ensures.inner c.known.ensures.short) (part.found tells);
+    }
 
 pub walk_branches-loop-b-init : goal.walk_branches-loop-b-init
-walk_branches-loop-b-init g t c = walk_none _ _ _ _ _ _ _
+walk_branches-loop-b-init g t c = walks_none _ _ _ _ _ (read_same _ _) (λ tells. walk_none _ _ _ _ _ _ _)
 
 pub walk_branches-loop-b-preserved : goal.walk_branches-loop-b-preserved
 walk_branches-loop-b-preserved g t c =
-    walk_branch _ _ _ _ _ _ _ c.loop-b.b _ _ _ _ c.loop-b.invariant c.in-Some.ensures.below c.branch-inner.ensures refl c.in_ok-walk.ensures
-
-pub walk-returns-in_err-add_missing-in-Missing : goal.walk-returns-in_err-add_missing-in-Missing
-walk-returns-in_err-add_missing-in-Missing g t c =
-    refused _ _ _ _ c.from_residual.ensures.0 (refused_missing _ _ _ _ _ _ _ _ _ c.if-is_over.ensures c.if-is_zero.ensures c.in-Missing.is c.look.ensures)
-
-pub walk-returns-in_err-walk_branches-in-Inner : goal.walk-returns-in_err-walk_branches-in-Inner
-walk-returns-in_err-walk_branches-in-Inner g t c =
-    refused _ _ _ _ c.from_residual-in_err-walk_branches-in-Inner.ensures.0
-    (refused_inner _ _ _ _ _ _ _ _ _ c.in-Inner.inner c.if-is_zero.ensures c.in-Inner.is c.look.ensures refl c.known.ensures.short c.in_err-walk_branches-in-Inner.ensures)
-
-pub walk_branches-returns-in_err-walk : goal.walk_branches-returns-in_err-walk
-walk_branches-returns-in_err-walk g t c =
-    refused _ _ _ _ c.from_residual.ensures.0
-    (refused_branch _ _ _ _ _ _ _ c.loop-b.b _ _ _ c.loop-b-test.true c.loop-b.invariant c.in-Some.ensures.below c.branch-inner.ensures refl c.in_err-walk.ensures)
+    let part : Walks g.Sh.B.Backend.tells c.args.store.now c.walk.new.store c.loop-b.found c.walk.new.found
+    (found_below g.H.NodeHash.half (own_forms g.H.NodeHash.half (map.get (nodes_of c.args.store.now))) c.args.kind (64 - length c.in-Some.below) (Some c.args.inner.now.hashes) c.in-Some.below c.branch-inner.result) =
+    walks_after g.Sh.B.Backend.tells g.H.NodeHash.half c.args.store.now c.loop-b.store c.walk.new.store c.loop-b.found c.walk.new.found
+    (λ nodes. found_below g.H.NodeHash.half nodes c.args.kind (64 - length c.in-Some.below) (Some c.args.inner.now.hashes) c.in-Some.below c.branch-inner.result) c.loop-b.invariant.read c.in_ok-walk.ensures.walks in
+    record {
+      read = part.read;
+      header = part.header ∙ c.loop-b.invariant.header;
+      few = λ few. part.few (c.loop-b.invariant.few few);
+      found = λ tells. walk_branch g.H.NodeHash.half (own_forms g.H.NodeHash.half (map.get (nodes_of c.args.store.now))) c.args.kind c.args.inner.now.hashes c.args.id.now c.in-Some.below c.branch-inner.result c.loop-b.b _ _ _ _
+          (c.loop-b.invariant.found tells) c.in-Some.ensures.below c.branch-inner.ensures refl (part.found tells);
+    }

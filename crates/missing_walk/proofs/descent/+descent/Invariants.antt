@@ -1,6 +1,8 @@
-use Rattle.std.proofs.Common.{◌≡◌, ◌-◌, ◌*◌, ◌+◌, length}
+use Rattle.std.proofs.Common.{◌-◌, ◌*◌, ◌+◌, length}
 use Rattle.std.specs.FinMap as map
-use Rattle.missing_walk.specs.Sees.{shown, sees}
+use Rattle.ledger_spec.specs.Own.{own_forms}
+use Rattle.rotating_store.specs.Stores.{nodes_of}
+use Rattle.missing_walk.specs.Sees.{Walks}
 use Rattle.tree_laws.specs.Walks.{found_in}
 use Rattle.missing_walk.proofs.descent.+descent.Given as goal
 
@@ -13,4 +15,5 @@ decreases-walk_branches g l = 2 * (63 - length l.id.now) + 1
 
 abbrev pub invariant-walk_branches-loop-b : goal.invariant-walk_branches-loop-b
 invariant-walk_branches-loop-b g l =
-    shown l.found ≡ sees (shown l.initial.found) (found_in g.H.NodeHash.half (map.get l.nodes) l.kind (63 - length l.id) l.inner.hashes l.id l.b)
+    Walks g.Sh.B.Backend.tells l.initial.store l.store l.initial.found l.found
+    (found_in g.H.NodeHash.half (own_forms g.H.NodeHash.half (map.get (nodes_of l.initial.store))) l.kind (63 - length l.id) l.inner.hashes l.id l.b)

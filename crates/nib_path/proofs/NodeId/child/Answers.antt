@@ -4,7 +4,8 @@ use Rattle.nib_path.proofs.Places.{child-IsNodeId, child-path}
 use Rattle.nib_path.proofs.NodeId.child.Goals as goal
 
 pub returns-then-self-eq64-clause-none : goal.returns-then-self-eq64-clause-none
-returns-then-self-eq64-clause-none c = (λ _. length_of_view c.self.inside _ c.self.invariant c.self.view_is ∙ c.if-self-eq64.true, λ _. refl)
+returns-then-self-eq64-clause-none c =
+    (λ _. length_of_view c.self.inside _ c.self.invariant c.self.view_is ∙ c.if-self-eq64.true, λ _. refl)
 
 pub invariant_of-result : goal.invariant_of-result
 invariant_of-result c =

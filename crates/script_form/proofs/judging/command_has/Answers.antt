@@ -4,10 +4,12 @@ use Rattle.script_form.proofs.judging.command_has.Goals as goal
 
 pub returns-in-BadAfter : goal.returns-in-BadAfter
 returns-in-BadAfter c =
-    bad_after c.args.earlier.now c.args.words.now c.args.cause c.names_no_line.result c.in-len1-up.len_at_least (sym c.is_skipped.ensures ∙ c.if-is_skipped.false) c.in-BadAfter.is c.names_no_line.ensures
+    bad_after c.args.earlier.now c.args.words.now c.args.cause c.names_no_line.result c.in-len1-up.len_at_least
+    (sym c.is_command_line.ensures ∙ c.if-not-is_command_line.false) c.in-BadAfter.is c.names_no_line.ensures
 
 pub returns-in_default-cause : goal.returns-in_default-cause
 returns-in_default-cause c =
     let other = c.in_default-cause in
-    other_cause c.args.earlier.now c.args.words.now c.args.cause _ c.call_has.result c.in-len1-up.len_at_least (sym c.is_skipped.ensures ∙ c.if-is_skipped.false)
+    other_cause c.args.earlier.now c.args.words.now c.args.cause _ c.call_has.result c.in-len1-up.len_at_least
+    (sym c.is_command_line.ensures ∙ c.if-not-is_command_line.false)
     other.not-NoActor other.not-BadAfter other.not-TooManyCommands c.call_of.ensures c.call_has.ensures

@@ -1,36 +1,57 @@
 use Rattle.std.proofs.Common.{◌+◌, ◌≤◌, ℕ, List, length, subst}
-use Rattle.script_form.specs.Causes.{most_bytes}
-use Rattle.script_form.specs.Judging.{IsFineText, IsSaid}
-use Rattle.script_form.proofs.Scripts.{reads_start, reads_skip, reads_line, refused_size}
+use Rattle.script_form.specs.Records.{earlier_in}
+use Rattle.script_form.specs.Causes.{most_bytes, LineHas, IsFirstOf}
+use Rattle.script_form.specs.Judging.{IsFineLine, IsSaid}
+use Rattle.script_form.proofs.Scripts.{reads_skip, reads_record, reads_line, refused_text, refused_size}
 use Rattle.script_form.proofs.script.read_lines.Goals as goal
-use Rattle.script_form.proofs.script.read_lines.Goals.{in-Some+in_ok-push+in_ok-push-2, in_default}
-
-pub loop-rest-init : goal.loop-rest-init
-loop-rest-init c = rw (c.new-lines.ensures.items, c.new-earlier.ensures.items) (reads_start c.args.bytes.now)
+use Rattle.script_form.proofs.script.read_lines.Goals.{in-Nothing, in-Record+in_ok-push-in-Record}
+use Rattle.script_form.proofs.script.read_lines.Goals.{in-Line+in_ok-push-in-Line+in_ok-push-in-Line-2}
 
 pub loop-rest-preserved : goal.loop-rest-preserved
-loop-rest-preserved c =
+loop-rest-preserved g c =
     let now = c.loop-rest in
     let first = c.first_line-size.ensures in
+    let text = c.first_line-size.result.0.now in
+    let size = c.first_line-size.result.1 in
+    let half = g.H.NodeHash.half in
     let small : length c.args.bytes.now ≤ most_bytes + 1 = c.requires in
-    let fine = subst (λ (e : List ℕ). IsFineText e c.first_line-size.result.0.now) c.deref.ensures.value c.in-Ok.ensures.fine in
-    let said = subst (λ (e : List ℕ). IsSaid e now.n c.first_line-size.result.0.now c.in-Ok.said) c.deref.ensures.value c.in-Ok.ensures.said in
-    elim c.match-said.branch [
-      | in-Some+in_ok-push+in_ok-push-2 w ↦
-          let says = rw w.in-Some.is at said in
-          rw (w.lines-is, w.earlier-is, w.in_ok-push.ensures.items, w.in_ok-push-2.ensures.items, c.split_at.ensures.back)
-          (reads_line c.args.bytes.now now.lines.items now.earlier.items now.n now.rest.now now.invariant c.first_line-size.result.0.now c.first_line-size.result.1 first.text first.cut first.some first.within
-          w.in-Some.line small c.if-bytes-rest-gt-MOST_BYTES.false fine says.0 says.1)
-      | in_default w ↦
-          rw (w.lines-is, w.earlier-is, c.split_at.ensures.back)
-          (reads_skip c.args.bytes.now now.lines.items now.earlier.items now.n now.rest.now now.invariant c.first_line-size.result.0.now c.first_line-size.result.1 first.text first.cut first.some first.within
-          c.if-bytes-rest-gt-MOST_BYTES.false fine (rw w.in_default.is at said))
+    let fine = subst (λ (e : List ℕ). IsFineLine half (earlier_in e now.records) text) c.deref.ensures.value c.in-Ok.ensures.fine in
+    let said = subst (λ (e : List ℕ). IsSaid half e now.n text c.in-Ok.content) c.deref.ensures.value c.in-Ok.ensures.said in
+    elim c.match-content.branch [
+      | in-Nothing w ↦
+          rw (w.records-is, w.lines-is, w.earlier-is, c.split_at.ensures.back)
+          (reads_skip half c.args.bytes.now now.records now.lines.items now.earlier.items now.n now.rest.now now.invariant text size
+          first.text first.cut first.some first.within c.if-bytes-rest-gt-MOST_BYTES.false fine (rw w.in-Nothing.is at said))
+      | in-Record+in_ok-push-in-Record w ↦
+          let says = rw w.in-Record.is at said in
+          rw (w.records-is, w.lines-is, w.earlier-is, w.in_ok-push-in-Record.ensures.ok, c.split_at.ensures.back)
+          (reads_record half c.args.bytes.now now.records now.lines.items now.earlier.items now.n now.rest.now now.invariant text size
+          first.text first.cut first.some first.within w.in-Record.record c.if-bytes-rest-gt-MOST_BYTES.false fine says.0 says.1 says.2)
+      | in-Line+in_ok-push-in-Line+in_ok-push-in-Line-2 w ↦
+          let says = rw w.in-Line.is at said in
+          rw (w.records-is, w.lines-is, w.earlier-is)
+          (rw (w.in_ok-push-in-Line.ensures.items, w.in_ok-push-in-Line-2.ensures.items, c.split_at.ensures.back)
+          (reads_line half c.args.bytes.now now.records now.lines.items now.earlier.items now.n now.rest.now now.invariant text size
+          first.text first.cut first.some first.within w.in-Line.line small c.if-bytes-rest-gt-MOST_BYTES.false fine says.0 says.1))
     ]
 
 pub returns-then-bytes-rest-gt-MOST_BYTES-clause-refused : goal.returns-then-bytes-rest-gt-MOST_BYTES-clause-refused
-returns-then-bytes-rest-gt-MOST_BYTES-clause-refused c =
+returns-then-bytes-rest-gt-MOST_BYTES-clause-refused g c =
     let now = c.loop-rest in
     let first = c.first_line-size.ensures in
     rw c.refused.ensures
-    (refused_size c.args.bytes.now now.lines.items now.earlier.items now.n now.rest.now now.invariant c.first_line-size.result.0.now c.first_line-size.result.1 first.text first.cut first.some first.within
+    (refused_size g.H.NodeHash.half c.args.bytes.now now.records now.lines.items now.earlier.items now.n now.rest.now now.invariant
+    c.first_line-size.result.0.now c.first_line-size.result.1 first.text first.cut first.some first.within
     c.if-bytes-rest-gt-MOST_BYTES.true)
+
+pub returns-in-Err-Cause-clause-refused : goal.returns-in-Err-Cause-clause-refused
+returns-in-Err-Cause-clause-refused g c =
+    let now = c.loop-rest in
+    let first = c.first_line-size.ensures in
+    let text = c.first_line-size.result.0.now in
+    let why = rw c.in-Err-Cause.field-0-is at c.in-Err-Cause.ensures.cause in
+    let F : List ℕ → Type 0 = λ e. IsFirstOf (LineHas g.H.NodeHash.half (earlier_in e now.records) text) c.in-Err-Cause.cause in
+    rw (c.refused-in-Err-Cause.ensures, c.in-Err-Cause.field-0-is)
+    (refused_text g.H.NodeHash.half c.args.bytes.now now.records now.lines.items now.earlier.items now.n now.rest.now now.invariant
+    text c.first_line-size.result.1 first.text first.cut first.some first.within c.in-Err-Cause.cause c.if-bytes-rest-gt-MOST_BYTES.false
+    (subst F c.deref.ensures.value why))

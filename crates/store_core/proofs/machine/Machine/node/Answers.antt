@@ -1,9 +1,10 @@
 use Rattle.std.proofs.Common.{sym, ◌∙◌}
-use Rattle.store_core.proofs.States.{node_clash}
+use Rattle.store_core.proofs.Parts.{node_asked}
 use Rattle.store_core.proofs.machine.Machine.node.Goals as goal
 
-pub returns-in_err-offered-clause-clash : goal.returns-in_err-offered-clause-clash
-returns-in_err-offered-clause-clash g c =
-    node_clash g.H.NodeHash.half c.args.self.now c.args.peer c.args.target.now c.args.kind c.args.id.now c.args.blob.now c.in-Some.acquire.now _ c.from_residual.result
+pub returns-in_err-offered-clause-err : goal.returns-in_err-offered-clause-err
+returns-in_err-offered-clause-err g c told =
+    node_asked g.H.NodeHash.half c.args.self.now.state c.args.target.now c.args.kind c.args.id.now c.args.blob.now c.args.peer c.in-Some.acquire.now
+    c.offer.new.self.state c.in_err-offered.field-0.0 c.from_residual.result
     (rw (← c.self.view_is) (sym c.in-Some.ensures.value)) (sym c.is_present.ensures ∙ c.if-not-is_present.false)
-    c.in_err-offered.ensures.clash c.from_residual.ensures.1
+    (c.in_err-offered.ensures.err told) c.from_residual.ensures.1

@@ -5,7 +5,7 @@ use Rattle.store_core.proofs.machine.Machine.wait.Goals as goal
 
 pub tick-requires : goal.tick-requires
 tick-requires g c =
-    let at : get_in hash_cmp c.args.self.now.wanted c.args.target.now ≡ Some c.in-Some.acquire.now =
+    let at : get_in hash_cmp c.args.self.now.state.wanted c.args.target.now ≡ Some c.in-Some.acquire.now =
     rw (← c.self.view_is) (sym c.in-Some.ensures.value)
     in
     subst (λ (o : Option Acquisition). IfSome o (λ a. a.ticks < 6)) at c.requires

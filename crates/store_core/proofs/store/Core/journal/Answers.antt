@@ -1,27 +1,27 @@
 -- the core's invariant, and the laws of the machine along the run
-use Rattle.std.proofs.Common.{refl}
 use Rattle.ledger_laws.proofs.Completeness.{retained_stored, run_exact}
 use Rattle.ledger_laws.proofs.Collisions.{clash_collides}
 use Rattle.ledger_laws.proofs.Receipts.{all_stay}
-use Rattle.store_core.proofs.Journals.{kept_few, kept_projects, kept_acquires, none_failed}
+use Rattle.store_core.proofs.Journals.{kept_few, kept_projects, kept_acquires}
 use Rattle.store_core.proofs.store.Core.journal.Goals as goal
 
 pub returns-clause-few : goal.returns-clause-few
-returns-clause-few g c = rw (← c.self.view_is) (kept_few _ _ _ _ _ _ _ _ _ _ c.self.invariant)
+returns-clause-few g c = rw (← c.self.view_is) (kept_few _ _ _ _ _ _ _ _ _ _ _ _ c.self.invariant)
 
 pub returns-clause-kept : goal.returns-clause-kept
 returns-clause-kept g c =
     let k = c.self.invariant in
-    let acquires = kept_acquires _ _ _ _ _ _ _ _ _ _ k in
+    let acquires = kept_acquires _ _ _ _ _ _ _ _ _ _ _ _ k in
     rw (← c.self.view_is) (record {
-      run = k.run refl;
-      projects = kept_projects _ _ _ _ _ _ _ _ _ _ k;
-      checks = λ run. run_exact g.H.NodeHash.half _ _ _ _ run;
-      received = λ run. all_stay g.H.NodeHash.half _ acquires _ _ _ run;
-      sound = k.sound refl;
-      present = λ t i. retained_stored g.H.NodeHash.half _ t (k.sound refl) i;
-      clashes = λ e among is. clash_collides g.H.NodeHash.half _ _ _ _ e acquires (k.run refl) among is;
+      machine = λ told. record {
+        run = k.run told;
+        checks = λ run. run_exact g.H.NodeHash.half _ _ _ _ run;
+        received = λ run. all_stay g.H.NodeHash.half _ acquires _ _ _ run;
+        sound = k.sound told;
+        present = λ t i. retained_stored g.H.NodeHash.half _ t (k.sound told) i;
+        clashes = λ e among is. clash_collides g.H.NodeHash.half _ _ _ _ _ e k.recorded acquires (k.run told) among is;
+      };
+      projects = kept_projects _ _ _ _ _ _ _ _ _ _ _ _ k;
       known = k.known;
       faults = k.fault_bound;
-      no_fault = none_failed _ k.fault_bound;
     })

@@ -1,9 +1,25 @@
-use Rattle.std.proofs.Common.{refl, rules, true}
+use Rattle.std.proofs.Common.{sym, ap, ◌∙◌, rules}
 use Rattle.std.proofs.lemmas.Grind.{common_steps}
+use Rattle.std.specs.FinMap as map
+use Rattle.ledger_machine.specs.Records.{with_records}
+use Rattle.ledger_machine.specs.State.{State}
 use Rattle.store_core.proofs.Journals.{kept_open}
+use Rattle.store_core.proofs.Tables.{over_open}
 use Rattle.store_core.proofs.store.Core.open.Goals as goal
+
+-- the store holds the records, and nothing else
+pub returns-clause-state : goal.returns-clause-state
+returns-clause-state g c told =
+    let stored = c.in-Ok.ensures.stored told in
+    c.new.ensures.state
+    ∙ over_open c.put_records.new.store 256 (with_records map.empty c.args.script.records.items)
+    (stored.0 ∙ ap (with_records map.empty) c.deref.ensures.value) stored.1
+    (c.put_records.ensures.later.past.0 ∙ c.in_ok-store.ensures.state.0)
 
 pub invariant_of-result : goal.invariant_of-result
 invariant_of-result g c =
-    kept_open g.H.NodeHash.half c.args.script.lines.items c.in_ok-cursors.cursors.items c.in_ok-journal.journal.items _ 256 true 0 0 c.new.result
-    c.in_ok-journal.ensures.items (search (rules, common_steps)) (λ a l. search (rules, common_steps)) c.requires (search (rules, common_steps)) refl (λ _. c.new.ensures)
+    kept_open g.H.NodeHash.half c.args.script.records.items c.args.script.lines.items c.in-Ok-vec.cursors.items
+    c.in-Ok-with_capacity.journal.items _ 256 g.Sh.B.Backend.tells _ _ c.new.result.state
+    c.in-Ok-with_capacity.ensures.items (search (rules, common_steps)) (λ a l. search (rules, common_steps)) c.requires.lines
+    c.requires.records (search (rules, common_steps)) (c.faults-opened.ensures ∙ sym c.new.ensures.faults)
+    (ap (λ (s : State). s.listed) c.new.ensures.state) (λ told. returns-clause-state g c told)

@@ -5,7 +5,6 @@ use Rattle.std.proofs.lemmas.Bool.{false≢true}
 use Rattle.ledger_machine.specs.declared.commands.Line.{Line}
 use Rattle.ledger_machine.specs.Runs.{is_answered}
 use Rattle.ledger_laws.proofs.SoundSteps.{acquiring_step_sound}
-use Rattle.store_core.proofs.Listing.{step_few}
 use Rattle.store_core.proofs.Journals.{kept_few, kept_less, kept_next, kept_moved, kept_step, kept_done, kept_past, kept_end, kept_served}
 use Rattle.store_core.proofs.Journals.{kept_in_range, served_acquires, moved, moved_end, pushed, answers, used_nothing}
 use Rattle.store_core.proofs.Waiting.{done_free, next_left, blocked_by, blocked_at, same_line}
@@ -16,7 +15,7 @@ use Rattle.store_core.proofs.store.Core.step.Goals.{else-after-ne0-via-else-afte
 pub returns-in_default-clause-finished : goal.returns-in_default-clause-finished
 returns-in_default-clause-finished g c =
     let k = c.self.invariant in (
-      (λ _. rw (← c.self.view_is) (kept_done _ _ _ _ _ _ _ _ _ _ k c.args.actor (omega (arith, k.cursor_count, c.len.ensures, c.if-actor-len.false))
+      (λ _. rw (← c.self.view_is) (kept_done _ _ _ _ _ _ _ _ _ _ _ _ k c.args.actor (omega (arith, k.cursor_count, c.len.ensures, c.if-actor-len.false))
           (moved_end _ _ c.self.inside.cursors.items _ _ c.deref.ensures.value c.index-from.ensures (omega (arith, c.len.ensures, c.if-actor-len.false)) (c.in_default.ensures)))),
       (λ _. refl),
     )
@@ -29,26 +28,29 @@ pub answer-reply-requires-clause-served : goal.answer-reply-requires-clause-serv
 answer-reply-requires-clause-served g c _ _ =
     let k = c.self.invariant in
     let next = moved _ _ c.self.inside.cursors.items _ _ _ c.deref.ensures.value c.index-from.ensures (omega (arith, c.len.ensures, c.if-actor-len.false)) c.in-Some.ensures in
-    kept_served _ _ _ _ _ _ _ _ _ _ k _ next.within c.index-line.result.now c.index-line.ensures
+    kept_served _ _ _ _ _ _ _ _ _ _ _ _ k _ next.within c.index-line.result.now c.index-line.ensures
 
 pub answer-reply-requires-clause-in_range : goal.answer-reply-requires-clause-in_range
 answer-reply-requires-clause-in_range g c _ _ =
     let k = c.self.invariant in
     let next = moved _ _ c.self.inside.cursors.items _ _ _ c.deref.ensures.value c.index-from.ensures (omega (arith, c.len.ensures, c.if-actor-len.false)) c.in-Some.ensures in
-    kept_in_range _ _ _ _ _ _ _ _ _ _ k _ next.within c.index-line.result.now c.index-line.ensures
+    kept_in_range _ _ _ _ _ _ _ _ _ _ _ _ k _ next.within c.index-line.result.now c.index-line.ensures
+
+pub answer-reply-requires-clause-filed : goal.answer-reply-requires-clause-filed
+answer-reply-requires-clause-filed g c _ _ = λ t. (c.self.invariant.sound t).forms
 
 pub unwrap-requires : goal.unwrap-requires
 unwrap-requires g c =
     let k = c.self.invariant in
     let next = moved _ _ c.self.inside.cursors.items _ _ _ c.deref.ensures.value c.index-from.ensures (omega (arith, c.len.ensures, c.if-actor-len.false)) c.in-Some.ensures in
-    c.push.ensures.succeeds (let less = kept_less _ _ _ _ _ _ _ _ _ _ k c.args.actor _ (omega (arith, k.cursor_count, c.len.ensures, c.if-actor-len.false)) next c.index-line.result.now c.index-line.ensures in omega (arith, k.room, c.self.inside.journal.ok.0))
+    c.push.ensures.succeeds (let less = kept_less _ _ _ _ _ _ _ _ _ _ _ _ k c.args.actor _ (omega (arith, k.cursor_count, c.len.ensures, c.if-actor-len.false)) next c.index-line.result.now c.index-line.ensures in omega (arith, k.room, c.self.inside.journal.ok.0))
 
 pub returns-then-not-is_answered-clause-blocked : goal.returns-then-not-is_answered-clause-blocked
 returns-then-not-is_answered-clause-blocked g c =
     let k = c.self.invariant in
     let next = moved _ _ c.self.inside.cursors.items _ _ _ c.deref.ensures.value c.index-from.ensures (omega (arith, c.len.ensures, c.if-actor-len.false)) c.in-Some.ensures in (
       (λ _. rw (← c.self.view_is) (blocked_by c.self.inside.script.lines.items c.self.inside.journal.items c.args.actor c.index.result.now
-          (kept_next _ _ _ _ _ _ _ _ _ _ k c.args.actor _ (omega (arith, k.cursor_count, c.len.ensures, c.if-actor-len.false)) next c.index.result.now c.index.ensures)
+          (kept_next _ _ _ _ _ _ _ _ _ _ _ _ k c.args.actor _ (omega (arith, k.cursor_count, c.len.ensures, c.if-actor-len.false)) next c.index.result.now c.index.ensures)
           c.if-after-ne0.true (sym (rw (← c.self.view_is) at c.is_answered.ensures) ∙ c.if-not-is_answered.true))),
       (λ _. refl),
     )
@@ -58,13 +60,13 @@ returns-then-not-is_answered-clause-finished g c =
     ((λ e. cc), (λ done. absurd (done_free _ _ c.args.actor done ((returns-then-not-is_answered-clause-blocked g c).0 refl))))
 
 pub returns-then-not-is_answered-clause-few : goal.returns-then-not-is_answered-clause-few
-returns-then-not-is_answered-clause-few g c = kept_few _ _ _ _ _ _ _ _ _ _ c.self.invariant
+returns-then-not-is_answered-clause-few g c = kept_few _ _ _ _ _ _ _ _ _ _ _ _ c.self.invariant
 
 pub invariant_of-self-then-not-is_answered : goal.invariant_of-self-then-not-is_answered
 invariant_of-self-then-not-is_answered g c =
     let k = c.self.invariant in
     let next = moved _ _ c.self.inside.cursors.items _ _ _ c.deref.ensures.value c.index-from.ensures (omega (arith, c.len.ensures, c.if-actor-len.false)) c.in-Some.ensures in
-    kept_moved _ _ _ _ _ _ _ _ _ _ k c.args.actor _ (omega (arith, k.cursor_count, c.len.ensures, c.if-actor-len.false)) (omega (arith, next.within)) next.none
+    kept_moved _ _ _ _ _ _ _ _ _ _ _ _ k c.args.actor _ (omega (arith, k.cursor_count, c.len.ensures, c.if-actor-len.false)) (omega (arith, next.within)) next.none
 
 pub returns-clause-blocked : goal.returns-clause-blocked
 returns-clause-blocked g c =
@@ -80,7 +82,7 @@ returns-clause-blocked g c =
       (λ e. cc),
       (λ blocked. absurd (
           let by = blocked_at c.self.inside.script.lines.items c.self.inside.journal.items c.args.actor c.index-line.result.now
-          (kept_next _ _ _ _ _ _ _ _ _ _ k c.args.actor _ (omega (arith, k.cursor_count, c.len.ensures, c.if-actor-len.false)) next c.index-line.result.now c.index-line.ensures) (rw (← c.self.view_is) at blocked) in
+          (kept_next _ _ _ _ _ _ _ _ _ _ _ _ k c.args.actor _ (omega (arith, k.cursor_count, c.len.ensures, c.if-actor-len.false)) next c.index-line.result.now c.index-line.ensures) (rw (← c.self.view_is) at blocked) in
           false≢true (sym by.1 ∙ free by.0))),
     )
 
@@ -90,7 +92,7 @@ returns-clause-finished g c =
     let next = moved _ _ c.self.inside.cursors.items _ _ _ c.deref.ensures.value c.index-from.ensures (omega (arith, c.len.ensures, c.if-actor-len.false)) c.in-Some.ensures in (
       (λ e. cc),
       (λ done. absurd (next_left c.self.inside.script.lines.items c.self.inside.journal.items c.args.actor c.index-line.result.now
-          (kept_next _ _ _ _ _ _ _ _ _ _ k c.args.actor _ (omega (arith, k.cursor_count, c.len.ensures, c.if-actor-len.false)) next c.index-line.result.now c.index-line.ensures) (rw (← c.self.view_is) at done))),
+          (kept_next _ _ _ _ _ _ _ _ _ _ _ _ k c.args.actor _ (omega (arith, k.cursor_count, c.len.ensures, c.if-actor-len.false)) next c.index-line.result.now c.index-line.ensures) (rw (← c.self.view_is) at done))),
     )
 
 pub invariant_of-self-2 : goal.invariant_of-self-2
@@ -98,8 +100,8 @@ invariant_of-self-2 g c =
     let k = c.self.invariant in
     let next = moved _ _ c.self.inside.cursors.items _ _ _ c.deref.ensures.value c.index-from.ensures (omega (arith, c.len.ensures, c.if-actor-len.false)) c.in-Some.ensures in
     let line = c.index-line.result.now in
-    let served = served_acquires _ (kept_served _ _ _ _ _ _ _ _ _ _ k _ next.within line c.index-line.ensures) in
-    let range = kept_in_range _ _ _ _ _ _ _ _ _ _ k _ next.within line c.index-line.ensures in
+    let served = served_acquires _ (kept_served _ _ _ _ _ _ _ _ _ _ _ _ k _ next.within line c.index-line.ensures) in
+    let range = kept_in_range _ _ _ _ _ _ _ _ _ _ _ _ k _ next.within line c.index-line.ensures in
     let free : c.index-line.result.now.after ≢ 0 → is_answered c.self.inside.journal.items c.index-line.result.now.after ≡ true =
     (let same = same_line c.self.inside.script.lines.items _ c.index-line.result.now c.index.result.now next.within c.index-line.ensures c.index.ensures in λ waits.
     elim c.else-after-ne0.branch [
@@ -109,8 +111,10 @@ invariant_of-self-2 g c =
     ]) in
     let step = c.answer-reply.ensures.step in
     rw (pushed c.push.result _ _ _ _ c.push.ensures.items c.unwrap.ensures)
-    (kept_step _ _ _ _ _ _ _ _ _ _ k c.args.actor _ (omega (arith, k.cursor_count, c.len.ensures, c.if-actor-len.false)) next c.index-line.result.now c.index-line.ensures _ _ _ _ refl refl free (λ _. used_nothing _ _ _ _ _ _ _ c.new.ensures.items c.answer-reply.ensures.step)
-    (λ t. acquiring_step_sound _ c.known_half.ensures _ _ _ _ _ _ served range (k.sound t) step) (λ _. step_few _ c.known_half.ensures _ _ _ _ _ _ served range step) c.push.ensures.capacity (omega arith) (λ fault. absurd (c.answer-reply.ensures.no_fault fault)))
+    (kept_step _ _ _ _ _ _ _ _ _ _ _ _ k c.args.actor _ (omega (arith, k.cursor_count, c.len.ensures, c.if-actor-len.false)) next c.index-line.result.now c.index-line.ensures _ _ _ _ refl refl free (λ t. used_nothing _ _ _ _ _ _ _ c.new.ensures.items (step t))
+    (λ t. acquiring_step_sound _ c.known_half.ensures _ _ _ _ _ _ served range (k.sound t) (step t))
+    c.answer-reply.ensures.grows.few c.push.ensures.capacity c.answer-reply.ensures.grows.later
+    c.answer-reply.ensures.fault)
 
 pub returns-clause-answered : goal.returns-clause-answered
 returns-clause-answered g c _ =
@@ -118,21 +122,25 @@ returns-clause-answered g c _ =
     let next = moved _ _ c.self.inside.cursors.items _ _ _ c.deref.ensures.value c.index-from.ensures (omega (arith, c.len.ensures, c.if-actor-len.false)) c.in-Some.ensures in
     rw (← c.self.view_is) (record {
       line = c.index-line.result.now;
-      next = kept_next _ _ _ _ _ _ _ _ _ _ k c.args.actor _ (omega (arith, k.cursor_count, c.len.ensures, c.if-actor-len.false)) next c.index-line.result.now c.index-line.ensures;
+      next = kept_next _ _ _ _ _ _ _ _ _ _ _ _ k c.args.actor _ (omega (arith, k.cursor_count, c.len.ensures, c.if-actor-len.false)) next c.index-line.result.now c.index-line.ensures;
       number = refl;
       entry = record { line = c.index-line.result.now.number; actor = c.args.actor; reply = c.answer-reply.result; used = c.new.result };
+      records = refl;
       lines = refl;
       interval = refl;
       opened = refl;
+      missed = refl;
       journal = pushed c.push.result _ _ _ _ c.push.ensures.items c.unwrap.ensures;
       actor = refl;
-      later = omega arith;
-      cause = λ fault. absurd (c.answer-reply.ensures.no_fault fault);
-      step = λ _. answers g.H.NodeHash.half c.self.inside.script.lines.items c.self.inside.machine c.answer-reply.new.self c.index-line.result.now _ _ _ next c.index-line.ensures refl refl (used_nothing _ _ _ _ _ _ _ c.new.ensures.items c.answer-reply.ensures.step);
+      later = c.answer-reply.ensures.grows.later;
+      cause = c.answer-reply.ensures.fault;
+      step = λ t. answers g.H.NodeHash.half c.self.inside.script.lines.items c.self.inside.machine.state c.answer-reply.new.self.state
+          c.index-line.result.now _ _ _ next c.index-line.ensures refl refl
+          (used_nothing _ _ _ _ _ _ _ c.new.ensures.items (c.answer-reply.ensures.step t));
     })
 
 pub returns-in_default-clause-few : goal.returns-in_default-clause-few
-returns-in_default-clause-few g c = kept_few _ _ _ _ _ _ _ _ _ _ c.self.invariant
+returns-in_default-clause-few g c = kept_few _ _ _ _ _ _ _ _ _ _ _ _ c.self.invariant
 
 pub invariant_of-self : goal.invariant_of-self
 invariant_of-self g c =
@@ -140,23 +148,23 @@ invariant_of-self g c =
     let lines = c.self.inside.script.lines.items in
     let none = moved_end lines _ c.self.inside.cursors.items _ c.args.actor c.deref.ensures.value c.index-from.ensures (omega (arith, c.len.ensures, c.if-actor-len.false)) c.in_default.ensures in
     let end : c.len-in_default.result ≡ length lines = omega (arith, c.len-in_default.ensures, c.self.inside.script.lines.ok.0) in
-    kept_moved _ _ _ _ _ _ _ _ _ _ k c.args.actor _ (omega (arith, k.cursor_count, c.len.ensures, c.if-actor-len.false)) (omega (arith, end))
+    kept_moved _ _ _ _ _ _ _ _ _ _ _ _ k c.args.actor _ (omega (arith, k.cursor_count, c.len.ensures, c.if-actor-len.false)) (omega (arith, end))
     (ap (λ (n : ℕ). numbers_of c.args.actor (take n lines)) end ∙ kept_end c.args.actor (slice_index c.self.inside.cursors.items c.args.actor) lines none)
 
 pub returns-clause-few : goal.returns-clause-few
 returns-clause-few g c =
     let k = c.self.invariant in
     let next = moved _ _ c.self.inside.cursors.items _ _ _ c.deref.ensures.value c.index-from.ensures (omega (arith, c.len.ensures, c.if-actor-len.false)) c.in-Some.ensures in
-    let less = kept_less _ _ _ _ _ _ _ _ _ _ k c.args.actor _ (omega (arith, k.cursor_count, c.len.ensures, c.if-actor-len.false)) next c.index-line.result.now c.index-line.ensures in
+    let less = kept_less _ _ _ _ _ _ _ _ _ _ _ _ k c.args.actor _ (omega (arith, k.cursor_count, c.len.ensures, c.if-actor-len.false)) next c.index-line.result.now c.index-line.ensures in
     omega (arith, less, ap length (pushed c.push.result _ _ _ _ c.push.ensures.items c.unwrap.ensures), simp length-append at (ap length (pushed c.push.result _ _ _ _ c.push.ensures.items c.unwrap.ensures)))
 
 pub returns-then-actor-len-clause-finished : goal.returns-then-actor-len-clause-finished
 returns-then-actor-len-clause-finished g c =
-    (λ _. rw (← c.self.view_is) (kept_past _ _ _ _ _ _ _ _ _ _ c.self.invariant c.args.actor (omega (arith, c.self.invariant.cursor_count, c.len.ensures, c.if-actor-len.true))), λ _. refl)
+    (λ _. rw (← c.self.view_is) (kept_past _ _ _ _ _ _ _ _ _ _ _ _ c.self.invariant c.args.actor (omega (arith, c.self.invariant.cursor_count, c.len.ensures, c.if-actor-len.true))), λ _. refl)
 
 pub returns-then-actor-len-clause-blocked : goal.returns-then-actor-len-clause-blocked
 returns-then-actor-len-clause-blocked g c =
     ((λ e. cc), (λ blocked. absurd (done_free _ _ c.args.actor ((returns-then-actor-len-clause-finished g c).0 refl) blocked)))
 
 pub returns-then-actor-len-clause-few : goal.returns-then-actor-len-clause-few
-returns-then-actor-len-clause-few g c = rw (← c.self.view_is) (kept_few _ _ _ _ _ _ _ _ _ _ c.self.invariant)
+returns-then-actor-len-clause-few g c = rw (← c.self.view_is) (kept_few _ _ _ _ _ _ _ _ _ _ _ _ c.self.invariant)

@@ -1,0 +1,42 @@
+-- Whether bytes are a leaf's form, by the tests that the code makes of them.
+use Rattle.std.proofs.Common.{◌≡◌, ◌+◌, ◌-◌, ◌&&◌, Bool, true, false, is_some, if◌then◌else◌, nat_eq, nat_le, length, take, drop, Some, None, refl}
+use Rattle.std.proofs.Common.{ap, ◌∙◌}
+use Rattle.std.specs.List.{starts_with}
+use Rattle.ledger_spec.specs.declared.Kind.{Kind}
+use Rattle.ledger_spec.specs.declared.Kind.TheVariants.{Set}
+use Rattle.ledger_spec.specs.Bytes.{Bytes, Half, is_nonzero}
+use Rattle.ledger_spec.specs.Forms.{Held, leaf, leaf_prefix, data_limit, keyed_leaf_of, bare_leaf_of}
+
+abbrev is_keyed : Kind → Bytes → Bool
+is_keyed kind b = starts_with nat_eq b (leaf_prefix kind) && nat_le 36 (length b) && nat_le (length b) (36 + data_limit)
+
+abbrev is_bare : Bytes → Bool
+is_bare b = starts_with nat_eq b (leaf_prefix Set) && nat_le (length b) (4 + data_limit)
+
+passed : (t z : Bool) (n : Held) → true ≡ t → z ≡ is_some (if t && z then Some n else None)
+passed true true n e = refl
+passed true false n e = refl
+passed false z n e = cc
+
+failed : (t z : Bool) (n : Held) → false ≡ t → false ≡ is_some (if t && z then Some n else None)
+failed true z n e = cc
+failed false z n e = refl
+
+pub keyed : (kind : Kind) (b key : Bytes) (out : Bool) → true ≡ is_keyed kind b → key ≡ drop (length b - 32) b → out ≡ is_nonzero key
+    → out ≡ is_some (keyed_leaf_of kind b)
+unfolding keyed_leaf_of
+keyed kind b key out fits place e =
+    e ∙ ap is_nonzero place ∙ passed (is_keyed kind b) (is_nonzero (drop (length b - 32) b)) (leaf kind (drop (length b - 32) b) (drop 4 (take (length b - 32) b))) fits
+
+pub not_keyed : (kind : Kind) (b : Bytes) → false ≡ is_keyed kind b → false ≡ is_some (keyed_leaf_of kind b)
+unfolding keyed_leaf_of
+not_keyed kind b fits = failed (is_keyed kind b) (is_nonzero (drop (length b - 32) b)) (leaf kind (drop (length b - 32) b) (drop 4 (take (length b - 32) b))) fits
+
+pub bare : (half : Half) (b key : Bytes) (out : Bool) → true ≡ is_bare b → key ≡ half b → out ≡ is_nonzero key
+    → out ≡ is_some (bare_leaf_of half b)
+unfolding bare_leaf_of
+bare half b key out fits same e = e ∙ ap is_nonzero same ∙ passed (is_bare b) (is_nonzero (half b)) (leaf Set (half b) (drop 4 b)) fits
+
+pub not_bare : (half : Half) (b : Bytes) → false ≡ is_bare b → false ≡ is_some (bare_leaf_of half b)
+unfolding bare_leaf_of
+not_bare half b fits = failed (is_bare b) (is_nonzero (half b)) (leaf Set (half b) (drop 4 b)) fits

@@ -1,0 +1,53 @@
+//! The form that is held under a hash.
+ghost use Rattle.std.specs.Prelude.{◌≡◌, ◌≤◌, ◌+◌, IsTrue, IfOk, IfErr};
+ghost use Rattle.std.specs.FinMap as map;
+ghost use Rattle.run_io.specs.Bytes.{Rose};
+ghost use Rattle.ledger_spec.specs.Bytes.{same_bytes};
+ghost use Rattle.ledger_spec.specs.Own.{is_own as stands, own_forms};
+ghost use Rattle.rotating_store.specs.Stores.{nodes_of};
+ghost use Rattle.own_forms.specs.Reading.{WasRead};
+
+use crate::forms::is_form;
+use half_hash::{Blob, Hash32, NodeHash};
+use node_backend::{BackFault, Shelf};
+use rotating_store::{RotStore, StoreFault};
+use std::alloc::Global;
+
+/// The form that is held under the hash, or None where none is. It asks each backend at most once.
+pub fn own_form<H: NodeHash, Sh: Shelf>(
+    alloc: Global,
+    store: &mut RotStore<Sh>,
+    h: &Hash32,
+) -> Result<Option<Blob>, BackFault>
+    ensures form { IsTrue Sh.B.tells → IfOk result (λ b. b ≡ own_forms H.half (map.get (nodes_of store.old)) h.now) }
+    ensures read { WasRead Sh.B.tells store.old store.new }
+    ensures few { store.new.gets ≤ store.old.gets + 2 }
+    ensures fault { IfErr result (λ e. e ≡ BackFault.Fault → Rose store.old.faults store.new.faults) }
+{
+    match store.get(alloc, h) {
+        Ok(Some(form)) => {
+            if is_own::<H>(h, form.bytes()) {
+                Ok(Some(form))
+            } else {
+                Ok(None)
+            }
+        }
+        Ok(None) => Ok(None),
+        Err(StoreFault::Fault) => Err(BackFault::Fault),
+        Err(_) => Err(BackFault::Memory),
+    }
+}
+
+// Whether the bytes have this hash, and are a form.
+fn is_own<H: NodeHash>(h: &Hash32, form: &[u8]) -> bool
+    ensures { result ≡ stands H.half h.now form.now }
+{
+    same(&H::half(form), h) && is_form::<H>(form)
+}
+
+// Whether the two hashes are one.
+fn same(a: &Hash32, b: &Hash32) -> bool
+    ensures { result ≡ same_bytes a.now b.now }
+{
+    a.bytes == b.bytes
+}

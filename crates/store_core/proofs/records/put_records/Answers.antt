@@ -1,0 +1,21 @@
+use Rattle.std.proofs.Common.{◌<◌, length, arith}
+use Rattle.own_forms.proofs.Reading.{later_same, later_then}
+use Rattle.store_core.proofs.Putting.{none_put, next_absent, one_put}
+use Rattle.store_core.proofs.records.put_records.Goals as goal
+
+pub loop-one-init : goal.loop-one-init
+loop-one-init g c = record { put = none_put _ c.args.records.now c.args.store.now c.requires.empty; later = later_same c.args.store.now }
+
+pub loop-one-preserved : goal.loop-one-preserved
+loop-one-preserved g c =
+    let lt : c.loop-one.one-index < length c.args.records.now = omega (arith, c.loop-one-test.true) in
+    record {
+      put = one_put c.args.records.now c.loop-one.one-index c.one-item.result lt c.one-item.is g.Sh.B.Backend.tells c.loop-one.store
+          c.put_record.new.store c.requires.records.distinct c.loop-one.invariant.put c.in_ok-put_record.ensures.stored;
+      later = later_then _ _ _ c.loop-one.invariant.later c.put_record.ensures.later;
+    }
+
+pub put_record-requires-clause-absent : goal.put_record-requires-clause-absent
+put_record-requires-clause-absent g c _ _ =
+    next_absent c.args.records.now c.loop-one.one-index c.one-item.result (omega (arith, c.loop-one-test.true)) c.one-item.is
+    g.Sh.B.Backend.tells c.loop-one.store c.loop-one.invariant.put

@@ -1,0 +1,10 @@
+use Rattle.own_forms.specs.Reading.{IsLater}
+use Rattle.store_core.proofs.Putting.{ArePut}
+use Rattle.store_core.proofs.records.put_records.Given as goal
+
+-- the records up to here were put
+abbrev pub invariant-loop-one : goal.invariant-loop-one
+invariant-loop-one g l = record {
+  put : ArePut g.Sh.B.Backend.tells l.records l.one-index l.store;
+  later : IsLater l.fn.store l.store;
+}

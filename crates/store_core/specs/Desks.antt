@@ -1,0 +1,35 @@
+-- What the commands act on: the state over a store, and the store's count of faults.
+use Rattle.std.specs.Prelude.{◌≡◌, ◌≤◌, ℕ, suc, Bool, IsTrue, length}
+use Rattle.ledger_spec.specs.Bytes.{Half}
+use Rattle.ledger_spec.specs.Own.{AreStored}
+use Rattle.ledger_machine.specs.State.{State, form_in}
+use Rattle.rotating_store.specs.Stores.{Store, nodes_of, born_of}
+
+-- a state, and how often the devices of its store failed
+pub record Desk : Type 0 where
+  pub state : State
+  pub faults : ℕ
+
+-- the state with what a store holds and was born in its epoch
+abbrev pub over : Store → State → State
+over st s = record s { nodes = nodes_of st; born = born_of st; epoch = st.epoch }
+
+-- where the store tells what it holds, all of it are forms under their own hashes
+abbrev pub IsFiled : Half → Bool → State → Type 0
+IsFiled half tells s = IsTrue tells → AreStored half (form_in s)
+
+-- a section that lists nothing: the store's count of faults never falls
+pub record Stays (d d' : Desk) : Type 0 where
+  pub later : d.faults ≤ d'.faults
+  pub listed : d'.state.listed ≡ d.state.listed
+
+-- and one that lists a ledger at most
+pub record Grows (d d' : Desk) : Type 0 where
+  pub later : d.faults ≤ d'.faults
+  pub few : length d'.state.listed ≤ suc (length d.state.listed)
+
+-- one that only reads: the state is as before, but that a store that doesn't tell what it holds may hold anything
+pub record OnlyReads (told : Bool) (d d' : Desk) : Type 0 where
+  pub state : IsTrue told → d'.state ≡ d.state
+  pub tables : d'.state ≡ record d.state { nodes = d'.state.nodes; born = d'.state.born }
+  pub later : d.faults ≤ d'.faults
