@@ -33,7 +33,8 @@ climbs_lower m n (x ∷ xs) le up = (omega (arith, up.0), up.1)
 numbers_climb : (a n : ℕ) (lines : List Line) → Rises n lines → Climbs n (numbers_of a lines)
 numbers_climb a n [] rise = tt
 numbers_climb a n (l ∷ lines) rise =
-    elim (l.actor == a) as (λ b. Climbs n (map (λ x. x.number) (cond b (l ∷ filter (λ x. x.actor == a) lines) (filter (λ x. x.actor == a) lines)))) [
+    elim (l.actor == a) as (λ b. Climbs n
+    (map (λ x. x.number) (cond b (l ∷ filter (λ x. x.actor == a) lines) (filter (λ x. x.actor == a) lines)))) [
       | true ↦ (rise.0, numbers_climb a l.number lines rise.1)
       | false ↦ climbs_lower n l.number (numbers_of a lines) (omega (arith, rise.0)) (numbers_climb a l.number lines rise.1)
     ]
@@ -84,7 +85,8 @@ same_front n (x ∷ xs) rest (y ∷ ys) more up same all none =
     (λ z later e. not_later x z xs (none z later e)) in
     cc
 
-module _ (lines : List Line) (journal : List Entry) (servable : AreServable lines) (projects : Projects lines journal) (known : All (λ e. e.actor < 64) journal) where
+module _ (lines : List Line) (journal : List Entry) (servable : AreServable lines) (projects : Projects lines journal)
+    (known : All (λ e. e.actor < 64) journal) where
   -- the entry of a line is one of its actor
   by_its_actor : (j : ℕ) (l : Line) → j < length lines → get_or lines j l ≡ l → is_answered journal l.number ≡ true
       → has l.number (answered_by l.actor journal) ≡ true
@@ -106,7 +108,8 @@ module _ (lines : List Line) (journal : List Entry) (servable : AreServable line
   front_answered c all a y h =
       let w = number_at a y c lines h in
       let P : Line → Type 0 = λ l. is_answered journal l.number ≡ true in
-      let any : is_answered journal w.1.number ≡ true = subst P (get_or-take c lines w.0 w.1 w.2 ∙ w.4) (all w.0 w.1 (omega (arith, w.2, w.3, length-take c lines))) in
+      let any : is_answered journal w.1.number ≡ true = subst P (get_or-take c lines w.0 w.1 w.2 ∙ w.4)
+      (all w.0 w.1 (omega (arith, w.2, w.3, length-take c lines))) in
       let Q : ℕ → Type 0 = λ b. has w.1.number (answered_by b journal) ≡ true in
       let R : ℕ → Type 0 = λ m. has m (answered_by a journal) ≡ true in
       subst R w.6 (subst Q w.5 (by_its_actor w.0 w.1 w.3 w.4 any))
@@ -118,10 +121,12 @@ module _ (lines : List Line) (journal : List Entry) (servable : AreServable line
       same_front 0 (answered_by a journal) front.0 (numbers_of a lines) []
       (rw append-nil (numbers_climb a 0 lines servable.numbers_rise))
       (front.1 ∙ sym (append-nil (numbers_of a lines)))
-      (λ y h. front_answered (length lines) all a y (ap (λ (w : List Line). has y (numbers_of a w)) (take_all (length lines) lines (omega arith)) ∙ h))
+      (λ y h. front_answered (length lines) all a y
+      (ap (λ (w : List Line). has y (numbers_of a w)) (take_all (length lines) lines (omega arith)) ∙ h))
       (λ y later e. cc)
 
-  module _ (at : ℕ) (line : Line) (lt : at < length lines) (is : line ≡ get_or lines at line) (all : AreAnswered lines journal at) (left : is_answered journal line.number ≡ false) where
+  module _ (at : ℕ) (line : Line) (lt : at < length lines) (is : line ≡ get_or lines at line) (all : AreAnswered lines journal at)
+      (left : is_answered journal line.number ≡ false) where
     actor_known : line.actor < 64
     actor_known = let P : Line → Type 0 = λ l. l.actor < 64 in subst P (sym is) (servable.actors_known at line lt)
 
@@ -131,17 +136,21 @@ module _ (lines : List Line) (journal : List Entry) (servable : AreServable line
         let a = line.actor in
         let front = projects.fronts line.actor actor_known in
         let yes : (line.actor == line.actor) ≡ true = grind (arith, nat_tests) in
-        let whole : numbers_of line.actor lines ≡ numbers_of line.actor (take at lines) ++ line.number ∷ numbers_of line.actor (drop (at + 1) lines) =
-        ap (numbers_of line.actor) (sym (take-append-drop at lines) ∙ ap (λ (w : List Line). take at lines ++ w) (drop_at lines at line lt is))
+        let whole : numbers_of line.actor lines ≡ numbers_of line.actor (take at lines) ++ line.number ∷ numbers_of line.actor
+        (drop (at + 1) lines) =
+        ap (numbers_of line.actor)
+        (sym (take-append-drop at lines) ∙ ap (λ (w : List Line). take at lines ++ w) (drop_at lines at line lt is))
         ∙ (numbers-append line.actor (take at lines) (line ∷ drop (at + 1) lines) ∙ rw yes refl) in
         next_at lines journal line.actor at line lt is refl
-        (same_front 0 (answered_by line.actor journal) front.0 (numbers_of line.actor (take at lines)) (line.number ∷ numbers_of line.actor (drop (at + 1) lines))
+        (same_front 0 (answered_by line.actor journal) front.0 (numbers_of line.actor (take at lines))
+        (line.number ∷ numbers_of line.actor (drop (at + 1) lines))
         (rw (← whole) (numbers_climb line.actor 0 lines servable.numbers_rise))
         (front.1 ∙ whole)
         (λ y h. front_answered at all line.actor y h)
         (λ y later e.
         let head : line.number ≡ y = cc in
-        elim (has line.number (answered_by line.actor journal)) as (λ b. has line.number (answered_by line.actor journal) ≡ b → has y (answered_by line.actor journal) ≡ false) [
+        elim (has line.number (answered_by line.actor journal)) as
+        (λ b. has line.number (answered_by line.actor journal) ≡ b → has y (answered_by line.actor journal) ≡ false) [
           | true ↦ λ t. absurd (false≢true (sym left ∙ answered_any line.actor line.number journal t))
           | false ↦ λ f. rw (← head) f
         ] refl))
@@ -153,13 +162,15 @@ module _ (lines : List Line) (journal : List Entry) (servable : AreServable line
     pub first_free : IsBlocked lines journal line.actor → ⊥
     first_free blocked =
         let by = blocked_at lines journal line.actor line first_next blocked in
-        let waits : (line.after < line.number) × Contains (map (λ (x : Line). x.number) lines) line.after = subst (WaitsForEarlier lines) (sym is) (servable.waiting at line lt) by.0 in
+        let waits : (line.after < line.number) × Contains (map (λ (x : Line). x.number) lines) line.after =
+        subst (WaitsForEarlier lines) (sym is) (servable.waiting at line lt) by.0 in
         let j = waits.1.0 in
         let within : j < length lines = omega (arith, waits.1.1, length-map lines (λ (x : Line). x.number)) in
         let number : (get_or lines j line).number ≡ line.after = number_of j within waits.1.2 in
         let earlier : j < at = before j within (omega (arith, number, waits.0)) in
         let any : is_answered journal line.after ≡ true =
-        ap (is_answered journal) (sym (ap (λ (x : Line). x.number) (get_or-take at lines j line earlier) ∙ number)) ∙ all j line (omega (arith, earlier, within, length-take at lines)) in
+        ap (is_answered journal) (sym (ap (λ (x : Line). x.number) (get_or-take at lines j line earlier) ∙ number))
+        ∙ all j line (omega (arith, earlier, within, length-take at lines)) in
         false≢true (sym by.1 ∙ any)
       where
         number_of : (j : ℕ) → j < length lines → get_or (map (λ (x : Line). x.number) lines) j line.after ≡ line.after
@@ -171,8 +182,18 @@ module _ (lines : List Line) (journal : List Entry) (servable : AreServable line
             elim (nat_lt j at) as (λ b. nat_lt j at ≡ b → j < at) [
               | true ↦ λ t. grind (arith, nat_tests)
               | false ↦ λ t. elim (nat_lt at j) as (λ b. nat_lt at j ≡ b → j < at) [
-                | true ↦ λ u. let after : at < j = grind (arith, nat_tests) in absurd (omega (arith, less, rising 0 lines servable.numbers_rise at j line line after within, ap (λ (x : Line). x.number) is))
-                | false ↦ λ u. let here : j ≡ at = grind (arith, nat_tests) in absurd (omega (arith, less, ap (λ (n : ℕ). (get_or lines n line).number) here, ap (λ (x : Line). x.number) is))
+                | true ↦ λ u.
+                    let after : at < j = grind (arith, nat_tests) in
+                    absurd (omega (
+                      arith,
+                      less,
+                      rising 0 lines servable.numbers_rise at j line line after within,
+                      ap
+                          (λ (x : Line). x.number) is,
+                    ))
+                | false ↦ λ u.
+                    let here : j ≡ at = grind (arith, nat_tests) in
+                    absurd (omega (arith, less, ap (λ (n : ℕ). (get_or lines n line).number) here, ap (λ (x : Line). x.number) is))
               ] refl
             ] refl
 
@@ -180,7 +201,8 @@ module _ (lines : List Line) (journal : List Entry) (servable : AreServable line
     pub first_more : (more : List Entry) (e : Entry) → more ≡ journal ++ e ∷ [] → e.line ≡ line.number → AreAnswered lines more (at + 1)
     first_more more e grown number =
         All-more (λ l. is_answered more l.number ≡ true) lines at line lt
-        (All-weaker (λ l. is_answered journal l.number ≡ true) (λ l. is_answered more l.number ≡ true) (λ l any. kept l.number any) (take at lines) all)
+        (All-weaker (λ l. is_answered journal l.number ≡ true) (λ l. is_answered more l.number ≡ true) (λ l any. kept l.number any)
+        (take at lines) all)
         (ap (is_answered more) (ap (λ (l : Line). l.number) (sym is)) ∙ new)
       where
         last : (b : Bool) → (b || true) ≡ true
@@ -194,7 +216,9 @@ module _ (lines : List Line) (journal : List Entry) (servable : AreServable line
         new : is_answered more line.number ≡ true
         new =
             let here : (e.line == line.number) ≡ true = grind (arith, nat_tests) in
-            ap (λ (w : List Entry). is_answered w line.number) grown ∙ (list_any-append (λ (x : Entry). x.line == line.number) journal (e ∷ []) ∙ rw here (last (is_answered journal line.number)))
+            ap (λ (w : List Entry). is_answered w line.number) grown
+            ∙ (list_any-append (λ (x : Entry). x.line == line.number) journal (e ∷ [])
+            ∙ rw here (last (is_answered journal line.number)))
 
 -- what is neither blocked nor finished was answered
 pub no_other : (r : Stepped) → (r ≡ step.Answered → ⊥) → (r ≡ step.Blocked → ⊥) → (r ≡ step.Finished → ⊥) → ⊥

@@ -20,7 +20,8 @@ use Rattle.cow_map.proofs.Leading.{body_one, body_fork, body_none, seen_one, see
 use Rattle.tree_laws.proofs.Subtrees.{inner_above, kid_forms, forms_none, forms_one, forms_fork as forms_crowd}
 use Rattle.cow_map.proofs.Branches.{AllUnder, all_range}
 use Rattle.cow_map.proofs.Standing.{Below, stands_into, stands_under}
-use Rattle.cow_map.proofs.Sealing.{crowded, part_kid, part_root, by_index, flat_each, hash_law, one_long, sound_form, own_leaf_kind, joined_links}
+use Rattle.cow_map.proofs.Sealing.{crowded, part_kid, part_root, by_index, flat_each, hash_law, one_long, sound_form, own_leaf_kind}
+use Rattle.cow_map.proofs.Sealing.{joined_links}
 use Rattle.cow_map.proofs.Adding.{form_leaf, form_inner, made_leaf, made_inner, made_own}
 
 module _ (half : Half) (stored : Lookup) where
@@ -45,7 +46,8 @@ module _ (half : Half) (stored : Lookup) where
 
 -- the forms of a part that an inner node stands above
 forms_fork : (half : Half) (kind : Kind) (all : List Entry) (left : ℕ) (path : List ℕ) (items : List Entry) → fewest path ≤ length items
-    → forms_of_part half kind all (suc left) path items ≡ flat_map (kid_forms half kind all left path) branches ++ inner_above half kind all left path ∷ []
+    → forms_of_part half kind all (suc left) path items ≡ flat_map
+    (kid_forms half kind all left path) branches ++ inner_above half kind all left path ∷ []
 forms_fork half kind all left [] [] enough = absurd (omega arith)
 forms_fork half kind all left (n ∷ path) [] enough = absurd (omega arith)
 forms_fork half kind all left path (e ∷ others) enough = forms_crowd half kind all left path e others (crowded path e others enough)

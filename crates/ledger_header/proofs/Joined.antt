@@ -44,16 +44,21 @@ last_two n b size =
     ∙ ap (λ t. take n b ++ get_or b n 0 ∷ get_or b (n + 1) 0 ∷ t) none
     )
 
-number_4 : (n at : ℕ) (b : Bytes) → IsBytes b → at + 4 ≤ length b → from_be_bytes w32 (take 4 (drop at b)) ≡ n → to_be_bytes w32 n ≡ take 4 (drop at b)
+number_4 : (n at : ℕ) (b : Bytes) → IsBytes b → at + 4 ≤ length b → from_be_bytes w32 (take 4 (drop at b)) ≡ n
+    → to_be_bytes w32 n ≡ take 4 (drop at b)
 number_4 n at b fits within is =
-    be_bytes_4 (take 4 (drop at b)) n (length-take-le 4 (drop at b) (omega (arith, length-drop at b))) (take_fits 4 (drop at b) (drop_fits at b fits)) (sym is)
+    be_bytes_4 (take 4 (drop at b)) n (length-take-le 4 (drop at b) (omega (arith, length-drop at b)))
+    (take_fits 4 (drop at b) (drop_fits at b fits)) (sym is)
 
-number_8 : (n at : ℕ) (b : Bytes) → IsBytes b → at + 8 ≤ length b → from_be_bytes w64 (take 8 (drop at b)) ≡ n → to_be_bytes w64 n ≡ take 8 (drop at b)
+number_8 : (n at : ℕ) (b : Bytes) → IsBytes b → at + 8 ≤ length b → from_be_bytes w64 (take 8 (drop at b)) ≡ n
+    → to_be_bytes w64 n ≡ take 8 (drop at b)
 number_8 n at b fits within is =
-    be_bytes_8 (take 8 (drop at b)) n (length-take-le 8 (drop at b) (omega (arith, length-drop at b))) (take_fits 8 (drop at b) (drop_fits at b fits)) (sym is)
+    be_bytes_8 (take 8 (drop at b)) n (length-take-le 8 (drop at b) (omega (arith, length-drop at b)))
+    (take_fits 8 (drop at b) (drop_fits at b fits)) (sym is)
 
 -- one more piece
-on : (at size end : ℕ) (b front piece : Bytes) → end ≡ at + size → front ≡ take at b → piece ≡ take size (drop at b) → front ++ piece ≡ take end b
+on : (at size end : ℕ) (b front piece : Bytes) → end ≡ at + size → front ≡ take at b → piece ≡ take size (drop at b)
+    → front ++ piece ≡ take end b
 on at size end b front piece e f p = ap (λ t. t ++ piece) f ∙ ap (λ t. take at b ++ t) p ∙ take_two at size b ∙ ap (λ k. take k b) (sym e)
 
 -- the bytes that read as the fields are the fields' bytes
@@ -77,10 +82,12 @@ record IsCut (b piece rest : Bytes) (at end : ℕ) : Type 0 where
   piece_is : take (length piece) (drop at b) ≡ piece
   rest_is : rest ≡ drop end b
 
-cut : (b tail piece rest : Bytes) (at end : ℕ) → end ≡ at + length piece → tail ≡ drop at b → tail ≡ piece ++ rest → IsCut b piece rest at end
+cut : (b tail piece rest : Bytes) (at end : ℕ) → end ≡ at + length piece → tail ≡ drop at b → tail ≡ piece ++ rest
+    → IsCut b piece rest at end
 cut b tail piece rest at end e is parts = record {
   piece_is = ap (take (length piece)) (sym is ∙ parts) ∙ take_at piece rest (length piece) refl;
-  rest_is = sym (ap (λ k. drop k b) e ∙ sym (drop-drop (length piece) at b) ∙ ap (drop (length piece)) (sym is ∙ parts) ∙ drop_at piece rest (length piece) refl);
+  rest_is = sym (ap (λ k. drop k b) e ∙ sym (drop-drop (length piece) at b) ∙ ap (drop (length piece)) (sym is ∙ parts)
+      ∙ drop_at piece rest (length piece) refl);
 }
 
 sized : (n : ℕ) (piece t : Bytes) → length piece ≡ n → take (length piece) t ≡ piece → take n t ≡ piece
@@ -152,7 +159,8 @@ pub record Writes (h : Header) (b1 b2 b3 b4 b5 b6 b7 b8 : Bytes) : Type 0 where
 end_at : (n end : ℕ) (b t : Bytes) → n ≡ end → take n b ≡ t → take end b ≡ t
 end_at n end b t e is = ap (λ k. take k b) (sym e) ∙ is
 
-pub written : (h : Header) (b1 b2 b3 b4 b5 b6 b7 b8 : Bytes) → IsHeader (fields h) → length b8 ≡ 118 → Writes h b1 b2 b3 b4 b5 b6 b7 b8 → b8 ≡ header_bytes (fields h)
+pub written : (h : Header) (b1 b2 b3 b4 b5 b6 b7 b8 : Bytes) → IsHeader (fields h) → length b8 ≡ 118 → Writes h b1 b2 b3 b4 b5 b6 b7 b8
+    → b8 ≡ header_bytes (fields h)
 unfolding header_bytes
 written h b1 b2 b3 b4 b5 b6 b7 b8 is size w =
     let p2 : take 12 b2 ≡ to_be_bytes w32 h.seq ++ to_be_bytes w64 h.drops = w.drops ∙ ap (λ t. t ++ to_be_bytes w64 h.drops) w.seq in
@@ -189,8 +197,10 @@ length-header_bytes h b is e =
     )
 
 -- a prefix, and what is behind it, put one after the other
-pub two_puts : (b1 b2 p e front back : Bytes) → p ≡ front → e ≡ back → length front ≡ 4 → take (0 + length p) b1 ≡ p → take (4 + length e) b2 ≡ take 4 b1 ++ e → length b2 ≡ 4 + length e → b2 ≡ front ++ back
+pub two_puts : (b1 b2 p e front back : Bytes) → p ≡ front → e ≡ back → length front ≡ 4 → take (0 + length p) b1 ≡ p
+    → take (4 + length e) b2 ≡ take 4 b1 ++ e → length b2 ≡ 4 + length e → b2 ≡ front ++ back
 two_puts b1 b2 p e front back is behind four first second size =
     let all : length b2 ≤ 4 + length e = omega arith in
     let at : 0 + length p ≡ 4 = omega (arith, ap length is) in
-    sym (take_all (4 + length e) b2 all) ∙ second ∙ ap (λ t. t ++ e) (end_at (0 + length p) 4 b1 p at first ∙ is) ∙ ap (λ t. front ++ t) behind
+    sym (take_all (4 + length e) b2 all) ∙ second ∙ ap (λ t. t ++ e) (end_at (0 + length p) 4 b1 p at first ∙ is)
+    ∙ ap (λ t. front ++ t) behind

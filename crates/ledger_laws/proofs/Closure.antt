@@ -26,7 +26,7 @@ use Rattle.ledger_spec.proofs.Growth.{no_cons, both_nil, found, met, whole_store
 use Rattle.ledger_spec.proofs.OfferLaws.{count_hashes}
 use Rattle.ledger_machine.specs.Complete.{IsAllStored, IsUnbroken}
 use Rattle.ledger_laws.proofs.SoundForms.{none_some, some_same, in_nothing, in_head, in_tail}
-use Rattle.ledger_laws.proofs.SoundOffers.{in_one}
+use Rattle.ledger_spec.proofs.Storing.{in_one}
 use Rattle.ledger_laws.proofs.Ways.{IsNamed, branch_named, root_named, header_names}
 
 -- something isn't nothing
@@ -105,7 +105,8 @@ bare_no_inner half b hashes e = at _ _ _ e
     at false key bytes e = cc
 
 leaf_no_inner : (half : Half) (b : Bytes) (hashes : List Hash) → leaf_of half b ≡ Some (inner hashes) → ⊥
-leaf_no_inner half b hashes e = first (keyed_leaf_of State b) (keyed_leaf_of Tx b) (keyed_no_inner State b hashes) (keyed_no_inner Tx b hashes) e
+leaf_no_inner half b hashes e = first (keyed_leaf_of State b) (keyed_leaf_of Tx b) (keyed_no_inner State b hashes)
+    (keyed_no_inner Tx b hashes) e
   where
     second : (o : Option Held) → (o ≡ Some (inner hashes) → ⊥) → option_or o (bare_leaf_of half b) ≡ Some (inner hashes) → ⊥
     second None never e = bare_no_inner half b hashes e
@@ -159,11 +160,13 @@ place_there false m rest here below = All-cons NotMissing m rest (here refl) (be
 -- the places below what is seen, where it is an inner node
 below_there : (half : Half) (rules : Held → Option ShapeFault) (o : Option Bytes) (x : Sight) (each : List Hash → List Met)
     → sight_of half rules o ≡ x
-    → ((form : Bytes) (hashes : List Hash) → o ≡ Some form → inner_of form ≡ Some hashes → All NotMissing (each hashes)) → All NotMissing (branches_of x each)
+    → ((form : Bytes) (hashes : List Hash) → o ≡ Some form → inner_of form ≡ Some hashes → All NotMissing (each hashes))
+    → All NotMissing (branches_of x each)
 below_there half rules o missing each is below = All-nil NotMissing
 below_there half rules o (broken fault) each is below = All-nil NotMissing
 below_there half rules o (sound (inner hashes)) each is below =
-    let h : (form : Bytes) × (o ≡ Some form) × (held_of half form ≡ Some (inner hashes)) × (rules (inner hashes) ≡ None) = sound_held half rules o (inner hashes) is in
+    let h : (form : Bytes) × (o ≡ Some form) × (held_of half form ≡ Some (inner hashes)) × (rules (inner hashes) ≡ None) =
+    sound_held half rules o (inner hashes) is in
     below h.0 hashes h.1 (held_inner half h.0 hashes h.2)
 below_there half rules o (sound (leaf kind key bytes)) each is below = All-nil NotMissing
 below_there half rules o (sound (header bytes)) each is below = All-nil NotMissing
@@ -182,12 +185,16 @@ module _ (half : Half) (nodes : Lookup) (t : Hash) (all : IsAllStored nodes t) w
       (λ z. stored_there half (λ n. fault_of n parent kind path) (nodes h) (named_stored h (name (ap not z)))) (λ z. All-nil NotMissing)
   walk_there kind (suc left) parent path h name =
       let rules : Held → Option ShapeFault = λ n. fault_of n parent kind path in
-      let each : List Hash → List Met = λ hashes. flat_map (λ b. walk half nodes kind left (Some hashes) (path ++ b ∷ []) (slice_index_or hashes b zero_hash)) branches in
-      place_there (is_zero h) (met (Node kind path) h parent (sight_of half rules (nodes h))) (branches_of (sight_of half rules (nodes h)) each)
+      let each : List Hash → List Met =
+      λ hashes. flat_map (λ b. walk half nodes kind left (Some hashes) (path ++ b ∷ []) (slice_index_or hashes b zero_hash)) branches in
+      place_there (is_zero h) (met (Node kind path) h parent (sight_of half rules (nodes h)))
+      (branches_of (sight_of half rules (nodes h)) each)
       (λ z. stored_there half rules (nodes h) (named_stored h (name (ap not z))))
       (λ z. below_there half rules (nodes h) (sight_of half rules (nodes h)) each refl
-      (λ form hashes stored is. all_flat NotMissing (λ b. walk half nodes kind left (Some hashes) (path ++ b ∷ []) (slice_index_or hashes b zero_hash)) branches
-      (λ b. walk_there kind left (Some hashes) (path ++ b ∷ []) (slice_index_or hashes b zero_hash) (branch_named nodes t h form hashes b (name (ap not z)) stored is))))
+      (λ form hashes stored is. all_flat NotMissing
+      (λ b. walk half nodes kind left (Some hashes) (path ++ b ∷ []) (slice_index_or hashes b zero_hash)) branches
+      (λ b. walk_there kind left (Some hashes) (path ++ b ∷ []) (slice_index_or hashes b zero_hash)
+      (branch_named nodes t h form hashes b (name (ap not z)) stored is))))
 
   -- no place of the two maps is missing
   maps_there : (x : Sight) → header_sight (nodes t) ≡ x → All NotMissing (maps_of half nodes x)
@@ -199,13 +206,15 @@ module _ (half : Half) (nodes : Lookup) (t : Hash) (all : IsAllStored nodes t) w
   maps_there (sound (header bytes)) is =
       let h : (form : Bytes) × (nodes t ≡ Some form) × (header_of form ≡ Some bytes) = sound_header (nodes t) bytes is in
       All-append NotMissing (walk_map half nodes State (state_root_of bytes)) (walk_map half nodes Tx (tx_root_of bytes))
-      (walk_there State 64 None [] (state_root_of bytes) (root_named nodes t h.0 bytes State h.1 h.2)) (walk_there Tx 64 None [] (tx_root_of bytes) (root_named nodes t h.0 bytes Tx h.1 h.2))
+      (walk_there State 64 None [] (state_root_of bytes) (root_named nodes t h.0 bytes State h.1 h.2))
+      (walk_there Tx 64 None [] (tx_root_of bytes) (root_named nodes t h.0 bytes Tx h.1 h.2))
 
   -- no place of the ledger is missing
   ledger_there : All NotMissing (walk_ledger half nodes t)
   unfolding walk_ledger
   ledger_there =
-      All-cons NotMissing (met Header t None (header_sight (nodes t))) (maps_of half nodes (header_sight (nodes t))) (header_there (nodes t) all.own) (maps_there (header_sight (nodes t)) refl)
+      All-cons NotMissing (met Header t None (header_sight (nodes t))) (maps_of half nodes (header_sight (nodes t)))
+      (header_there (nodes t) all.own) (maps_there (header_sight (nodes t)) refl)
 
 -- a finding that isn't missing
 abbrev NotLacks : Finding → Type 0
@@ -238,7 +247,9 @@ stored_whole half nodes t all unbroken =
 -- what passes a test is in the list, and passes it
 from_filter : {A : Type 0} (p : A → Bool) (xs : List A) → All (λ y. Contains xs y × (p y ≡ true)) (filter p xs)
 from_filter p [] = All-nil (λ y. Contains [] y × (p y ≡ true))
-from_filter {A} p (x ∷ xs) = at (p x) refl (All-weaker (λ y. Contains xs y × (p y ≡ true)) (λ y. Contains (x ∷ xs) y × (p y ≡ true)) (λ y h. (in_tail x y xs h.0, h.1)) (filter p xs) (from_filter p xs))
+from_filter {A} p (x ∷ xs) = at (p x) refl
+    (All-weaker (λ y. Contains xs y × (p y ≡ true)) (λ y. Contains (x ∷ xs) y × (p y ≡ true)) (λ y h. (in_tail x y xs h.0, h.1))
+    (filter p xs) (from_filter p xs))
   where
     at : (b : Bool) → p x ≡ b → All (λ y. Contains (x ∷ xs) y × (p y ≡ true)) (filter p xs)
         → All (λ y. Contains (x ∷ xs) y × (p y ≡ true)) (cond b (x ∷ filter p xs) (filter p xs))
@@ -266,7 +277,8 @@ flat_clean : {A B F : Type 0} (find : B → Option F) (f : A → List B) (xs : L
     → All (λ x. filter_map find (f x) ≡ []) xs
 flat_clean find f [] clean = All-nil (λ x. filter_map find (f x) ≡ [])
 flat_clean find f (x ∷ xs) clean =
-    let both : (filter_map find (f x) ≡ []) × (filter_map find (flat_map f xs) ≡ []) = both_nil _ _ (sym (filter_map-append find (f x) (flat_map f xs)) ∙ clean) in
+    let both : (filter_map find (f x) ≡ []) × (filter_map find (flat_map f xs) ≡ []) =
+    both_nil _ _ (sym (filter_map-append find (f x) (flat_map f xs)) ∙ clean) in
     All-cons (λ y. filter_map find (f y) ≡ []) x xs both.0 (flat_clean find f xs both.1)
 
 -- a place at which nothing is found is sound, and nothing is found below it
@@ -297,14 +309,16 @@ data IsMet (half : Half) (nodes : Lookup) (t : Hash) : Hash → Type 0 where
       → filter_map found (walk half nodes kind left parent path h) ≡ [] → IsMet half nodes t h
 
 -- what is sound at a place of a walk that finds nothing
-record IsHeldAt (half : Half) (nodes : Lookup) (kind : Kind) (left : ℕ) (parent : Option (List Hash)) (path : List ℕ) (h : Hash) : Type 0 where
+record IsHeldAt (half : Half) (nodes : Lookup) (kind : Kind) (left : ℕ) (parent : Option (List Hash)) (path : List ℕ)
+    (h : Hash) : Type 0 where
   held : Held
   form : Bytes
   stored : nodes h ≡ Some form
   holds : held_of half form ≡ Some held
   ruled : fault_of held parent kind path ≡ None
   rest : (l : ℕ) → left ≡ suc l → (hashes : List Hash) → held ≡ inner hashes
-      → filter_map found (flat_map (λ b. walk half nodes kind l (Some hashes) (path ++ b ∷ []) (slice_index_or hashes b zero_hash)) branches) ≡ []
+      → filter_map found (flat_map (λ b. walk half nodes kind l (Some hashes) (path ++ b ∷ []) (slice_index_or hashes b zero_hash))
+      branches) ≡ []
 
 module _ (half : Half) (nodes : Lookup) (kind : Kind) where
   -- the place where such a walk begins
@@ -316,20 +330,25 @@ module _ (half : Half) (nodes : Lookup) (kind : Kind) where
       let rules : Held → Option ShapeFault = λ n. fault_of n parent kind path in
       let here : filter_map found (met (Node kind path) h parent (sight_of half rules (nodes h)) ∷ []) ≡ [] =
       met_there h (met (Node kind path) h parent (sight_of half rules (nodes h))) [] nonzero clean in
-      let n : (n : Held) × (sight_of half rules (nodes h) ≡ sound n) × (filter_map found [] ≡ []) = clean_sound (Node kind path) h parent (sight_of half rules (nodes h)) [] here in
-      let f : (form : Bytes) × (nodes h ≡ Some form) × (held_of half form ≡ Some n.0) × (rules n.0 ≡ None) = sound_held half rules (nodes h) n.0 n.1 in
+      let n : (n : Held) × (sight_of half rules (nodes h) ≡ sound n) × (filter_map found [] ≡ []) =
+      clean_sound (Node kind path) h parent (sight_of half rules (nodes h)) [] here in
+      let f : (form : Bytes) × (nodes h ≡ Some form) × (held_of half form ≡ Some n.0) × (rules n.0 ≡ None) =
+      sound_held half rules (nodes h) n.0 n.1 in
       record { held = n.0; form = f.0; stored = f.1; holds = f.2; ruled = f.3; rest = λ l e hashes is. absurd (zero_suc e) }
     where
       zero_suc : {l : ℕ} → zero ≡ suc l → ⊥
       zero_suc e = omega (arith, e)
   held_at (suc left) parent path h nonzero clean =
       let rules : Held → Option ShapeFault = λ n. fault_of n parent kind path in
-      let each : ℕ → List Hash → List Met = λ l hashes. flat_map (λ b. walk half nodes kind l (Some hashes) (path ++ b ∷ []) (slice_index_or hashes b zero_hash)) branches in
+      let each : ℕ → List Hash → List Met = λ l hashes. flat_map
+      (λ b. walk half nodes kind l (Some hashes) (path ++ b ∷ []) (slice_index_or hashes b zero_hash)) branches in
       let under : List Met = branches_of (sight_of half rules (nodes h)) (each left) in
       let here : filter_map found (met (Node kind path) h parent (sight_of half rules (nodes h)) ∷ under) ≡ [] =
       met_there h (met (Node kind path) h parent (sight_of half rules (nodes h))) under nonzero clean in
-      let n : (n : Held) × (sight_of half rules (nodes h) ≡ sound n) × (filter_map found under ≡ []) = clean_sound (Node kind path) h parent (sight_of half rules (nodes h)) under here in
-      let f : (form : Bytes) × (nodes h ≡ Some form) × (held_of half form ≡ Some n.0) × (rules n.0 ≡ None) = sound_held half rules (nodes h) n.0 n.1 in
+      let n : (n : Held) × (sight_of half rules (nodes h) ≡ sound n) × (filter_map found under ≡ []) =
+      clean_sound (Node kind path) h parent (sight_of half rules (nodes h)) under here in
+      let f : (form : Bytes) × (nodes h ≡ Some form) × (held_of half form ≡ Some n.0) × (rules n.0 ≡ None) =
+      sound_held half rules (nodes h) n.0 n.1 in
       record {
         held = n.0;
         form = f.0;
@@ -364,7 +383,8 @@ header_is (Some form) n e = at (header_of form) refl e
 inner_above : (left : ℕ) (parent : Option (List Hash)) (kind : Kind) (path : List ℕ) (hashes : List Hash) → left + length path ≡ 64
     → fault_of (inner hashes) parent kind path ≡ None
     → (l : ℕ) × (left ≡ suc l)
-inner_above zero parent kind path hashes total ruled = absurd (bottom (length path == 64) (eq-eqb (length path) 64 (omega (arith, total))) ruled)
+inner_above zero parent kind path hashes total ruled = absurd
+    (bottom (length path == 64) (eq-eqb (length path) 64 (omega (arith, total))) ruled)
   where
     bottom : (b : Bool) → b ≡ true → (if b then Some InnerAtBottom else None) ≡ None → ⊥
     bottom true e ruled = some_none ruled
@@ -373,13 +393,16 @@ inner_above (suc l) parent kind path hashes total ruled = (l, refl)
 
 module _ (half : Half) (nodes : Lookup) (t : Hash) where
   -- the kids of an inner node at a place where nothing is found
-  inner_kid : (kind : Kind) (left : ℕ) (parent : Option (List Hash)) (path : List ℕ) (h : Hash) (x : IsHeldAt half nodes kind left parent path h) → left + length path ≡ 64
+  inner_kid : (kind : Kind) (left : ℕ) (parent : Option (List Hash)) (path : List ℕ) (h : Hash)
+      (x : IsHeldAt half nodes kind left parent path h) → left + length path ≡ 64
       → (hashes : List Hash) → inner_of x.form ≡ Some hashes → (k : Hash) → Contains (kids x.form) k → IsMet half nodes t k
   inner_kid kind left parent path h x total hashes is k c =
       let holds : held_of half x.form ≡ Some (inner hashes) =
-      ap (λ (o : Option (List Hash)). option_or (option_map inner o) (option_or (option_map header (header_of x.form)) (leaf_of half x.form))) is in
+      ap (λ (o : Option (List Hash)). option_or (option_map inner o)
+      (option_or (option_map header (header_of x.form)) (leaf_of half x.form))) is in
       let held : x.held ≡ inner hashes = some_same (sym x.holds ∙ holds) in
-      let above : (l : ℕ) × (left ≡ suc l) = inner_above left parent kind path hashes total (subst (λ n. fault_of n parent kind path ≡ None) held x.ruled) in
+      let above : (l : ℕ) × (left ≡ suc l) = inner_above left parent kind path hashes total
+      (subst (λ n. fault_of n parent kind path ≡ None) held x.ruled) in
       let one : Contains hashes k × IsTrue (is_nonzero k) = kid_in x.form hashes k (ap (λ i. named_by i (header_of x.form)) is) c in
       let i : ℕ = one.0.0 in
       let zero_more : 0 + i ≡ i = omega arith in
@@ -387,12 +410,15 @@ module _ (half : Half) (nodes : Lookup) (t : Hash) where
       let same : slice_index_or hashes i zero_hash ≡ k = sym (get_or_default hashes i k zero_hash one.0.1) ∙ one.0.2 in
       let each : ℕ → List Met = λ b. walk half nodes kind above.0 (Some hashes) (path ++ b ∷ []) (slice_index_or hashes b zero_hash) in
       let clean : filter_map found (each i) ≡ [] =
-      All-contains (λ b. filter_map found (each b) ≡ []) branches i (flat_clean found each branches (x.rest above.0 above.1 hashes held)) (i, lt, get_or-range_with_len 0 16 i i lt ∙ zero_more) in
+      All-contains (λ b. filter_map found (each b) ≡ []) branches i (flat_clean found each branches (x.rest above.0 above.1 hashes held))
+      (i, lt, get_or-range_with_len 0 16 i i lt ∙ zero_more) in
       subst (IsMet half nodes t) same
-      (below kind above.0 (Some hashes) (path ++ i ∷ []) (omega (arith, total, above.1, length-append path (i ∷ []))) (subst (λ y. IsTrue (is_nonzero y)) (sym same) one.1) clean)
+      (below kind above.0 (Some hashes) (path ++ i ∷ []) (omega (arith, total, above.1, length-append path (i ∷ [])))
+      (subst (λ y. IsTrue (is_nonzero y)) (sym same) one.1) clean)
 
   -- the kids of what stands at such a place
-  place_kid : (kind : Kind) (left : ℕ) (parent : Option (List Hash)) (path : List ℕ) (h : Hash) (x : IsHeldAt half nodes kind left parent path h) → left + length path ≡ 64
+  place_kid : (kind : Kind) (left : ℕ) (parent : Option (List Hash)) (path : List ℕ) (h : Hash)
+      (x : IsHeldAt half nodes kind left parent path h) → left + length path ≡ 64
       → (k : Hash) → Contains (kids x.form) k → IsMet half nodes t k
   place_kid kind left parent path h x total k c = first (inner_of x.form) refl (header_of x.form) refl
     where
@@ -413,15 +439,18 @@ module _ (half : Half) (nodes : Lookup) (t : Hash) where
   header_kid whole form stored k c =
       let n : (n : Held) × (header_sight (nodes t) ≡ sound n) × (filter_map found (maps_of half nodes (header_sight (nodes t))) ≡ []) =
       clean_sound Header t None (header_sight (nodes t)) (maps_of half nodes (header_sight (nodes t))) whole in
-      let h : (f : Bytes) × (bytes : Bytes) × (nodes t ≡ Some f) × (header_of f ≡ Some bytes) × (n.0 ≡ header bytes) = header_is (nodes t) n.0 n.1 in
+      let h : (f : Bytes) × (bytes : Bytes) × (nodes t ≡ Some f) × (header_of f ≡ Some bytes) × (n.0 ≡ header bytes) =
+      header_is (nodes t) n.0 n.1 in
       let state : Hash = state_root_of h.1 in
       let tx : Hash = tx_root_of h.1 in
       let maps : filter_map found (walk half nodes State 64 None [] state ++ walk half nodes Tx 64 None [] tx) ≡ [] =
       subst (λ x. filter_map found (maps_of half nodes x) ≡ []) (n.1 ∙ ap sound h.4) n.2 in
-      let both : (filter_map found (walk half nodes State 64 None [] state) ≡ []) × (filter_map found (walk half nodes Tx 64 None [] tx) ≡ []) =
+      let both : (filter_map found (walk half nodes State 64 None [] state) ≡ [])
+      × (filter_map found (walk half nodes Tx 64 None [] tx) ≡ []) =
       both_nil _ _ (sym (filter_map-append found (walk half nodes State 64 None [] state) (walk half nodes Tx 64 None [] tx)) ∙ maps) in
       let own : h.0 ≡ form = some_same (sym h.2 ∙ stored) in
-      let one : Contains (state ∷ tx ∷ []) k × IsTrue (is_nonzero k) = kid_in h.0 (state ∷ tx ∷ []) k (header_names h.0 h.1 h.3) (subst (λ f. Contains (kids f) k) (sym own) c) in
+      let one : Contains (state ∷ tx ∷ []) k × IsTrue (is_nonzero k) =
+      kid_in h.0 (state ∷ tx ∷ []) k (header_names h.0 h.1 h.3) (subst (λ f. Contains (kids f) k) (sym own) c) in
       ⊎_elim
       (λ is. subst (IsMet half nodes t) (sym is) (below State 64 None [] refl (subst (λ y. IsTrue (is_nonzero y)) is one.1) both.0))
       (λ is. subst (IsMet half nodes t) (sym is) (below Tx 64 None [] refl (subst (λ y. IsTrue (is_nonzero y)) is one.1) both.1))
@@ -454,7 +483,11 @@ module _ (half : Half) (nodes : Lookup) (t : Hash) where
 
   -- nothing that a whole ledger reaches is absent
   pub whole_all : Whole half nodes t → IsAllStored nodes t
-  whole_all whole = record { own = met_stored whole top; named = λ h k form reached stored c. met_stored whole (met_kid whole (reach_met whole reached) form stored k c) }
+  whole_all whole = record {
+    own = met_stored whole top;
+    named =
+        λ h k form reached stored c. met_stored whole (met_kid whole (reach_met whole reached) form stored k c);
+  }
 
   -- and no place of it breaks a rule
   pub whole_unbroken : Whole half nodes t → IsUnbroken half nodes t

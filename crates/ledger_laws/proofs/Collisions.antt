@@ -38,7 +38,7 @@ use Rattle.ledger_machine.specs.declared.replies.BaseReply.TheVariants as base
 use Rattle.ledger_machine.specs.declared.replies.NodeReply.TheVariants as node
 use Rattle.ledger_machine.specs.declared.replies.Reply.{Reply}
 use Rattle.ledger_machine.specs.declared.replies.Reply.TheVariants as says
-use Rattle.ledger_machine.specs.State.{State, Acquisition, form_in, opening, with_form, with_forms, with_wanted, stored_seq}
+use Rattle.ledger_machine.specs.State.{State, Acquisition, form_in, with_form, with_forms, with_wanted, stored_seq}
 use Rattle.ledger_machine.specs.Want.{want_reply, after_want}
 use Rattle.ledger_machine.specs.Peer.{peer_reply, after_peer, with_peer}
 use Rattle.ledger_machine.specs.Check.{check_reply, after_check, after_ask}
@@ -53,7 +53,7 @@ use Rattle.ledger_machine.specs.Runs.{Run, used_by, opening_of}
 use Rattle.ledger_machine.specs.Collisions.{form_read, part_form, head_form, offered_by, offered_in, Collides, IsClash}
 use Rattle.ledger_laws.proofs.SoundOffers.{present_form, parts_cases}
 use Rattle.ledger_laws.proofs.SoundKeeps.{shaded_same}
-use Rattle.ledger_laws.proofs.SoundForms.{none_some, new_or_old, in_nothing, in_head, in_tail}
+use Rattle.ledger_laws.proofs.SoundForms.{new_or_old, in_nothing, in_head, in_tail}
 use Rattle.ledger_laws.proofs.SoundSteps.{outcome_cases, line_at}
 use Rattle.ledger_laws.proofs.Openings.{stored_all, none_in_empty, forms_among}
 
@@ -71,17 +71,20 @@ module _ (half : Half) (forms : List Bytes) where
   with_form_from s form one from = at (form_in s (half form))
     where
       at : (o : Option Bytes)
-          → IsFrom half forms (if is_some o then s else record s { nodes = finite.insert s.nodes (half form) form; born = set.insert s.born (half form) })
+          → IsFrom half forms (if is_some o then s else record s
+          { nodes = finite.insert s.nodes (half form) form; born = set.insert s.born (half form) })
       at (Some old) h now e = from h now e
       at None h now e =
-          ⊎_elim (λ old. from h now old) (λ new. (new.0 ∙ ap half (sym new.1), subst (Contains forms) (sym new.1) one)) (new_or_old s.nodes (half form) form h now e)
+          ⊎_elim (λ old. from h now old) (λ new. (new.0 ∙ ap half (sym new.1), subst (Contains forms) (sym new.1) one))
+          (new_or_old s.nodes (half form) form h now e)
 
   -- several more
   with_forms_from : (s : State) (more : List Bytes) → ((form : Bytes) → Contains more form → Contains forms form) → IsFrom half forms s
       → IsFrom half forms (with_forms half s more)
   with_forms_from s [] each from = from
   with_forms_from s (form ∷ more) each from =
-      with_forms_from (with_form half s form) more (λ x c. each x (in_tail form x more c)) (with_form_from s form (each form (in_head form more)) from)
+      with_forms_from (with_form half s form) more (λ x c. each x (in_tail form x more c))
+      (with_form_from s form (each form (in_head form more)) from)
 
   after_from : (t s' : State) → IsAfter t s' → IsFrom half forms t → IsFrom half forms s'
   after_from t s' e from = same_from t s' (shaded_same t s' e).nodes from
@@ -135,7 +138,8 @@ head_read : (half : Half) (nodes : Lookup) (t : Hash) (bytes form : Bytes)
     → Contains (head_forms (head_outcome half nodes t bytes) bytes) form → Contains (head_form bytes) form
 head_read half nodes t bytes form c =
     at (length bytes == 118)
-    (if not (same_bytes (half (header_prefix ++ bytes)) t) then Ok (head.BadHash (half (header_prefix ++ bytes))) else head_given t (header_prefix ++ bytes) (nodes t)) c
+    (if not (same_bytes (half (header_prefix ++ bytes)) t) then Ok (head.BadHash (half (header_prefix ++ bytes))) else head_given t
+    (header_prefix ++ bytes) (nodes t)) c
   where
     good : (r : Result HeadOffered Clash) → Contains (head_forms r bytes) form → Contains ((header_prefix ++ bytes) ∷ []) form
     good (Ok head.Good) c = c
@@ -159,10 +163,12 @@ part_read half s t kind (Some blob) form c = stored_read (read_wire half blob) (
 -- the parts of a base reply, among its forms
 module _ (half : Half) (bytes : Bytes) (state tx : Option Bytes) (form : Bytes) where
   of_head : Contains (head_form bytes) form → Contains (head_form bytes ++ part_form half state ++ part_form half tx) form
-  of_head c = Contains-append_left (head_form bytes ++ part_form half state) (part_form half tx) form (Contains-append_left (head_form bytes) (part_form half state) form c)
+  of_head c = Contains-append_left (head_form bytes ++ part_form half state) (part_form half tx) form
+      (Contains-append_left (head_form bytes) (part_form half state) form c)
 
   of_state : Contains (part_form half state) form → Contains (head_form bytes ++ part_form half state ++ part_form half tx) form
-  of_state c = Contains-append_left (head_form bytes ++ part_form half state) (part_form half tx) form (Contains-append_right (head_form bytes) (part_form half state) form c)
+  of_state c = Contains-append_left (head_form bytes ++ part_form half state) (part_form half tx) form
+      (Contains-append_right (head_form bytes) (part_form half state) form c)
 
   of_tx : Contains (part_form half tx) form → Contains (head_form bytes ++ part_form half state ++ part_form half tx) form
   of_tx c = Contains-append_right (head_form bytes ++ part_form half state) (part_form half tx) form c
@@ -219,14 +225,16 @@ module _ (half : Half) (forms : List Bytes) where
 
   -- what the answer of a row leaves
   base_from : (s : State) (p : ℕ) (t : Hash) (bytes : Bytes) (state tx : Option Bytes) (reply : Reply)
-      → ((form : Bytes) → Contains (head_form bytes ++ part_form half state ++ part_form half tx) form → Contains forms form) → IsFrom half forms s
+      → ((form : Bytes) → Contains (head_form bytes ++ part_form half state ++ part_form half tx) form → Contains forms form)
+      → IsFrom half forms s
       → IsFrom half forms (after_base half s p t bytes state tx reply)
   base_from s p t bytes state tx (says.Base (base.Parts h a b)) each from =
       let s1 : State = after_head half s bytes (head_outcome half (form_in s) t bytes) in
       let s2 : State = after_part half s1 t kinds.State state in
       part_from s2 t kinds.Tx tx (λ form c. each form (of_tx half bytes state tx form c))
       (part_from s1 t kinds.State state (λ form c. each form (of_state half bytes state tx form c))
-      (head_from s bytes (head_outcome half (form_in s) t bytes) (λ form c. each form (of_head half bytes state tx form (head_read half (form_in s) t bytes form c))) from))
+      (head_from s bytes (head_outcome half (form_in s) t bytes)
+      (λ form c. each form (of_head half bytes state tx form (head_read half (form_in s) t bytes form c))) from))
   base_from s p t bytes state tx _ each from = from
 
   offer_from : (s : State) (p : ℕ) (t : Hash) (kind : Kind) (path : List ℕ) (blob : Bytes) (reply : Reply)
@@ -239,16 +247,19 @@ module _ (half : Half) (forms : List Bytes) where
       → ((form : Bytes) → Contains (offered_by half c) form → Contains forms form)
       → IsFrom half forms s → Answered half s a c reply used s' → IsFrom half forms s'
   row_from s a (command.Want t seq) reply used s' acquiring each from g =
-      after_from half forms (after_want s t seq (want_reply s t seq)) s' g.after (same_from half forms s (after_want s t seq (want_reply s t seq)) (want_nodes s t seq (want_reply s t seq)) from)
+      after_from half forms (after_want s t seq (want_reply s t seq)) s' g.after
+      (same_from half forms s (after_want s t seq (want_reply s t seq)) (want_nodes s t seq (want_reply s t seq)) from)
   row_from s a (command.Peer p t) reply used s' acquiring each from g =
-      after_from half forms (after_peer s p t (peer_reply s p t)) s' g.after (same_from half forms s (after_peer s p t (peer_reply s p t)) (peer_nodes s p t (peer_reply s p t)) from)
+      after_from half forms (after_peer s p t (peer_reply s p t)) s' g.after
+      (same_from half forms s (after_peer s p t (peer_reply s p t)) (peer_nodes s p t (peer_reply s p t)) from)
   row_from s a (command.Base p t bytes state tx) reply used s' acquiring each from g =
       after_from half forms (after_base half s p t bytes state tx reply) s' g.after (base_from s p t bytes state tx reply each from)
   row_from s a (command.Node p t kind path blob) reply used s' acquiring each from g =
       after_from half forms (after_offer half s p t kind path blob reply) s' g.after (offer_from s p t kind path blob reply each from)
   row_from s a (command.Check t) reply used s' acquiring each from g =
       after_from half forms (after_check s t (stored_seq s t) (check_reply half s t)) s' g.after
-      (same_from half forms s (after_check s t (stored_seq s t) (check_reply half s t)) (check_nodes s t (stored_seq s t) (check_reply half s t)) from)
+      (same_from half forms s (after_check s t (stored_seq s t) (check_reply half s t))
+      (check_nodes s t (stored_seq s t) (check_reply half s t)) from)
   row_from s a (command.Tick t) reply used s' acquiring each from g =
       after_from half forms (after_tick s t (tick_reply s t)) s' g.after
       (same_from half forms s (after_tick s t (tick_reply s t)) (tick_nodes s t (tick_reply s t)) from)
@@ -284,7 +295,8 @@ module _ (half : Half) (forms : List Bytes) where
       let form : Bytes = header_prefix ++ bytes in
       let past : (length bytes == 118 ≡ true) × (same_bytes (half form) t ≡ true) × (head_given t form (form_in s t) ≡ Err c) =
       past_tests (length bytes == 118) (same_bytes (half form) t) (length bytes) (half form) (head_given t form (form_in s t)) e in
-      let offers : Contains forms form = each form (subst (λ b. Contains (if b then form ∷ [] else []) form) (sym past.0) (in_head form [])) in
+      let offers : Contains forms form =
+      each form (subst (λ b. Contains (if b then form ∷ [] else []) form) (sym past.0) (in_head form [])) in
       held (form_in s t) refl (same_text (half form) t (sym past.1)) offers past.2
     where
       past_tests : (a b : Bool) (n : ℕ) (found : Hash) (r : Result HeadOffered Clash)
@@ -299,7 +311,8 @@ module _ (half : Half) (forms : List Bytes) where
       held None is own offers e = cc
       held (Some old) is own offers e =
           found_other s t old (header_prefix ++ bytes) from is own offers
-          (differs (same_bytes old (header_prefix ++ bytes)) head.Duplicate (record { hash = t; old = old; new = header_prefix ++ bytes }) c e)
+          (differs (same_bytes old (header_prefix ++ bytes)) head.Duplicate
+          (record { hash = t; old = old; new = header_prefix ++ bytes }) c e)
 
   -- a clash of a node with the wanted hash
   given_clash : (s : State) (n : Held) (h : Hash) (fault : Option ShapeFault) (o : Option Bytes) (c : Clash) → IsFrom half forms s
@@ -307,8 +320,11 @@ module _ (half : Half) (forms : List Bytes) where
       → node_given fault h (form_of n) o ≡ Err c → Collides half forms
   given_clash s n h None None c from offers is own e = cc
   given_clash s n h (Some fault) None c from offers is own e = cc
-  given_clash s n h None (Some old) c from offers is own e = found_other s h old (form_of n) from is own offers (differs (same_bytes old (form_of n)) offered.Duplicate (record { hash = h; old = old; new = form_of n }) c e)
-  given_clash s n h (Some fault) (Some old) c from offers is own e = found_other s h old (form_of n) from is own offers (differs (same_bytes old (form_of n)) offered.Duplicate (record { hash = h; old = old; new = form_of n }) c e)
+  given_clash s n h None (Some old) c from offers is own e = found_other s h old (form_of n) from is own offers
+      (differs (same_bytes old (form_of n)) offered.Duplicate (record { hash = h; old = old; new = form_of n }) c e)
+  given_clash s n h (Some fault) (Some old) c from offers is own e =
+      found_other s h old (form_of n) from is own offers
+      (differs (same_bytes old (form_of n)) offered.Duplicate (record { hash = h; old = old; new = form_of n }) c e)
 
   -- a clash of a node at a place
   spot_clash : (s : State) (kind : Kind) (path : List ℕ) (n : Held) (x : Spot) (c : Clash) → IsFrom half forms s
@@ -320,7 +336,8 @@ module _ (half : Half) (forms : List Bytes) where
   spot_clash s kind path n (under_leaf p) c from offers e = cc
   spot_clash s kind path n (wanted h parent) c from offers e =
       let given : Result Offered Clash = node_given (fault_of n parent kind path) h (form_of n) (form_in s h) in
-      let past : (same_bytes (hash_of half n) h ≡ true) × (given ≡ Err c) = past_hash (same_bytes (hash_of half n) h) given (offered.BadHash h (hash_of half n)) e in
+      let past : (same_bytes (hash_of half n) h ≡ true) × (given ≡ Err c) =
+      past_hash (same_bytes (hash_of half n) h) given (offered.BadHash h (hash_of half n)) e in
       given_clash s n h (fault_of n parent kind path) (form_in s h) c from offers refl (same_text (hash_of half n) h (sym past.0)) past.1
     where
       past_hash : (b : Bool) (r : Result Offered Clash) (bad : Offered) → (if b then r else Ok bad) ≡ Err c → (b ≡ true) × (r ≡ Err c)
@@ -340,7 +357,8 @@ module _ (half : Half) (forms : List Bytes) where
       → ((form : Bytes) → Contains (part_form half blob) form → Contains forms form)
       → part_outcome half (form_in s) t kind blob ≡ Err c → Collides half forms
   part_clash s t kind None c from each e = cc
-  part_clash s t kind (Some blob) c from each e = read_clash s t kind [] (read_wire half blob) c from each (at (node_outcome half (form_in s) t kind [] blob) e)
+  part_clash s t kind (Some blob) c from each e = read_clash s t kind [] (read_wire half blob) c from each
+      (at (node_outcome half (form_in s) t kind [] blob) e)
     where
       at : (r : Result Offered Clash) → given_part r ≡ Err c → r ≡ Err c
       at (Ok o) e = cc
@@ -356,7 +374,8 @@ parts_clash (Ok x) (Ok y) (Err c) h old new e = inr (inr (c, refl))
 parts_clash (Ok x) (Ok y) (Ok z) h old new e = cc
 
 -- it is to a present peer
-base_present : (half : Half) (s : State) (p : ℕ) (t : Hash) (bytes : Bytes) (state tx : Option Bytes) (o : Option Acquisition) (h : Hash) (old new : Bytes)
+base_present : (half : Half) (s : State) (p : ℕ) (t : Hash) (bytes : Bytes) (state tx : Option Bytes) (o : Option Acquisition) (h : Hash)
+    (old new : Bytes)
     → base_for half s p t bytes state tx o ≡ says.Clash h old new → base_outcomes half s t bytes state tx ≡ says.Clash h old new
 base_present half s p t bytes state tx None h old new e = cc
 base_present half s p t bytes state tx (Some a) h old new e = at (is_present p a) (base_outcomes half s t bytes state tx) e
@@ -365,7 +384,8 @@ base_present half s p t bytes state tx (Some a) h old new e = at (is_present p a
     at true r e = e
     at false r e = cc
 
-node_present : (half : Half) (s : State) (p : ℕ) (t : Hash) (kind : Kind) (path : List ℕ) (blob : Bytes) (o : Option Acquisition) (h : Hash) (old new : Bytes)
+node_present : (half : Half) (s : State) (p : ℕ) (t : Hash) (kind : Kind) (path : List ℕ) (blob : Bytes) (o : Option Acquisition)
+    (h : Hash) (old new : Bytes)
     → node_for half s p t kind path blob o ≡ says.Clash h old new → (c : Clash) × (node_outcome half (form_in s) t kind path blob ≡ Err c)
 node_present half s p t kind path blob None h old new e = cc
 node_present half s p t kind path blob (Some a) h old new e = at (is_present p a) (node_outcome half (form_in s) t kind path blob) e
@@ -384,16 +404,19 @@ no_zero_parts (Ok x) (Err c) z form e = cc
 no_zero_parts (Ok x) (Ok y) (Err c) form e = cc
 no_zero_parts (Ok x) (Ok y) (Ok z) form e = cc
 
-no_zero_base : (half : Half) (s : State) (p : ℕ) (t : Hash) (bytes : Bytes) (state tx : Option Bytes) (o : Option Acquisition) (form : Bytes)
+no_zero_base : (half : Half) (s : State) (p : ℕ) (t : Hash) (bytes : Bytes) (state tx : Option Bytes) (o : Option Acquisition)
+    (form : Bytes)
     → base_for half s p t bytes state tx o ≡ says.ZeroHash form → ⊥
 no_zero_base half s p t bytes state tx None form e = cc
-no_zero_base half s p t bytes state tx (Some a) form e = at (is_present p a) (base_outcomes half s t bytes state tx) (no_zero_parts _ _ _ form) e
+no_zero_base half s p t bytes state tx (Some a) form e = at (is_present p a) (base_outcomes half s t bytes state tx)
+    (no_zero_parts _ _ _ form) e
   where
     at : (z : Bool) (r : Reply) → (r ≡ says.ZeroHash form → ⊥) → (if z then r else says.Base base.Unasked) ≡ says.ZeroHash form → ⊥
     at true r never e = never e
     at false r never e = cc
 
-no_zero_node : (half : Half) (s : State) (p : ℕ) (t : Hash) (kind : Kind) (path : List ℕ) (blob : Bytes) (o : Option Acquisition) (form : Bytes)
+no_zero_node : (half : Half) (s : State) (p : ℕ) (t : Hash) (kind : Kind) (path : List ℕ) (blob : Bytes) (o : Option Acquisition)
+    (form : Bytes)
     → node_for half s p t kind path blob o ≡ says.ZeroHash form → ⊥
 no_zero_node half s p t kind path blob None form e = cc
 no_zero_node half s p t kind path blob (Some a) form e = at (is_present p a) (node_outcome half (form_in s) t kind path blob) e
@@ -412,18 +435,24 @@ module _ (half : Half) (forms : List Bytes) where
       let r : Result HeadOffered Clash = head_outcome half (form_in s) t bytes in
       let s1 : State = after_head half s bytes r in
       let s2 : State = after_part half s1 t kinds.State state in
-      let of_first : (form : Bytes) → Contains (head_form bytes) form → Contains forms form = λ form c. each form (of_head half bytes state tx form c) in
-      let of_one : (form : Bytes) → Contains (part_form half state) form → Contains forms form = λ form c. each form (of_state half bytes state tx form c) in
-      let of_other : (form : Bytes) → Contains (part_form half tx) form → Contains forms form = λ form c. each form (of_tx half bytes state tx form c) in
-      let from1 : IsFrom half forms s1 = head_from half forms s bytes r (λ form c. of_first form (head_read half (form_in s) t bytes form c)) from in
+      let of_first : (form : Bytes) → Contains (head_form bytes) form → Contains forms form =
+      λ form c. each form (of_head half bytes state tx form c) in
+      let of_one : (form : Bytes) → Contains (part_form half state) form → Contains forms form =
+      λ form c. each form (of_state half bytes state tx form c) in
+      let of_other : (form : Bytes) → Contains (part_form half tx) form → Contains forms form =
+      λ form c. each form (of_tx half bytes state tx form c) in
+      let from1 : IsFrom half forms s1 = head_from half forms s bytes r
+      (λ form c. of_first form (head_read half (form_in s) t bytes form c)) from in
       let from2 : IsFrom half forms s2 = part_from half forms s1 t kinds.State state of_one from1 in
       ⊎_elim
       (λ first. head_clash half forms s t bytes first.0 from of_first first.1)
-      (λ other. ⊎_elim (λ second. part_clash half forms s1 t kinds.State state second.0 from1 of_one second.1) (λ third. part_clash half forms s2 t kinds.Tx tx third.0 from2 of_other third.1) other)
+      (λ other. ⊎_elim (λ second. part_clash half forms s1 t kinds.State state second.0 from1 of_one second.1)
+      (λ third. part_clash half forms s2 t kinds.Tx tx third.0 from2 of_other third.1) other)
       (parts_clash r (part_outcome half (form_in s1) t kinds.State state) (part_outcome half (form_in s2) t kinds.Tx tx) h old new
       (base_present half s p t bytes state tx (get_in hash_cmp s.wanted t) h old new (sym e)))
   row_clash s a (command.Node p t kind path blob) h old new acquiring each from e =
-      let r : (c : Clash) × (node_outcome half (form_in s) t kind path blob ≡ Err c) = node_present half s p t kind path blob (get_in hash_cmp s.wanted t) h old new (sym e) in
+      let r : (c : Clash) × (node_outcome half (form_in s) t kind path blob ≡ Err c) =
+      node_present half s p t kind path blob (get_in hash_cmp s.wanted t) h old new (sym e) in
       read_clash half forms s t kind path (read_wire half blob) r.0 from each r.1
   row_clash s a (command.Want t seq) h old new acquiring each from e = absurd e
   row_clash s a (command.Peer p t) h old new acquiring each from e = absurd e
@@ -453,7 +482,8 @@ module _ (half : Half) (forms : List Bytes) where
 
   -- and so does a run
   run_clash : (lines : List Line) (s : State) (entries : List Entry) (s' : State) → ((l : Line) → Contains lines l → IsAcquiring l.command)
-      → ((l : Line) → Contains lines l → (form : Bytes) → Contains (offered_by half l.command) form → Contains forms form) → IsFrom half forms s → Run half lines s entries s'
+      → ((l : Line) → Contains lines l → (form : Bytes) → Contains (offered_by half l.command) form → Contains forms form)
+      → IsFrom half forms s → Run half lines s entries s'
       → All (λ e. IsClash e.reply → Collides half forms) entries
   run_clash lines s [] s' acquiring each from run = All-nil (λ e. IsClash e.reply → Collides half forms)
   run_clash lines s (e ∷ rest) s' acquiring each from run =
@@ -462,7 +492,8 @@ module _ (half : Half) (forms : List Bytes) where
       All-cons (λ x. IsClash x.reply → Collides half forms) e rest
       (λ is. step_clash s e.actor line.command e.reply (used_by e) run.0 (acquiring line among) (each line among) from run.1.step is)
       (run_clash lines run.0 rest s' acquiring each
-      (step_from half forms s e.actor line.command e.reply (used_by e) run.0 (acquiring line among) (each line among) from run.1.step) run.2)
+      (step_from half forms s e.actor line.command e.reply (used_by e) run.0 (acquiring line among) (each line among) from run.1.step)
+      run.2)
 
 -- what a line offers is among what the lines offer
 line_offers : (half : Half) (lines : List Line)
@@ -504,7 +535,8 @@ module _ (half : Half) (records : List Record) (lines : List Line) where
       among_offered (records_from interval are) run
 
 -- the same of one entry
-pub clash_collides : (half : Half) (records : List Record) (lines : List Line) (interval : ℕ) (entries : List Entry) (s' : State) (e : Entry)
+pub clash_collides : (half : Half) (records : List Record) (lines : List Line) (interval : ℕ) (entries : List Entry) (s' : State)
+    (e : Entry)
     → AreRecords half records → ((l : Line) → Contains lines l → IsAcquiring l.command)
     → Run half lines (opening_of records interval) entries s' → Contains entries e → IsClash e.reply
     → Collides half (offered_in half records lines)

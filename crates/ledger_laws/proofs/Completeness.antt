@@ -33,14 +33,16 @@ use Rattle.ledger_laws.proofs.Closure.{stored_whole, whole_all, whole_unbroken}
 header_accepts : (asked floor : ℕ) (h : Bytes) (rest : CheckReply) → IsAcceptable asked floor h → header_verdict asked floor h rest ≡ rest
 header_accepts asked floor h rest fit =
     at (asked == 0) (asked == seq_of h) (is_zero (state_root_of h)) (nat_lt (seq_of h) floor)
-    (⊎_elim (λ any. inl (eq-eqb asked 0 any)) (λ own. inr (eq-eqb asked (seq_of h) own)) fit.seq) (not_true (is_zero (state_root_of h)) fit.state) (le-ltb (seq_of h) floor fit.recent)
+    (⊎_elim (λ any. inl (eq-eqb asked 0 any)) (λ own. inr (eq-eqb asked (seq_of h) own)) fit.seq)
+    (not_true (is_zero (state_root_of h)) fit.state) (le-ltb (seq_of h) floor fit.recent)
   where
     not_true : (b : Bool) → not b ≡ true → b ≡ false
     not_true true e = cc
     not_true false e = refl
 
     at : (a b z l : Bool) → (a ≡ true) ⊎ (b ≡ true) → z ≡ false → l ≡ false
-        → (if not a && not b then check.SeqDiffers asked (seq_of h) else if z then check.ZeroState else if l then check.BelowFloor floor else rest) ≡ rest
+        → (if not a && not b then check.SeqDiffers asked (seq_of h) else if z then check.ZeroState else if l then check.BelowFloor floor
+        else rest) ≡ rest
     at true b false false asked z l = refl
     at false true false false asked z l = refl
     at false false z l (inl e) p q = cc
@@ -99,7 +101,8 @@ row_says half s actor t reply used s' o fault memory = o.says
 -- a check is complete exactly where the ledger is
 pub complete_exactly : (half : Half) (s s' : State) (actor : ℕ) (t : Hash) (a : Acquisition) (reply : Reply) (used : List Held)
     → get_in hash_cmp s.wanted t ≡ Some a
-    → Step half s actor (command.Check t) reply used s' → reply ≢ says.Fault → reply ≢ says.Memory → (reply ≡ says.Check check.Complete) ↔ IsComplete half s t a.seq
+    → Step half s actor (command.Check t) reply used s' → reply ≢ says.Fault → reply ≢ says.Memory
+    → (reply ≡ says.Check check.Complete) ↔ IsComplete half s t a.seq
 complete_exactly half s s' actor t a reply used is step fault memory =
     let row : reply ≡ says.Check (check_reply half s t) = row_says half s actor t reply used s' step.outcome fault memory in
     (λ e. checked_complete half s t a is (check_same (sym row ∙ e)), λ c. row ∙ ap says.Check (complete_checks half s t a is c))
@@ -111,7 +114,8 @@ retained_stored half s t sound c = whole_all half (form_in s) t (sound.retained_
 -- a step of a check is exact
 pub step_exact : (half : Half) (s s' : State) (actor : ℕ) (c : Command) (reply : Reply) (used : List Held)
     → Step half s actor c reply used s' → IsExact half s c reply
-step_exact half s s' actor (command.Check t) reply used step = λ a is fault memory. complete_exactly half s s' actor t a reply used is step fault memory
+step_exact half s s' actor (command.Check t) reply used step =
+    λ a is fault memory. complete_exactly half s s' actor t a reply used is step fault memory
 step_exact half s s' actor _ reply used step = tt
 
 -- and so is each check of a run

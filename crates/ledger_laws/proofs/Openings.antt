@@ -1,5 +1,5 @@
 -- What a store that began with records holds.
-use Rattle.std.proofs.Common.{◌≡◌, ◌⊎◌, ⊎_elim, ℕ, List, [], ◌∷◌, ◌∙◌, Option, None, Some, All, Contains, sym, ap, subst}
+use Rattle.std.proofs.Common.{◌≡◌, ⊎_elim, ℕ, List, [], ◌∷◌, ◌∙◌, Some, All, Contains, sym, subst}
 use Rattle.std.specs.FinMap as finite
 use Rattle.std.proofs.lemmas.List.Elements.{All-nil, All-cons, All-head, All-tail, All-weaker}
 use Rattle.ledger_spec.specs.Maps.{hash_cmp}
@@ -28,7 +28,8 @@ pub none_in_empty : (P : Hash → Bytes → Type 0) (h : Hash) (form : Bytes) �
 none_in_empty P h form e = absurd (none_some (sym (finite.get-empty hash_cmp h) ∙ e))
 
 -- a store that has only records is sound
-pub records_are_sound : (half : Half) (records : List Record) (interval : ℕ) → AreRecords half records → Sound half (opening_of records interval)
+pub records_are_sound : (half : Half) (records : List Record) (interval : ℕ) → AreRecords half records
+    → Sound half (opening_of records interval)
 records_are_sound half records interval are =
     opening_is_sound half (with_records finite.empty records) interval
     (stored_all (IsStoredAt half) finite.empty records (none_in_empty (IsStoredAt half)) are.own)

@@ -53,7 +53,7 @@ use Rattle.ledger_machine.specs.Runs.{Run, used_by}
 use Rattle.ledger_machine.specs.Receipts.{IsReceived, IsHeadReceived, IsReceivedPart, Receives, IsKept, Stays, AllStay}
 use Rattle.ledger_laws.proofs.SoundKeeps.{shaded_same, with_wanted_grow}
 use Rattle.ledger_laws.proofs.SoundForms.{get_more, old_stays, in_head}
-use Rattle.ledger_laws.proofs.SoundOffers.{in_one}
+use Rattle.ledger_spec.proofs.Storing.{in_one}
 use Rattle.ledger_laws.proofs.SoundSteps.{outcome_cases, line_at}
 use Rattle.ledger_laws.proofs.Ways.{IsNamed, named_reached, wanted_named}
 
@@ -66,7 +66,8 @@ with_form_grows : (half : Half) (s : State) (form : Bytes) → Grows (form_in s)
 with_form_grows half s form = at (form_in s (half form)) refl
   where
     at : (o : Option Bytes) → form_in s (half form) ≡ o
-        → Grows (form_in s) (form_in (if is_some o then s else record s { nodes = finite.insert s.nodes (half form) form; born = set.insert s.born (half form) }))
+        → Grows (form_in s) (form_in
+        (if is_some o then s else record s { nodes = finite.insert s.nodes (half form) form; born = set.insert s.born (half form) }))
     at (Some old) e = λ h was x. x
     at None e = old_stays s.nodes (half form) form e
 
@@ -142,7 +143,9 @@ answer_grows half s a (command.Base p t bytes state tx) reply used s' acquiring 
     grows_on (base_grows half s p t bytes state tx reply) (after_grows (after_base half s p t bytes state tx reply) s' g.after)
 answer_grows half s a (command.Node p t kind path blob) reply used s' acquiring g =
     grows_on (node_grows half s p t kind path blob reply) (after_grows (after_offer half s p t kind path blob reply) s' g.after)
-answer_grows half s a (command.Check t) reply used s' acquiring g = grows_on (check_grows half s t (stored_seq s t) (check_reply half s t)) (after_grows (after_check s t (stored_seq s t) (check_reply half s t)) s' g.after)
+answer_grows half s a (command.Check t) reply used s' acquiring g =
+    grows_on (check_grows half s t (stored_seq s t) (check_reply half s t))
+    (after_grows (after_check s t (stored_seq s t) (check_reply half s t)) s' g.after)
 answer_grows half s a (command.Tick t) reply used s' acquiring g =
     grows_on (tick_grows s t (tick_reply s t)) (after_grows (after_tick s t (tick_reply s t)) s' g.after)
 answer_grows half s a _ reply used s' acquiring g = absurd acquiring
@@ -151,7 +154,8 @@ answer_grows half s a _ reply used s' acquiring g = absurd acquiring
 pub step_grows : (half : Half) (s s' : State) (a : ℕ) (c : Command) (reply : Reply) (used : List Held) → IsAcquiring c
     → Step half s a c reply used s' → Grows (form_in s) (form_in s')
 step_grows half s s' a c reply used acquiring step =
-    ⊎_elim (λ r. grows_on (with_forms_grow half s r.forms) (after_grows (with_forms half s r.forms) s' r.same)) (λ g. answer_grows half s a c reply used s' acquiring g)
+    ⊎_elim (λ r. grows_on (with_forms_grow half s r.forms) (after_grows (with_forms half s r.forms) s' r.same))
+    (λ g. answer_grows half s a c reply used s' acquiring g)
     (outcome_cases half s a c reply used s' step.outcome)
 
 -- and along each run of such commands
@@ -161,7 +165,8 @@ pub run_grows : (half : Half) (lines : List Line) (s : State) (entries : List En
 run_grows half lines s [] s' each run = subst (λ (x : State). Grows (form_in s) (form_in x)) (sym run) (λ h was x. x)
 run_grows half lines s (e ∷ rest) s' each run =
     let line : Line = run.1.line in
-    grows_on (step_grows half s run.0 e.actor line.command e.reply (used_by e) (each line (line_at lines run.1.place line run.1.stands)) run.1.step) (run_grows half lines run.0 rest s' each run.2)
+    grows_on (step_grows half s run.0 e.actor line.command e.reply (used_by e)
+    (each line (line_at lines run.1.place line run.1.stands)) run.1.step) (run_grows half lines run.0 rest s' each run.2)
 
 -- what is kept stays so
 pub kept_grows : (half : Half) (s s' : State) (targets : List Hash) (n : Held) → Grows (form_in s) (form_in s') → IsKept half s targets n
@@ -182,7 +187,8 @@ new_stored : (half : Half) (s : State) (form : Bytes) → form_in s (half form) 
 new_stored half s form free = at (form_in s (half form)) free
   where
     at : (o : Option Bytes) → o ≡ None
-        → form_in (if is_some o then s else record s { nodes = finite.insert s.nodes (half form) form; born = set.insert s.born (half form) }) (half form) ≡ Some form
+        → form_in (if is_some o then s else record s
+        { nodes = finite.insert s.nodes (half form) form; born = set.insert s.born (half form) }) (half form) ≡ Some form
     at (Some old) e = cc
     at None e = get_more s.nodes (half form) form (half form) true (ap is_eq (tied_itself nat_list_cmp_total (half form)))
 
@@ -198,7 +204,8 @@ same_stored half s n old o c false is there e = absurd (err_ok e)
 given_stored : (half : Half) (s : State) (n : Held) (fault : Option ShapeFault) (held : Option Bytes) (o : Offered)
     → form_in s (hash_of half n) ≡ held
     → node_given fault (hash_of half n) (form_of n) held ≡ Ok o
-    → form_in (with_forms half s (stored_by (Ok n) (node_given fault (hash_of half n) (form_of n) held))) (hash_of half n) ≡ Some (form_of n)
+    → form_in (with_forms half s (stored_by (Ok n) (node_given fault (hash_of half n) (form_of n) held))) (hash_of half n) ≡ Some
+    (form_of n)
 given_stored half s n None None o free e = new_stored half s (form_of n) free
 given_stored half s n (Some fault) None o free e = new_stored half s (form_of n) free
 given_stored half s n None (Some old) o there e =
@@ -225,25 +232,30 @@ spot_kept half s t kind path n (under_leaf p) o is e received = absurd (subst Is
 spot_kept half s t kind path n (wanted h parent) o is e received =
     let given : Result Offered Clash = node_given (fault_of n parent kind path) h (form_of n) (form_in s h) in
     let out : Result Offered Clash = if same_bytes (hash_of half n) h then given else Ok (offered.BadHash h (hash_of half n)) in
-    let past : (same_bytes (hash_of half n) h ≡ true) × (given ≡ Ok o) = past_hash (same_bytes (hash_of half n) h) given h (hash_of half n) o e received in
+    let past : (same_bytes (hash_of half n) h ≡ true) × (given ≡ Ok o) =
+    past_hash (same_bytes (hash_of half n) h) given h (hash_of half n) o e received in
     let same : hash_of half n ≡ h = same_text (hash_of half n) h (sym past.0) in
     let own : Result Offered Clash = node_given (fault_of n parent kind path) (hash_of half n) (form_of n) (form_in s (hash_of half n)) in
     let as_given : own ≡ given = ap (λ x. node_given (fault_of n parent kind path) x (form_of n) (form_in s x)) same in
     let there : form_in (with_forms half s (stored_by (Ok n) out)) (hash_of half n) ≡ Some (form_of n) =
     subst (λ r. form_in (with_forms half s (stored_by (Ok n) r)) (hash_of half n) ≡ Some (form_of n)) (as_given ∙ past.1 ∙ sym e)
     (given_stored half s n (fault_of n parent kind path) (form_in s (hash_of half n)) o refl (as_given ∙ past.1)) in
-    let name : IsNamed (form_in s) t (hash_of half n) = subst (IsNamed (form_in s) t) (sym same) (wanted_named (form_in s) t kind path h parent is) in
+    let name : IsNamed (form_in s) t (hash_of half n) = subst (IsNamed (form_in s) t) (sym same)
+    (wanted_named (form_in s) t kind path h parent is) in
     record {
       stored = there;
-      reached = named_reached (form_in s) (form_in (with_forms half s (stored_by (Ok n) out))) t (hash_of half n) (with_forms_grow half s (stored_by (Ok n) out)) name (form_of n, there);
+      reached = named_reached (form_in s) (form_in (with_forms half s (stored_by (Ok n) out))) t (hash_of half n)
+          (with_forms_grow half s (stored_by (Ok n) out)) name (form_of n, there);
     }
 
 -- a node that is read and received is kept
 read_kept : (half : Half) (s : State) (t : Hash) (kind : Kind) (path : List ℕ) (r : Result Held ℕ) (n : Held) (o : Offered) → r ≡ Ok n
-    → wire_outcome half (form_in s) t kind path r ≡ Ok o → IsReceived o → IsKept half (with_forms half s (stored_by r (wire_outcome half (form_in s) t kind path r))) (t ∷ []) n
+    → wire_outcome half (form_in s) t kind path r ≡ Ok o → IsReceived o
+    → IsKept half (with_forms half s (stored_by r (wire_outcome half (form_in s) t kind path r))) (t ∷ []) n
 read_kept half s t kind path (Err cause) n o is e received = absurd (err_ok is)
 read_kept half s t kind path (Ok m) n o is e received =
-    subst (λ x. IsKept half (with_forms half s (stored_by (Ok m) (wire_outcome half (form_in s) t kind path (Ok m)))) (t ∷ []) x) (ok_same is)
+    subst (λ x. IsKept half (with_forms half s (stored_by (Ok m) (wire_outcome half (form_in s) t kind path (Ok m)))) (t ∷ []) x)
+    (ok_same is)
     (spot_kept half s t kind path m (spot_of (form_in s) t kind path) o refl e received)
 
 node_kept : (half : Half) (s : State) (t : Hash) (kind : Kind) (path : List ℕ) (blob : Bytes) (n : Held) (o : Offered)
@@ -266,7 +278,8 @@ part_kept half s t kind (Some blob) (Some o) n e received =
 
 -- an answer to a header behind the tests of its length and its hash
 past_tests : (a b : Bool) (n : ℕ) (found : Hash) (r : Result HeadOffered Clash) (h : HeadOffered)
-    → (if not a then Ok (head.BadLength n) else if not b then Ok (head.BadHash found) else r) ≡ Ok h → IsHeadReceived h → (b ≡ true) × (r ≡ Ok h)
+    → (if not a then Ok (head.BadLength n) else if not b then Ok (head.BadHash found) else r) ≡ Ok h → IsHeadReceived h → (b ≡ true)
+    × (r ≡ Ok h)
 past_tests false b n found r h e received = absurd (subst IsHeadReceived (sym (ok_same e)) received)
 past_tests true false n found r h e received = absurd (subst IsHeadReceived (sym (ok_same e)) received)
 past_tests true true n found r h e received = (refl, e)
@@ -275,7 +288,8 @@ past_tests true true n found r h e received = (refl, e)
 head_stored : (half : Half) (s : State) (bytes : Bytes) (held : Option Bytes) (h : HeadOffered)
     → form_in s (half (header_prefix ++ bytes)) ≡ held
     → head_given (half (header_prefix ++ bytes)) (header_prefix ++ bytes) held ≡ Ok h
-    → form_in (after_head half s bytes (head_given (half (header_prefix ++ bytes)) (header_prefix ++ bytes) held)) (half (header_prefix ++ bytes)) ≡ Some (header_prefix ++ bytes)
+    → form_in (after_head half s bytes (head_given (half (header_prefix ++ bytes)) (header_prefix ++ bytes) held))
+    (half (header_prefix ++ bytes)) ≡ Some (header_prefix ++ bytes)
 head_stored half s bytes None h free e = new_stored half s (header_prefix ++ bytes) free
 head_stored half s bytes (Some old) h there e = at (same_bytes old (header_prefix ++ bytes)) refl e
   where
@@ -283,7 +297,8 @@ head_stored half s bytes (Some old) h there e = at (same_bytes old (header_prefi
     clash = record { hash = half (header_prefix ++ bytes); old = old; new = header_prefix ++ bytes }
 
     at : (b : Bool) → same_bytes old (header_prefix ++ bytes) ≡ b → (if b then Ok head.Duplicate else Err clash) ≡ Ok h
-        → form_in (after_head half s bytes (if b then Ok head.Duplicate else Err clash)) (half (header_prefix ++ bytes)) ≡ Some (header_prefix ++ bytes)
+        → form_in (after_head half s bytes (if b then Ok head.Duplicate else Err clash)) (half (header_prefix ++ bytes)) ≡ Some
+        (header_prefix ++ bytes)
     at true is e = there ∙ ap Some (same_text old (header_prefix ++ bytes) (sym is))
     at false is e = absurd (err_ok e)
 
@@ -294,11 +309,13 @@ head_kept : (half : Half) (s : State) (t : Hash) (bytes : Bytes) (h : HeadOffere
 head_kept half s t bytes h e received =
     let form : Bytes = header_prefix ++ bytes in
     let given : Result HeadOffered Clash = head_given t form (form_in s t) in
-    let past : (same_bytes (half form) t ≡ true) × (given ≡ Ok h) = past_tests (length bytes == 118) (same_bytes (half form) t) (length bytes) (half form) given h e received in
+    let past : (same_bytes (half form) t ≡ true) × (given ≡ Ok h) =
+    past_tests (length bytes == 118) (same_bytes (half form) t) (length bytes) (half form) given h e received in
     let same : half form ≡ t = same_text (half form) t (sym past.0) in
     let as_given : head_given (half form) form (form_in s (half form)) ≡ given = ap (λ x. head_given x form (form_in s x)) same in
     let there : form_in (after_head half s bytes (head_outcome half (form_in s) t bytes)) (half form) ≡ Some form =
-    subst (λ r. form_in (after_head half s bytes r) (half form) ≡ Some form) (as_given ∙ past.1 ∙ sym e) (head_stored half s bytes (form_in s (half form)) h refl (as_given ∙ past.1)) in
+    subst (λ r. form_in (after_head half s bytes r) (half form) ≡ Some form) (as_given ∙ past.1 ∙ sym e)
+    (head_stored half s bytes (form_in s (half form)) h refl (as_given ∙ past.1)) in
     record { stored = there; reached = root (subst (λ x. Contains (t ∷ []) x) (sym same) (in_head t [])) (form, there) }
 
 -- the parts of an answer
@@ -312,8 +329,10 @@ parts_are (Ok x) (Ok y) (Ok z) h a b e =
     let first : x ≡ h = cc in let second : y ≡ a = cc in let third : z ≡ b = cc in (ap Ok first, ap Ok second, ap Ok third)
 
 -- an answer with parts is to a present peer
-base_present : (half : Half) (s : State) (p : ℕ) (t : Hash) (bytes : Bytes) (state tx : Option Bytes) (o : Option Acquisition) (h : HeadOffered) (a b : Option Offered)
-    → base_for half s p t bytes state tx o ≡ says.Base (base.Parts h a b) → base_outcomes half s t bytes state tx ≡ says.Base (base.Parts h a b)
+base_present : (half : Half) (s : State) (p : ℕ) (t : Hash) (bytes : Bytes) (state tx : Option Bytes) (o : Option Acquisition)
+    (h : HeadOffered) (a b : Option Offered)
+    → base_for half s p t bytes state tx o ≡ says.Base (base.Parts h a b)
+    → base_outcomes half s t bytes state tx ≡ says.Base (base.Parts h a b)
 base_present half s p t bytes state tx None h a b e = cc
 base_present half s p t bytes state tx (Some x) h a b e = at (is_present p x) (base_outcomes half s t bytes state tx) e
   where
@@ -323,7 +342,8 @@ base_present half s p t bytes state tx (Some x) h a b e = at (is_present p x) (b
     at false r e = cc
 
 -- and so is one with a node's outcome
-node_present : (half : Half) (s : State) (p : ℕ) (t : Hash) (kind : Kind) (path : List ℕ) (blob : Bytes) (o : Option Acquisition) (x : Offered)
+node_present : (half : Half) (s : State) (p : ℕ) (t : Hash) (kind : Kind) (path : List ℕ) (blob : Bytes) (o : Option Acquisition)
+    (x : Offered)
     → node_for half s p t kind path blob o ≡ says.Node (node.One x) → node_outcome half (form_in s) t kind path blob ≡ Ok x
 node_present half s p t kind path blob None x e = cc
 node_present half s p t kind path blob (Some a) x e = at (is_present p a) (node_outcome half (form_in s) t kind path blob) e
@@ -334,20 +354,24 @@ node_present half s p t kind path blob (Some a) x e = at (is_present p a) (node_
     at false r e = cc
 
 -- what the parts of a base reply bring is kept
-base_kept : (half : Half) (s : State) (t : Hash) (bytes : Bytes) (state tx : Option Bytes) (h : HeadOffered) (a b : Option Offered) (n : Held)
+base_kept : (half : Half) (s : State) (t : Hash) (bytes : Bytes) (state tx : Option Bytes) (h : HeadOffered) (a b : Option Offered)
+    (n : Held)
     → base_outcomes half s t bytes state tx ≡ says.Base (base.Parts h a b)
-    → (IsHeadReceived h × (n ≡ header bytes)) ⊎ IsReceivedPart half state a n ⊎ IsReceivedPart half tx b n → IsKept half (after_parts half s t bytes state tx) (t ∷ []) n
+    → (IsHeadReceived h × (n ≡ header bytes)) ⊎ IsReceivedPart half state a n ⊎ IsReceivedPart half tx b n
+    → IsKept half (after_parts half s t bytes state tx) (t ∷ []) n
 base_kept half s t bytes state tx h a b n e received =
     let r : Result HeadOffered Clash = head_outcome half (form_in s) t bytes in
     let s1 : State = after_head half s bytes r in
     let s2 : State = after_part half s1 t kinds.State state in
     let s3 : State = after_part half s2 t kinds.Tx tx in
-    let each : (r ≡ Ok h) × (part_outcome half (form_in s1) t kinds.State state ≡ Ok a) × (part_outcome half (form_in s2) t kinds.Tx tx ≡ Ok b) =
+    let each : (r ≡ Ok h) × (part_outcome half (form_in s1) t kinds.State state ≡ Ok a)
+    × (part_outcome half (form_in s2) t kinds.Tx tx ≡ Ok b) =
     parts_are r (part_outcome half (form_in s1) t kinds.State state) (part_outcome half (form_in s2) t kinds.Tx tx) h a b e in
     let second : Grows (form_in s1) (form_in s2) = part_grows half s1 t kinds.State state in
     let third : Grows (form_in s2) (form_in s3) = part_grows half s2 t kinds.Tx tx in
     ⊎_elim
-    (λ first. subst (λ x. IsKept half s3 (t ∷ []) x) (sym first.1) (kept_grows half s1 s3 (t ∷ []) (header bytes) (grows_on second third) (head_kept half s t bytes h each.0 first.0)))
+    (λ first. subst (λ x. IsKept half s3 (t ∷ []) x) (sym first.1)
+    (kept_grows half s1 s3 (t ∷ []) (header bytes) (grows_on second third) (head_kept half s t bytes h each.0 first.0)))
     (λ other. ⊎_elim
     (λ given. kept_grows half s2 s3 (t ∷ []) n third (part_kept half s1 t kinds.State state a n each.1 given))
     (λ given. part_kept half s2 t kinds.Tx tx b n each.2 given)
@@ -359,15 +383,21 @@ pub received_kept : (half : Half) (s s' : State) (a : ℕ) (c : Command) (reply 
     → Step half s a c reply used s' → Receives half t c reply n
     → IsKept half s' (t ∷ []) n
 received_kept half s s' a (command.Base p target bytes state tx) (says.Base (base.Parts h x y)) used t n step received =
-    let g : Gives (base_reply half s p target bytes state tx) (after_parts half s target bytes state tx) (says.Base (base.Parts h x y)) s' = step.outcome in
+    let g : Gives (base_reply half s p target bytes state tx) (after_parts half s target bytes state tx)
+    (says.Base (base.Parts h x y)) s' = step.outcome in
     subst (λ u. IsKept half s' (u ∷ []) n) received.0
-    (kept_grows half (after_parts half s target bytes state tx) s' (target ∷ []) n (after_grows (after_parts half s target bytes state tx) s' g.after)
-    (base_kept half s target bytes state tx h x y n (base_present half s p target bytes state tx (get_in hash_cmp s.wanted target) h x y (sym g.says)) received.1))
+    (kept_grows half (after_parts half s target bytes state tx) s' (target ∷ []) n
+    (after_grows (after_parts half s target bytes state tx) s' g.after)
+    (base_kept half s target bytes state tx h x y n
+    (base_present half s p target bytes state tx (get_in hash_cmp s.wanted target) h x y (sym g.says)) received.1))
 received_kept half s s' a (command.Node p target kind path blob) (says.Node (node.One o)) used t n step received =
-    let g : Gives (node_reply half s p target kind path blob) (after_node half s target kind path blob) (says.Node (node.One o)) s' = step.outcome in
+    let g : Gives (node_reply half s p target kind path blob) (after_node half s target kind path blob) (says.Node (node.One o)) s' =
+    step.outcome in
     subst (λ u. IsKept half s' (u ∷ []) n) received.0
-    (kept_grows half (after_node half s target kind path blob) s' (target ∷ []) n (after_grows (after_node half s target kind path blob) s' g.after)
-    (node_kept half s target kind path blob n o (node_present half s p target kind path blob (get_in hash_cmp s.wanted target) o (sym g.says)) received.1))
+    (kept_grows half (after_node half s target kind path blob) s' (target ∷ []) n
+    (after_grows (after_node half s target kind path blob) s' g.after)
+    (node_kept half s target kind path blob n o
+    (node_present half s p target kind path blob (get_in hash_cmp s.wanted target) o (sym g.says)) received.1))
 received_kept half s s' a _ _ used t n step received = absurd received
 
 -- along a run, of such commands alone, what is kept stays, and so what was received
@@ -378,12 +408,14 @@ module _ (half : Half) (lines : List Line) (each : (l : Line) → Contains lines
   stays t n s (e ∷ rest) s' run kept =
       let line : Line = run.1.line in
       let fit : IsAcquiring line.command = each line (line_at lines run.1.place line run.1.stands) in
-      let later : IsKept half run.0 (t ∷ []) n = kept_grows half s run.0 (t ∷ []) n (step_grows half s run.0 e.actor line.command e.reply (used_by e) fit run.1.step) kept in
+      let later : IsKept half run.0 (t ∷ []) n = kept_grows half s run.0 (t ∷ []) n
+      (step_grows half s run.0 e.actor line.command e.reply (used_by e) fit run.1.step) kept in
       λ among. (kept_among half s t (roots s) n among kept, stays t n run.0 rest s' run.2 later)
 
   pub all_stay : (s : State) (entries : List Entry) (s' : State) (run : Run half lines s entries s') → AllStay half lines s entries s' run
   all_stay s [] s' run = tt
   all_stay s (e ∷ rest) s' run = (
-    (λ t n received. stays t n run.0 rest s' run.2 (received_kept half s run.0 e.actor run.1.line.command e.reply (used_by e) t n run.1.step received)),
+    (λ t n received. stays t n run.0 rest s' run.2
+        (received_kept half s run.0 e.actor run.1.line.command e.reply (used_by e) t n run.1.step received)),
     all_stay run.0 rest s' run.2,
   )

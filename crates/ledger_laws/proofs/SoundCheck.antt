@@ -69,7 +69,8 @@ up_to_none room (breaks place fault ∷ rest) e = absurd (no_cons e)
 
 -- an answer that is complete passed each test before it
 tests_complete : (a b c : Bool) (x y z rest : CheckReply) → (x ≡ check.Complete → ⊥) → (y ≡ check.Complete → ⊥) → (z ≡ check.Complete → ⊥)
-    → (if a then x else if b then y else if c then z else rest) ≡ check.Complete → (a ≡ false) × (b ≡ false) × (c ≡ false) × (rest ≡ check.Complete)
+    → (if a then x else if b then y else if c then z else rest) ≡ check.Complete → (a ≡ false) × (b ≡ false) × (c ≡ false)
+    × (rest ≡ check.Complete)
 tests_complete true b c x y z rest nx ny nz e = absurd (nx e)
 tests_complete false true c x y z rest nx ny nz e = absurd (ny e)
 tests_complete false false true x y z rest nx ny nz e = absurd (nz e)
@@ -101,11 +102,14 @@ asked_for false false e = cc
 pub header_complete : (asked floor : ℕ) (h : Bytes) (rest : CheckReply) → header_verdict asked floor h rest ≡ check.Complete
     → IsAcceptable asked floor h × (rest ≡ check.Complete)
 header_complete asked floor h rest e =
-    let open_ : ((not (asked == 0) && not (asked == seq_of h)) ≡ false) × (is_zero (state_root_of h) ≡ false) × (nat_lt (seq_of h) floor ≡ false) × (rest ≡ check.Complete) =
-    tests_complete (not (asked == 0) && not (asked == seq_of h)) (is_zero (state_root_of h)) (nat_lt (seq_of h) floor) (check.SeqDiffers asked (seq_of h)) check.ZeroState (check.BelowFloor floor) rest differs_ends
+    let open_ : ((not (asked == 0) && not (asked == seq_of h)) ≡ false) × (is_zero (state_root_of h) ≡ false)
+    × (nat_lt (seq_of h) floor ≡ false) × (rest ≡ check.Complete) =
+    tests_complete (not (asked == 0) && not (asked == seq_of h)) (is_zero (state_root_of h)) (nat_lt (seq_of h) floor)
+    (check.SeqDiffers asked (seq_of h)) check.ZeroState (check.BelowFloor floor) rest differs_ends
     zero_ends below_ends e in (
       record {
-        seq = ⊎_elim (λ any. inl (eqb-true asked 0 any)) (λ own. inr (eqb-true asked (seq_of h) own)) (asked_for (asked == 0) (asked == seq_of h) open_.0);
+        seq = ⊎_elim (λ any. inl (eqb-true asked 0 any)) (λ own. inr (eqb-true asked (seq_of h) own))
+            (asked_for (asked == 0) (asked == seq_of h) open_.0);
         state = ap not open_.1;
         recent = ltb-false (seq_of h) floor open_.2;
       },
@@ -131,7 +135,8 @@ given_complete half s t None a is e =
     let whole : Whole half (form_in s) t = up_to_none 255 (findings half (form_in s) t) (search_complete a _ e) in
     absurd (whole_stored half (form_in s) t whole is)
 given_complete half s t (Some form) a is e =
-    let verdict : IsSomeAnd (header_of form) (IsAcceptable a.seq s.floor) × (_ ≡ check.Complete) = form_complete a.seq s.floor (header_of form) _ e in
+    let verdict : IsSomeAnd (header_of form) (IsAcceptable a.seq s.floor) × (_ ≡ check.Complete) =
+    form_complete a.seq s.floor (header_of form) _ e in
     record { whole = up_to_none 255 (findings half (form_in s) t) (search_complete a _ verdict.1); header = verdict.0 }
 
 -- a complete ledger is open, whole, and acceptable for what was asked
@@ -171,11 +176,14 @@ get_inserted {X} [] k x q v found = first_found (eq_by_cmp hash_cmp q k) (q ≡ 
 get_inserted {X} (e ∷ m) k x q v found = at (get_inserted m k x q v) (hash_cmp k e.0) refl found
   where
     at : (get_in hash_cmp (insert_in hash_cmp m k x) q ≡ Some v → ((q ≡ k) × (v ≡ x)) ⊎ (get_in hash_cmp m q ≡ Some v))
-        → (r : Ordering) → hash_cmp k e.0 ≡ r → get_in hash_cmp (match_ordering r ((k, x) ∷ e ∷ m) ((e.0, x) ∷ m) (e ∷ insert_entry hash_cmp m k x)) q ≡ Some v
+        → (r : Ordering) → hash_cmp k e.0 ≡ r → get_in hash_cmp
+        (match_ordering r ((k, x) ∷ e ∷ m) ((e.0, x) ∷ m) (e ∷ insert_entry hash_cmp m k x)) q ≡ Some v
         → ((q ≡ k) × (v ≡ x)) ⊎ (get_in hash_cmp (e ∷ m) q ≡ Some v)
     at later Less is found = first_found (eq_by_cmp hash_cmp q k) (q ≡ k) x v (get_in hash_cmp (e ∷ m) q) (same_hash q k) found
-    at later Equal is found = changed_found (eq_by_cmp hash_cmp q e.0) (q ≡ k) x e.1 v (get_in hash_cmp m q) (λ b. same_hash q e.0 b ∙ sym (exact_bytes k e.0 is)) found
-    at later Greater is found = later_found (eq_by_cmp hash_cmp q e.0) ((q ≡ k) × (v ≡ x)) e.1 v (get_in hash_cmp m q) (get_in hash_cmp (insert_entry hash_cmp m k x) q) later found
+    at later Equal is found = changed_found (eq_by_cmp hash_cmp q e.0) (q ≡ k) x e.1 v (get_in hash_cmp m q)
+        (λ b. same_hash q e.0 b ∙ sym (exact_bytes k e.0 is)) found
+    at later Greater is found = later_found (eq_by_cmp hash_cmp q e.0) ((q ≡ k) × (v ≡ x)) e.1 v (get_in hash_cmp m q)
+        (get_in hash_cmp (insert_entry hash_cmp m k x) q) later found
 
 -- a key after an entry was put is its key, or was one before
 pub key_inserted : {X : Type 0} (m : ForHash X) (k : Hash) (x : X) (q : Hash) → Contains (keys_of (insert_in hash_cmp m k x)) q
@@ -193,7 +201,9 @@ retained_more s t seq u c =
     let pinned : List Hash = values_of s.views in
     ⊎_elim
     (λ front. ⊎_elim
-    (λ listed. ⊎_elim (λ same. inl same) (λ old. inr (Contains-append_left (keys ++ pinned) (bases s) u (Contains-append_left keys pinned u old))) (key_inserted s.listed t seq u listed))
+    (λ listed. ⊎_elim (λ same. inl same)
+    (λ old. inr (Contains-append_left (keys ++ pinned) (bases s) u (Contains-append_left keys pinned u old)))
+    (key_inserted s.listed t seq u listed))
     (λ viewed. inr (Contains-append_left (keys ++ pinned) (bases s) u (Contains-append_right keys pinned u viewed)))
     (Contains-append_cases (keys_of (insert_in hash_cmp s.listed t seq)) pinned u front))
     (λ edited. inr (Contains-append_right (keys ++ pinned) (bases s) u edited))
@@ -204,11 +214,13 @@ pub listed_sound : (half : Half) (s : State) (t : Hash) (seq : ℕ) → Sound ha
     → IsSomeAnd (header_in (form_in s) t) (λ h. seq_of h ≡ seq) → Sound half (ended (listed_with s t seq) t)
 listed_sound half s t seq sound whole above same = record {
   forms = sound.forms;
-  retained_whole = λ u c. ⊎_elim (λ (e : u ≡ t). subst (λ x. IsWholeLedger half (form_in s) x) (sym e) whole) (λ old. sound.retained_whole u old) (retained_more s t seq u c);
+  retained_whole = λ u c. ⊎_elim (λ (e : u ≡ t). subst (λ x. IsWholeLedger half (form_in s) x) (sym e) whole)
+      (λ old. sound.retained_whole u old) (retained_more s t seq u c);
   listed_seq = λ u n e. ⊎_elim
       (λ (new : (u ≡ t) × (n ≡ seq)). (
         subst (λ x. s.floor ≤ x) (sym new.1) above,
-        subst (λ x. IsSomeAnd (header_in (form_in s) x) (λ h. seq_of h ≡ n)) (sym new.0) (subst (λ x. IsSomeAnd (header_in (form_in s) t) (λ h. seq_of h ≡ x)) (sym new.1) same),
+        subst (λ x. IsSomeAnd (header_in (form_in s) x) (λ h. seq_of h ≡ n)) (sym new.0)
+            (subst (λ x. IsSomeAnd (header_in (form_in s) t) (λ h. seq_of h ≡ x)) (sym new.1) same),
       ))
       (λ old. sound.listed_seq u n old) (get_inserted s.listed t seq u n e);
   base_seq = sound.base_seq;
@@ -224,7 +236,8 @@ listed_sound half s t seq sound whole above same = record {
 
 -- the stored sequence of an acceptable header
 pub stored_seq_fits : (asked floor : ℕ) (o : Option Bytes) → IsSomeAnd o (IsAcceptable asked floor)
-    → IsSomeAnd o (λ h. IsTrue (is_nonzero (state_root_of h))) × (floor ≤ option_map_or seq_of o 0) × IsSomeAnd o (λ h. seq_of h ≡ option_map_or seq_of o 0)
+    → IsSomeAnd o (λ h. IsTrue (is_nonzero (state_root_of h))) × (floor ≤ option_map_or seq_of o 0)
+    × IsSomeAnd o (λ h. seq_of h ≡ option_map_or seq_of o 0)
 stored_seq_fits asked floor None some = absurd some
 stored_seq_fits asked floor (Some h) some = (some.state, some.recent, refl)
 
@@ -233,7 +246,8 @@ pub complete_sound : (half : Half) (s : State) (t : Hash) → Sound half s → c
     → Sound half (ended (listed_with s t (stored_seq s t)) t)
 complete_sound half s t sound e =
     let is : (a : Acquisition) × (get_in hash_cmp s.wanted t ≡ Some a) × IsWholeFor half s t (form_in s t) a = check_complete half s t e in
-    let fits : IsSomeAnd (header_in (form_in s) t) (λ h. IsTrue (is_nonzero (state_root_of h))) × (s.floor ≤ stored_seq s t) × IsSomeAnd (header_in (form_in s) t) (λ h. seq_of h ≡ stored_seq s t) =
+    let fits : IsSomeAnd (header_in (form_in s) t) (λ h. IsTrue (is_nonzero (state_root_of h))) × (s.floor ≤ stored_seq s t)
+    × IsSomeAnd (header_in (form_in s) t) (λ h. seq_of h ≡ stored_seq s t) =
     stored_seq_fits is.0.seq s.floor (header_in (form_in s) t) is.2.header in
     listed_sound half s t (stored_seq s t) sound (record { header = fits.0; whole = is.2.whole }) fits.1 fits.2
 

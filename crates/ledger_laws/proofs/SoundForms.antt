@@ -59,11 +59,13 @@ pub with_form_keeps : (half : Half) (s : State) (form : Bytes) → IsStoredAt ha
 with_form_keeps half s form fit = at (form_in s (half form)) refl
   where
     at : (o : Option Bytes) → form_in s (half form) ≡ o
-        → Keeps half s (if is_some o then s else record s { nodes = finite.insert s.nodes (half form) form; born = set.insert s.born (half form) })
+        → Keeps half s (if is_some o then s else record s
+        { nodes = finite.insert s.nodes (half form) form; born = set.insert s.born (half form) })
     at (Some old) e = keeps_self half s
     at None e = record {
       grows = old_stays s.nodes (half form) form e;
-      news = λ h now there. ⊎_elim (λ old. inl old) (λ new. inr (subst (λ x. IsStoredAt half x now) (sym new.0) (subst (λ x. IsStoredAt half (half form) x) (sym new.1) fit)))
+      news = λ h now there. ⊎_elim (λ old. inl old)
+          (λ new. inr (subst (λ x. IsStoredAt half x now) (sym new.0) (subst (λ x. IsStoredAt half (half form) x) (sym new.1) fit)))
           (new_or_old s.nodes (half form) form h now there);
       listed = refl;
       views = refl;
@@ -85,7 +87,8 @@ pub with_forms_keeps : (half : Half) (s : State) (forms : List Bytes)
     → ((form : Bytes) → Contains forms form → IsStoredAt half (half form) form) → Keeps half s (with_forms half s forms)
 with_forms_keeps half s [] each = keeps_self half s
 with_forms_keeps half s (form ∷ forms) each =
-    keeps_on half s (with_form half s form) (with_forms half (with_form half s form) forms) (with_form_keeps half s form (each form (in_head form forms)))
+    keeps_on half s (with_form half s form) (with_forms half (with_form half s form) forms)
+    (with_form_keeps half s form (each form (in_head form forms)))
     (with_forms_keeps half (with_form half s form) forms (λ x c. each x (in_tail form x forms c)))
 
 -- bytes that are a form of what is held
@@ -100,7 +103,8 @@ may_store half form nonzero is = record { own = refl; nonzero = nonzero; held = 
 pub refused_keeps : (half : Half) (s : State) (a : ℕ) (c : Command) (s' : State)
     → ((form : Bytes) → Contains (own_forms half s a c) form → IsByteForm half form) → Refused half s a c s' → Keeps half s s'
 refused_keeps half s a c s' held r =
-    keeps_after half s (with_forms half s r.forms) s' (with_forms_keeps half s r.forms (λ form i. may_store half form (r.own form i).1 (held form (r.own form i).0))) r.same
+    keeps_after half s (with_forms half s r.forms) s'
+    (with_forms_keeps half s r.forms (λ form i. may_store half form (r.own form i).1 (held form (r.own form i).0))) r.same
 
 -- nothing is in no list
 pub in_nothing : {A : Type 0} {x : A} → Contains [] x → ⊥

@@ -46,16 +46,19 @@ same_bases half s s' k = λ i. map (λ x. x.base) (values_of (k.sessions i))
 
 -- what is listed stays in range
 pub listed_grows : (half : Half) (s s' : State) → Keeps half s s' → (t : Hash) (seq : ℕ)
-    → (s.floor ≤ seq) × IsSomeAnd (header_in (form_in s) t) (λ h. seq_of h ≡ seq) → (s'.floor ≤ seq) × IsSomeAnd (header_in (form_in s') t) (λ h. seq_of h ≡ seq)
+    → (s.floor ≤ seq) × IsSomeAnd (header_in (form_in s) t) (λ h. seq_of h ≡ seq) → (s'.floor ≤ seq)
+    × IsSomeAnd (header_in (form_in s') t) (λ h. seq_of h ≡ seq)
 listed_grows half s s' k t seq was = (subst (λ n. n ≤ seq) (sym k.floor) was.0, header_grows (form_in s) (form_in s') t _ k.grows was.1)
 
 -- such a state stays sound
 pub keeps_sound : (half : Half) (s s' : State) → Sound half s → Keeps half s s' → Sound half s'
 keeps_sound half s s' sound k = record {
   forms = λ h form e. ⊎_elim (λ old. sound.forms h form old) (λ new. new) (k.news h form e);
-  retained_whole = λ t c. whole_ledger_grows half (form_in s) (form_in s') t k.grows (sound.retained_whole t (subst (λ ts. Contains ts t) (same_retained half s s' k) c));
+  retained_whole = λ t c. whole_ledger_grows half (form_in s) (form_in s') t k.grows
+      (sound.retained_whole t (subst (λ ts. Contains ts t) (same_retained half s s' k) c));
   listed_seq = λ t seq e. listed_grows half s s' k t seq (sound.listed_seq t seq (subst (λ m. get_in hash_cmp m t ≡ Some seq) k.listed e));
-  base_seq = λ t c. header_grows (form_in s) (form_in s') t _ k.grows (sound.base_seq t (subst (λ ts. Contains ts t) (same_bases half s s' k) c));
+  base_seq = λ t c. header_grows (form_in s) (form_in s') t _ k.grows
+      (sound.base_seq t (subst (λ ts. Contains ts t) (same_bases half s s' k) c));
   tables = k.tables sound.tables;
 }
 
@@ -97,7 +100,14 @@ keeps_on half s mid s' a b = record {
 
 -- what a rotation keeps is no part of the forms and the tables
 pub shaded_same : (t s' : State) → IsAfter t s' → IsSame t s'
-shaded_same t s' e = record { nodes = ap (λ x. x.nodes) e; listed = ap (λ x. x.listed) e; views = ap (λ x. x.views) e; sessions = ap (λ x. x.sessions) e; floor = ap (λ x. x.floor) e }
+shaded_same t s' e = record {
+  nodes = ap (λ x. x.nodes) e;
+  listed = ap (λ x. x.listed) e;
+  views = ap (λ x. x.views) e;
+  sessions =
+      ap (λ x. x.sessions) e;
+  floor = ap (λ x. x.floor) e;
+}
 
 -- nor of the acquisitions
 pub shaded_tables : (half : Half) (t s' : State) → IsAfter t s' → AreTables half t → AreTables half s'
@@ -113,7 +123,15 @@ pub wanted_keeps : (half : Half) (s : State) (wanted : ForHash Acquisition) → 
     → (All HasCharges (values_of s.wanted) → All HasCharges (values_of wanted)) → Keeps half s (record s { wanted = wanted })
 wanted_keeps half s wanted rises charges =
     same_keeps half s (record s { wanted = wanted }) (record { nodes = refl; listed = refl; views = refl; sessions = refl; floor = refl })
-    (λ t. record { listed = t.listed; wanted = rises t.wanted; charges = charges t.charges; views = t.views; sessions = t.sessions; edits = t.edits })
+    (λ t. record {
+      listed = t.listed;
+      wanted = rises t.wanted;
+      charges = charges t.charges;
+      views = t.views;
+      sessions =
+          t.sessions;
+      edits = t.edits;
+    })
 
 -- and so does a change of one
 pub with_wanted_keeps : (half : Half) (s : State) (t : Hash) (change : Acquisition → Acquisition)
@@ -130,7 +148,8 @@ with_wanted_keeps half s t change keeps = at (get_in hash_cmp s.wanted t) refl
 -- and so does the end of one
 pub ended_keeps : (half : Half) (s : State) (t : Hash) → Keeps half s (ended s t)
 ended_keeps half s t =
-    wanted_keeps half s (remove_in hash_cmp s.wanted t) (remove_rises hash_cmp _ s.wanted) (λ all. All-map-remove_entry _ (λ e. e.1) HasCharges s.wanted all)
+    wanted_keeps half s (remove_in hash_cmp s.wanted t) (remove_rises hash_cmp _ s.wanted)
+    (λ all. All-map-remove_entry _ (λ e. e.1) HasCharges s.wanted all)
 
 -- a change of an acquisition leaves what is stored and listed
 with_wanted_same : (s : State) (t : Hash) (change : Acquisition → Acquisition) → (o : Option Acquisition)

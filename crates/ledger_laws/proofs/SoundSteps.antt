@@ -31,7 +31,8 @@ use Rattle.ledger_machine.specs.Ticks.{tick_reply, after_tick}
 use Rattle.ledger_machine.specs.Sound.{Sound}
 use Rattle.ledger_machine.specs.Steps.{Step, Outcomes, Answered, Refused, Gives}
 use Rattle.ledger_machine.specs.Runs.{Run, used_by}
-use Rattle.ledger_laws.proofs.SoundKeeps.{Keeps, keeps_sound, keeps_self, keeps_after, wanted_keeps, with_wanted_keeps, ended_keeps, same_keeps}
+use Rattle.ledger_laws.proofs.SoundKeeps.{Keeps, keeps_sound, keeps_self, keeps_after, wanted_keeps, with_wanted_keeps, ended_keeps}
+use Rattle.ledger_laws.proofs.SoundKeeps.{same_keeps}
 use Rattle.std.specs.Ordering.{nat_cmp}
 use Rattle.ledger_laws.proofs.SoundTables.{none_rises, insert_rises}
 use Rattle.ledger_laws.proofs.SoundKeeps.{HasCharges, shaded_same, shaded_tables}
@@ -81,7 +82,8 @@ pub want_sound : (half : Half) (s s' : State) (a : ℕ) (t : Hash) (seq : ℕ) (
     → Step half s a (command.Want t seq) reply used s' → Sound half s'
 want_sound half s s' a t seq reply used sound step =
     ⊎_elim (λ r. keeps_sound half s s' sound (refused_none half s a (command.Want t seq) s' refl r))
-    (λ g. gives_sound half s (after_want s t seq (want_reply s t seq)) s' (says.Want (want_reply s t seq)) reply sound (want_keeps half s t seq (want_reply s t seq)) g)
+    (λ g. gives_sound half s (after_want s t seq (want_reply s t seq)) s' (says.Want (want_reply s t seq)) reply sound
+    (want_keeps half s t seq (want_reply s t seq)) g)
     (outcome_cases half s a (command.Want t seq) reply used s' step.outcome)
 
 -- a step of `peer`
@@ -89,7 +91,8 @@ pub peer_sound : (half : Half) (s s' : State) (a p : ℕ) (t : Hash) (reply : Re
     → Step half s a (command.Peer p t) reply used s' → Sound half s'
 peer_sound half s s' a p t reply used sound step =
     ⊎_elim (λ r. keeps_sound half s s' sound (refused_none half s a (command.Peer p t) s' refl r))
-    (λ g. gives_sound half s (after_peer s p t (peer_reply s p t)) s' (says.Peer (peer_reply s p t)) reply sound (peer_keeps half s p t (peer_reply s p t)) g)
+    (λ g. gives_sound half s (after_peer s p t (peer_reply s p t)) s' (says.Peer (peer_reply s p t)) reply sound
+    (peer_keeps half s p t (peer_reply s p t)) g)
     (outcome_cases half s a (command.Peer p t) reply used s' step.outcome)
 
 -- a step of `tick`
@@ -97,7 +100,8 @@ pub tick_sound : (half : Half) (s s' : State) (a : ℕ) (t : Hash) (reply : Repl
     → Step half s a (command.Tick t) reply used s' → Sound half s'
 tick_sound half s s' a t reply used sound step =
     ⊎_elim (λ r. keeps_sound half s s' sound (refused_none half s a (command.Tick t) s' refl r))
-    (λ g. gives_sound half s (after_tick s t (tick_reply s t)) s' (says.Tick (tick_reply s t)) reply sound (tick_keeps half s t (tick_reply s t)) g)
+    (λ g. gives_sound half s (after_tick s t (tick_reply s t)) s' (says.Tick (tick_reply s t)) reply sound
+    (tick_keeps half s t (tick_reply s t)) g)
     (outcome_cases half s a (command.Tick t) reply used s' step.outcome)
 
 -- a step of `check`
@@ -105,22 +109,27 @@ pub check_step_sound : (half : Half) (s s' : State) (a : ℕ) (t : Hash) (reply 
     → Step half s a (command.Check t) reply used s' → Sound half s'
 check_step_sound half s s' a t reply used sound step =
     ⊎_elim (λ r. keeps_sound half s s' sound (refused_none half s a (command.Check t) s' refl r))
-    (λ g. gives_same half (after_check s t (stored_seq s t) (check_reply half s t)) s' (says.Check (check_reply half s t)) reply (check_sound half s t (check_reply half s t) refl sound) g)
+    (λ g. gives_same half (after_check s t (stored_seq s t) (check_reply half s t)) s' (says.Check (check_reply half s t)) reply
+    (check_sound half s t (check_reply half s t) refl sound) g)
     (outcome_cases half s a (command.Check t) reply used s' step.outcome)
 
 -- a step of `base`
-pub base_sound : (half : Half) (sized : IsHalf half) (s s' : State) (a p : ℕ) (t : Hash) (bytes : Bytes) (state tx : Option Bytes) (reply : Reply) (used : List Held) → AreOffered t bytes state tx → Sound half s
+pub base_sound : (half : Half) (sized : IsHalf half) (s s' : State) (a p : ℕ) (t : Hash) (bytes : Bytes) (state tx : Option Bytes)
+    (reply : Reply) (used : List Held) → AreOffered t bytes state tx → Sound half s
     → Step half s a (command.Base p t bytes state tx) reply used s' → Sound half s'
 base_sound half sized s s' a p t bytes state tx reply used is sound step =
-    ⊎_elim (λ r. keeps_sound half s s' sound (refused_keeps half s a (command.Base p t bytes state tx) s' (λ form i. base_own half sized s p t bytes state tx form is i) r))
+    ⊎_elim (λ r. keeps_sound half s s' sound
+    (refused_keeps half s a (command.Base p t bytes state tx) s' (λ form i. base_own half sized s p t bytes state tx form is i) r))
     (λ g. gives_sound half s _ s' _ reply sound (after_base_keeps half sized s p t bytes state tx reply is) g)
     (outcome_cases half s a (command.Base p t bytes state tx) reply used s' step.outcome)
 
 -- a step of `node`
-pub node_sound : (half : Half) (sized : IsHalf half) (s s' : State) (a p : ℕ) (t : Hash) (kind : Kind) (path : List ℕ) (blob : Bytes) (reply : Reply) (used : List Held) → AreBytes blob → Sound half s
+pub node_sound : (half : Half) (sized : IsHalf half) (s s' : State) (a p : ℕ) (t : Hash) (kind : Kind) (path : List ℕ) (blob : Bytes)
+    (reply : Reply) (used : List Held) → AreBytes blob → Sound half s
     → Step half s a (command.Node p t kind path blob) reply used s' → Sound half s'
 node_sound half sized s s' a p t kind path blob reply used all sound step =
-    ⊎_elim (λ r. keeps_sound half s s' sound (refused_keeps half s a (command.Node p t kind path blob) s' (λ form i. offer_own half sized s p t kind path blob form all i) r))
+    ⊎_elim (λ r. keeps_sound half s s' sound
+    (refused_keeps half s a (command.Node p t kind path blob) s' (λ form i. offer_own half sized s p t kind path blob form all i) r))
     (λ g. gives_sound half s _ s' _ reply sound (after_offer_keeps half sized s p t kind path blob reply all) g)
     (outcome_cases half s a (command.Node p t kind path blob) reply used s' step.outcome)
 
@@ -148,7 +157,8 @@ line_at lines place l e = (place, slice_get_within lines place l e, get_or_from_
 
 -- each run over such commands leads from a sound state to a sound state
 pub acquiring_run_sound : (half : Half) (sized : IsHalf half) (lines : List Line) (s : State) (entries : List Entry) (s' : State)
-    → ((l : Line) → Contains lines l → IsAcquiring l.command × IsInRange l.command) → Sound half s → Run half lines s entries s' → Sound half s'
+    → ((l : Line) → Contains lines l → IsAcquiring l.command × IsInRange l.command) → Sound half s → Run half lines s entries s'
+    → Sound half s'
 acquiring_run_sound half sized lines s [] s' each sound run = subst (λ x. Sound half x) (sym run) sound
 acquiring_run_sound half sized lines s (e ∷ rest) s' each sound run =
     let line : Line = run.1.line in
@@ -158,6 +168,9 @@ acquiring_run_sound half sized lines s (e ∷ rest) s' each sound run =
 
 -- the same, where all lines are such commands
 pub acquiring_lines_sound : (half : Half) (sized : IsHalf half) (lines : List Line) (s : State) (entries : List Entry) (s' : State)
-    → All (λ l. IsAcquiring l.command) lines → All (λ l. IsInRange l.command) lines → Sound half s → Run half lines s entries s' → Sound half s'
+    → All (λ l. IsAcquiring l.command) lines → All (λ l. IsInRange l.command) lines → Sound half s → Run half lines s entries s'
+    → Sound half s'
 acquiring_lines_sound half sized lines s entries s' acquiring range sound run =
-    acquiring_run_sound half sized lines s entries s' (λ l i. (All-contains (λ x. IsAcquiring x.command) lines l acquiring i, All-contains (λ x. IsInRange x.command) lines l range i)) sound run
+    acquiring_run_sound half sized lines s entries s'
+    (λ l i. (All-contains (λ x. IsAcquiring x.command) lines l acquiring i, All-contains (λ x. IsInRange x.command) lines l range i))
+    sound run

@@ -102,5 +102,6 @@ same_tables half s s' listed wanted views sessions t = record {
   charges = subst (λ (m : ForHash Acquisition). All (λ a. IsMap nat_cmp a.charges) (values_of m)) (sym wanted) t.charges;
   views = subst (λ m. IsMap numbered_cmp m) (sym views) t.views;
   sessions = subst (λ m. IsMap numbered_cmp m) (sym sessions) t.sessions;
-  edits = subst (λ (m : ForActor Session). All (λ e. AreItems half kinds.State e.accounts × AreItems half kinds.Tx e.txs) (values_of m)) (sym sessions) t.edits;
+  edits = subst (λ (m : ForActor Session). All (λ e. AreItems half kinds.State e.accounts × AreItems half kinds.Tx e.txs) (values_of m))
+      (sym sessions) t.edits;
 }

@@ -22,8 +22,10 @@ use Rattle.ledger_laws.proofs.SoundForms.{in_head, in_tail}
 in_filter : {A : Type 0} (p : A → Bool) (xs : List A) → All (λ y. p y ≡ true → Contains (filter p xs) y) xs
 in_filter p [] = All-nil (λ y. p y ≡ true → Contains [] y)
 in_filter {A} p (x ∷ xs) =
-    All-cons (λ y. p y ≡ true → Contains (filter p (x ∷ xs)) y) x xs (λ yes. subst (λ b. Contains (cond b (x ∷ filter p xs) (filter p xs)) x) (sym yes) (in_head x (filter p xs)))
-    (All-weaker (λ y. p y ≡ true → Contains (filter p xs) y) (λ y. p y ≡ true → Contains (filter p (x ∷ xs)) y) (λ y at yes. more (p x) y (at yes)) xs (in_filter p xs))
+    All-cons (λ y. p y ≡ true → Contains (filter p (x ∷ xs)) y) x xs
+    (λ yes. subst (λ b. Contains (cond b (x ∷ filter p xs) (filter p xs)) x) (sym yes) (in_head x (filter p xs)))
+    (All-weaker (λ y. p y ≡ true → Contains (filter p xs) y) (λ y. p y ≡ true → Contains (filter p (x ∷ xs)) y)
+    (λ y at yes. more (p x) y (at yes)) xs (in_filter p xs))
   where
     more : (b : Bool) (y : A) → Contains (filter p xs) y → Contains (cond b (x ∷ filter p xs) (filter p xs)) y
     more true y c = in_tail x y (filter p xs) c
@@ -33,7 +35,8 @@ in_filter {A} p (x ∷ xs) =
 in_kids : (form : Bytes) (hashes : List Hash) (h : Hash) → named_by (inner_of form) (header_of form) ≡ hashes → Contains hashes h
     → IsTrue (is_nonzero h) → Contains (kids form) h
 in_kids form hashes h e at nonzero =
-    subst (λ hs. Contains (filter is_nonzero hs) h) (sym e) (All-contains (λ y. is_nonzero y ≡ true → Contains (filter is_nonzero hashes) y) hashes h (in_filter is_nonzero hashes) at nonzero)
+    subst (λ hs. Contains (filter is_nonzero hs) h) (sym e)
+    (All-contains (λ y. is_nonzero y ≡ true → Contains (filter is_nonzero hashes) y) hashes h (in_filter is_nonzero hashes) at nonzero)
 
 -- false isn't true
 no_true : false ≡ true → ⊥
@@ -89,7 +92,8 @@ branch_named nodes t h form hashes n name stored is nonzero = record {
 }
 
 -- what is wanted further down is named, where the hash here is
-way_named : (nodes : Lookup) (t : Hash) (path : List ℕ) (parent : Option (List Hash)) (h : Hash) (rest : List ℕ) (g : Hash) (q : Option (List Hash))
+way_named : (nodes : Lookup) (t : Hash) (path : List ℕ) (parent : Option (List Hash)) (h : Hash) (rest : List ℕ) (g : Hash)
+    (q : Option (List Hash))
     → (IsTrue (is_nonzero h) → IsNamed nodes t h) → spot_from nodes path parent h rest ≡ wanted g q → IsNamed nodes t g
 way_named nodes t path parent h [] g q name e =
     let on : (is_zero h ≡ false) × (wanted h parent ≡ wanted g q) = goes_on (is_zero h) path (wanted h parent) g q e in
@@ -98,13 +102,16 @@ way_named nodes t path parent h (n ∷ rest) g q name e =
     let below : List Hash → Spot = λ hashes. spot_from nodes (path ++ n ∷ []) (Some hashes) (slice_index_or hashes n zero_hash) rest in
     let on : (is_zero h ≡ false) × (into path below (nodes h) ≡ wanted g q) = goes_on (is_zero h) path (into path below (nodes h)) g q e in
     let here : IsNamed nodes t h = name (ap not on.0) in
-    let next : (form : Bytes) × (hashes : List Hash) × (nodes h ≡ Some form) × (inner_of form ≡ Some hashes) × (below hashes ≡ wanted g q) = goes_into path below (nodes h) g q on.1 in
-    way_named nodes t (path ++ n ∷ []) (Some next.1) (slice_index_or next.1 n zero_hash) rest g q (branch_named nodes t h next.0 next.1 n here next.2 next.3) next.4
+    let next : (form : Bytes) × (hashes : List Hash) × (nodes h ≡ Some form) × (inner_of form ≡ Some hashes)
+    × (below hashes ≡ wanted g q) = goes_into path below (nodes h) g q on.1 in
+    way_named nodes t (path ++ n ∷ []) (Some next.1) (slice_index_or next.1 n zero_hash) rest g q
+    (branch_named nodes t h next.0 next.1 n here next.2 next.3) next.4
 
 -- a header's form isn't an inner node's
 pub header_no_inner : (form bytes : Bytes) → header_of form ≡ Some bytes → inner_of form ≡ None
 unfolding header_of
-header_no_inner form bytes e = not_inner_length form (λ long. other long (tested (length form == 122) (starts_with nat_eq form header_prefix) (drop 4 form) e))
+header_no_inner form bytes e = not_inner_length form
+    (λ long. other long (tested (length form == 122) (starts_with nat_eq form header_prefix) (drop 4 form) e))
   where
     tested : (a b : Bool) (h : Bytes) → (if a && b then Some h else None) ≡ Some bytes → a ≡ true
     tested true b h e = refl
@@ -134,18 +141,21 @@ root_named nodes t form bytes kind stored is nonzero = record {
   form = form;
   reached = root (in_head t []) (form, stored);
   stored = stored;
-  named = in_kids form (state_root_of bytes ∷ tx_root_of bytes ∷ []) (header_root kind bytes) (header_names form bytes is) (root_in kind bytes nonzero) nonzero;
+  named = in_kids form (state_root_of bytes ∷ tx_root_of bytes ∷ []) (header_root kind bytes) (header_names form bytes is)
+      (root_in kind bytes nonzero) nonzero;
 }
 
 -- what is stored under the target is a header where the way begins
 begins : (nodes : Lookup) (kind : Kind) (path : List ℕ) (o : Option Bytes) (g : Hash) (q : Option (List Hash))
     → spot_below nodes kind path (option_and_then header_of o) ≡ wanted g q
-    → (form : Bytes) × (bytes : Bytes) × (o ≡ Some form) × (header_of form ≡ Some bytes) × (spot_from nodes [] None (header_root kind bytes) path ≡ wanted g q)
+    → (form : Bytes) × (bytes : Bytes) × (o ≡ Some form) × (header_of form ≡ Some bytes)
+    × (spot_from nodes [] None (header_root kind bytes) path ≡ wanted g q)
 begins nodes kind path None g q e = absurd (no_base_wanted e)
 begins nodes kind path (Some form) g q e = at (header_of form) refl e
   where
     at : (h : Option Bytes) → header_of form ≡ h → spot_below nodes kind path h ≡ wanted g q
-        → (f : Bytes) × (bytes : Bytes) × (Some form ≡ Some f) × (header_of f ≡ Some bytes) × (spot_from nodes [] None (header_root kind bytes) path ≡ wanted g q)
+        → (f : Bytes) × (bytes : Bytes) × (Some form ≡ Some f) × (header_of f ≡ Some bytes)
+        × (spot_from nodes [] None (header_root kind bytes) path ≡ wanted g q)
     at None is e = absurd (no_base_wanted e)
     at (Some bytes) is e = (form, bytes, refl, is, e)
 
@@ -153,6 +163,7 @@ begins nodes kind path (Some form) g q e = at (header_of form) refl e
 pub wanted_named : (nodes : Lookup) (t : Hash) (kind : Kind) (path : List ℕ) (g : Hash) (q : Option (List Hash))
     → spot_of nodes t kind path ≡ wanted g q → IsNamed nodes t g
 wanted_named nodes t kind path g q e =
-    let first : (form : Bytes) × (bytes : Bytes) × (nodes t ≡ Some form) × (header_of form ≡ Some bytes) × (spot_from nodes [] None (header_root kind bytes) path ≡ wanted g q) =
+    let first : (form : Bytes) × (bytes : Bytes) × (nodes t ≡ Some form) × (header_of form ≡ Some bytes)
+    × (spot_from nodes [] None (header_root kind bytes) path ≡ wanted g q) =
     begins nodes kind path (nodes t) g q e in
     way_named nodes t [] None (header_root kind first.1) path g q (root_named nodes t first.0 first.1 kind first.2 first.3) first.4

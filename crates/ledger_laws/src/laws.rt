@@ -83,7 +83,8 @@ pub fn nothing_of_a_retained_ledger_is_absent()
 /// Over a store that has only the script's records at first a clash shows two different forms that the script offers, with one hash. So
 /// without such forms no entry is a clash.
 pub fn a_clash_shows_two_forms_with_one_hash()
-    ensures { (half : List ℕ → List ℕ) (records : List Record) (lines : List Line) (interval : ℕ) (entries : List Entry) (s' : State) (e : Entry)
+    ensures { (half : List ℕ → List ℕ) (records : List Record) (lines : List Line) (interval : ℕ) (entries : List Entry) (s' : State)
+        (e : Entry)
         → AreRecords half records → ((l : Line) → Contains lines l → IsAcquiring l.command)
         → IsRunOf half records lines interval entries s'
         → Contains entries e → IsClash e.reply → Collides half (offered_in half records lines) }

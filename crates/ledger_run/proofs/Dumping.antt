@@ -1,5 +1,6 @@
 -- How a dump goes on.
-use Rattle.std.proofs.Common.{◌≡◌, arith, subst, Bool, IsTrue, List, [], ◌∷◌, ◌++◌, Option, None, Some, Result, Ok, Err, refl, sym, ap, ◌∙◌, append_assoc}
+use Rattle.std.proofs.Common.{◌≡◌, arith, subst, Bool, IsTrue, List, [], ◌∷◌, ◌++◌, Option, None, Some, Result, Ok, Err, refl, sym, ap, ◌∙◌}
+use Rattle.std.proofs.Common.{append_assoc}
 use Rattle.std.specs.Prelude.{flat_map, IfSome}
 use Rattle.std.specs.List.{filter}
 use Rattle.std.proofs.lemmas.List.{append-nil}
@@ -118,13 +119,15 @@ next_of_core s s' a b o r same name found is =
     subst (λ (x : State). IsNextRecord x.nodes b (Some r)) same (subst (λ (x : Option Hash). IsNextRecord s'.nodes x (Some r)) name
     (subst (λ (x : Option Record). IsNextRecord s'.nodes a x) found is))
 
-pub follows_as : (a b : Option Hash) (o : Option Record) (r : Record) → a ≡ b → o ≡ Some r → IfSome o (λ x. Follows a x.hash) → Follows b r.hash
+pub follows_as : (a b : Option Hash) (o : Option Record) (r : Record) → a ≡ b → o ≡ Some r → IfSome o (λ x. Follows a x.hash)
+    → Follows b r.hash
 follows_as a b o r name found follows =
     subst (λ (x : Option Hash). Follows x r.hash) name (subst (λ (x : Option Record). IfSome x (λ y. Follows a y.hash)) found follows)
 
 -- what printing met ends the dump
 pub cut_by : (told : Bool) (nodes : Nodes) (held now : Option Bytes) (r : Result (Unit {0}) DumpFault) (e : AllFault)
-    → IsErrAnd r (λ y. y ≡ of_sink e) → (text : Bytes) × IsDumped told nodes ends.Cut text × WrotePart held now text → Dumps told nodes held now r
+    → IsErrAnd r (λ y. y ≡ of_sink e) → (text : Bytes) × IsDumped told nodes ends.Cut text × WrotePart held now text
+    → Dumps told nodes held now r
 cut_by told nodes held now (Ok u) e is cut = absurd is
 cut_by told nodes held now (Err y) e is cut = subst (λ (x : DumpFault). Dumps told nodes held now (Err x)) (sym is) (at e)
   where

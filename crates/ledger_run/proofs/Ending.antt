@@ -19,7 +19,8 @@ use Rattle.ledger_run.proofs.Printing.{prefix_self}
 use Rattle.ledger_run.proofs.Dumping.{text_same}
 
 -- what was printed of a dump, where the store holds the same
-dumped_as : (told : Bool) (nodes nodes' : Nodes) (dump : DumpEnd) (text : Bytes) → (IsTrue told → nodes' ≡ nodes) → IsDumped told nodes dump text
+dumped_as : (told : Bool) (nodes nodes' : Nodes) (dump : DumpEnd) (text : Bytes) → (IsTrue told → nodes' ≡ nodes)
+    → IsDumped told nodes dump text
     → IsDumped told nodes' dump text
 dumped_as told nodes nodes' ends.NotAsked text same is = is
 dumped_as told nodes nodes' ends.Whole text same is = λ t. is t ∙ ap dump_text (sym (same t))
@@ -27,7 +28,8 @@ dumped_as told nodes nodes' ends.Faulted text same is = λ t. subst (λ (n : Nod
 dumped_as told nodes nodes' ends.Cut text same is = λ t. subst (λ (n : Nodes). IsPrefix text (dump_text n)) (sym (same t)) (is t)
 
 -- behind the text of the journal
-pub printed_behind : (told : Bool) (Asked : Type 0) (c c' : CoreView) (held mid now : Option Bytes) (n : ℕ) (dump : DumpEnd) → Lists told c c'
+pub printed_behind : (told : Bool) (Asked : Type 0) (c c' : CoreView) (held mid now : Option Bytes) (n : ℕ) (dump : DumpEnd)
+    → Lists told c c'
     → Wrote held mid (text_of c) → PrintsMore told c.state.nodes mid now n dump → HasDumped Asked n dump c'
     → HasPrinted told Asked held now n dump c'
 printed_behind told Asked c c' held mid now n dump lists wrote more dumped =
@@ -85,7 +87,8 @@ pub printed_part : (told : Bool) (c : CoreView) (held now : Option Bytes) (n : �
     → IsOneOf n (SINK_FAILED ∷ NO_MEMORY ∷ []) → c.missed ≡ 0
     → WrotePart held now (text_of c) → HasPrinted told (IsTrue asked) held now n dump c
 printed_part told c held now n asked dump is other one missed part =
-    let none : IsDumped told c.state.nodes dump [] = subst (λ (d : DumpEnd). IsDumped told c.state.nodes d []) (sym is) (none_dumped told c.state.nodes asked) in
+    let none : IsDumped told c.state.nodes dump [] = subst (λ (d : DumpEnd). IsDumped told c.state.nodes d []) (sym is)
+    (none_dumped told c.state.nodes asked) in
     record {
       whole = λ one. absurd (other one);
       part = ([], none, subst (WrotePart held now) (sym (append-nil (text_of c))) part);
@@ -101,7 +104,8 @@ module _ (told : Bool) (nodes : Nodes) (held now : Option Bytes) (n : ℕ) (dump
   }
 
   -- a text that was written in part
-  pub more_part : (IsOneOf n (FINE ∷ STORE_FAILED ∷ CLASHED ∷ []) → ⊥) → (text : Bytes) × IsDumped told nodes dump text × WrotePart held now text
+  pub more_part : (IsOneOf n (FINE ∷ STORE_FAILED ∷ CLASHED ∷ []) → ⊥) → (text : Bytes) × IsDumped told nodes dump text
+      × WrotePart held now text
       → PrintsMore told nodes held now n dump
   more_part other m = record { whole = λ one. absurd (other one); part = m }
 
@@ -110,10 +114,15 @@ pub more_none : (told : Bool) (nodes : Nodes) (held : Option Bytes) (n : ℕ) �
 more_none told nodes held n = more_whole told nodes held held n ends.NotAsked ([], refl, wrote_nothing held)
 
 pub not_sink : (n : ℕ) → n ≡ SINK_FAILED → IsOneOf n (FINE ∷ STORE_FAILED ∷ CLASHED ∷ []) → ⊥
-not_sink n is one = let no : IsOneOf SINK_FAILED (FINE ∷ STORE_FAILED ∷ CLASHED ∷ []) = subst (λ m. IsOneOf m (FINE ∷ STORE_FAILED ∷ CLASHED ∷ [])) is one in cc
+not_sink n is one =
+    let no : IsOneOf SINK_FAILED (FINE ∷ STORE_FAILED ∷ CLASHED ∷ []) =
+    subst (λ m. IsOneOf m (FINE ∷ STORE_FAILED ∷ CLASHED ∷ [])) is one in
+    cc
 
 pub not_memory : (n : ℕ) → n ≡ NO_MEMORY → IsOneOf n (FINE ∷ STORE_FAILED ∷ CLASHED ∷ []) → ⊥
-not_memory n is one = let no : IsOneOf NO_MEMORY (FINE ∷ STORE_FAILED ∷ CLASHED ∷ []) = subst (λ m. IsOneOf m (FINE ∷ STORE_FAILED ∷ CLASHED ∷ [])) is one in cc
+not_memory n is one =
+    let no : IsOneOf NO_MEMORY (FINE ∷ STORE_FAILED ∷ CLASHED ∷ []) = subst (λ m. IsOneOf m (FINE ∷ STORE_FAILED ∷ CLASHED ∷ [])) is one in
+    cc
 
 -- a count that rose since a later time rose
 pub said_later : (n : ℕ) (c : CoreView) (before mid now : ℕ) → before ≤ mid → HasSaid n c mid now → HasSaid n c before now

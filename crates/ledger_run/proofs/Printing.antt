@@ -21,14 +21,17 @@ module _ (lines : List Line) (journal : List Entry) (totals : Totals) where
       → printed lines journal i ++ entry_line lines e ≡ printed lines journal (i + 1)
   printed_more i e lt at =
       sym (ap (flat_map (entry_line lines)) (take_more journal i e lt ∙ ap (λ (x : Entry). take i journal ++ x ∷ []) (sym at))
-      ∙ flat_map-append (entry_line lines) (take i journal) (e ∷ []) ∙ ap (λ (w : List ℕ). printed lines journal i ++ w) (append-nil (entry_line lines e)))
+      ∙ flat_map-append (entry_line lines) (take i journal) (e ∷ [])
+      ∙ ap (λ (w : List ℕ). printed lines journal i ++ w) (append-nil (entry_line lines e)))
 
   -- the first entries' text is a front of the output
   pub printed_front : (i : ℕ) → IsPrefix (printed lines journal i) (output lines journal totals)
   printed_front i = (
     flat_map (entry_line lines) (drop i journal) ++ summary_text totals,
     sym (append_assoc (printed lines journal i) (flat_map (entry_line lines) (drop i journal)) (summary_text totals))
-        ∙ ap (λ (w : List ℕ). w ++ summary_text totals) (sym (flat_map-append (entry_line lines) (take i journal) (drop i journal)) ∙ ap (flat_map (entry_line lines)) (take-append-drop i journal)),
+        ∙ ap (λ (w : List ℕ). w ++ summary_text totals)
+        (sym (flat_map-append (entry_line lines) (take i journal) (drop i journal))
+        ∙ ap (flat_map (entry_line lines)) (take-append-drop i journal)),
   )
 
   -- an entry's text behind those of the entries before it

@@ -38,11 +38,15 @@ run_refusal half words status left rest held now before after core script one = 
 }
   where
     other : status ≡ REFUSED → ⊥
-    other e = let no : IsOneOf REFUSED (FINE ∷ SINK_FAILED ∷ STORE_FAILED ∷ CLASHED ∷ NO_MEMORY ∷ []) = subst (λ n. IsOneOf n (FINE ∷ SINK_FAILED ∷ STORE_FAILED ∷ CLASHED ∷ NO_MEMORY ∷ [])) e one in cc
+    other e =
+        let no : IsOneOf REFUSED (FINE ∷ SINK_FAILED ∷ STORE_FAILED ∷ CLASHED ∷ NO_MEMORY ∷ []) =
+        subst (λ n. IsOneOf n (FINE ∷ SINK_FAILED ∷ STORE_FAILED ∷ CLASHED ∷ NO_MEMORY ∷ [])) e one in
+        cc
 
 -- the same of a core with the same script
 pub script_as : (half : Half) (left : Option Bytes) (rs rs' : List Record) (ls ls' : List Line) → rs ≡ rs' → ls ≡ ls'
-    → IfSome left (λ bytes. IsScript half (take most_read bytes) rs ls) → IfSome left (λ bytes. IsScript half (take most_read bytes) rs' ls')
+    → IfSome left (λ bytes. IsScript half (take most_read bytes) rs ls)
+    → IfSome left (λ bytes. IsScript half (take most_read bytes) rs' ls')
 script_as half left rs rs' ls ls' records lines script =
     subst (λ (x : List Line). IfSome left (λ bytes. IsScript half (take most_read bytes) rs' x)) lines
     (subst (λ (x : List Record). IfSome left (λ bytes. IsScript half (take most_read bytes) x ls)) records script)

@@ -62,7 +62,8 @@ fault_free journal missed none all =
 -- each status of a journal
 status_one : (journal : List Entry) (missed : ℕ)
     → IsOneOf (status_of journal missed) (FINE ∷ SINK_FAILED ∷ STORE_FAILED ∷ CLASHED ∷ NO_MEMORY ∷ [])
-status_one journal missed = at (list_any shows_clash journal) (list_any met_fault journal || nat_lt 0 missed) (list_any wanted_memory journal)
+status_one journal missed = at (list_any shows_clash journal) (list_any met_fault journal || nat_lt 0 missed)
+    (list_any wanted_memory journal)
   where
     at : (a b c : Bool) → IsOneOf (if a then 7 else if b then 6 else if c then 8 else 0) (0 ∷ 5 ∷ 6 ∷ 7 ∷ 8 ∷ [])
     at true b c = refl
@@ -146,14 +147,16 @@ no_collision half (Some bytes) records lines script some collides = some.1 recor
 -- how a run ends whose text was printed
 pub said_ends : (half : Half) (told : Bool) (words : List (Bor (List ℕ))) (left : Option Bytes) (n : ℕ) (c : CoreView)
     → IsJournal half told c
-    → IfSome left (λ bytes. IsScript half (take most_read bytes) c.records c.lines) → IsCalm c → n ≡ status_of c.journal c.missed → EndsWell half told words left n
+    → IfSome left (λ bytes. IsScript half (take most_read bytes) c.records c.lines) → IsCalm c → n ≡ status_of c.journal c.missed
+    → EndsWell half told words left n
 said_ends half told words left n c kept script calm is =
     let answered : IsOneOf n (FINE ∷ CLASHED ∷ NO_MEMORY ∷ []) =
     subst (λ m. IsOneOf m (FINE ∷ CLASHED ∷ NO_MEMORY ∷ [])) (sym is) (calm_free half told c kept calm) in
     record {
       answered = λ replay read. answered;
       fine = λ t replay read. but_clashed n answered
-          (λ clashed. no_collision half left c.records c.lines script read (shown_by _ c.journal (kept.machine t).clashes (clash_shown c.journal c.missed (sym is ∙ clashed))));
+          (λ clashed. no_collision half left c.records c.lines script read
+          (shown_by _ c.journal (kept.machine t).clashes (clash_shown c.journal c.missed (sym is ∙ clashed))));
     }
 
 -- and where memory was wanted

@@ -1,5 +1,6 @@
 -- What the top call says.
-use Rattle.std.specs.Prelude.{◌≡◌, ◌≢◌, ◌⊎◌, ◌↔◌, ◌<◌, ◌-◌, ◌^◌, ℕ, Bool, IsTrue, IsSome, List, [], ◌∷◌, ◌++◌, Option, Some, map, take, codes, true, ◌==◌, IfSome, IsSomeAnd, IsNone}
+use Rattle.std.specs.Prelude.{◌≡◌, ◌≢◌, ◌⊎◌, ◌↔◌, ◌<◌, ◌-◌, ◌^◌, ℕ, Bool, IsTrue, IsSome, List, [], ◌∷◌, ◌++◌, Option, Some, map, take}
+use Rattle.std.specs.Prelude.{codes, true, ◌==◌, IfSome, IsSomeAnd, IsNone}
 use Rattle.std.specs.Borrow.{Bor}
 use Rattle.std.specs.List.{list_any}
 use Rattle.ledger_spec.specs.Bytes.{Bytes, Half, Nodes}

@@ -547,7 +547,8 @@ fn a_ledger_that_is_made_here(rt: HostRuntime) -> Result<(), Fail> {
     let leaf = digits(alloc, &encode_form(alloc, &leaf)?.bytes()[4..])?;
     let zeros = digits(alloc, &[0; 31])?;
     let script = format!(in alloc;
-        "0 want {target} 7\n0 peer 9 {target}\n0 base 9 {target} {head} {root}02\n0 node 9 {target} state 30{zeros}01 {leaf}01\n0 check {target}\n"
+        "0 want {target} 7\n0 peer 9 {target}\n0 base 9 {target} {head} {root}02\n\
+          0 node 9 {target} state 30{zeros}01 {leaf}01\n0 check {target}\n"
     )?;
     let mut source = MemSource::new(
         Vec::from_slice(alloc, script.as_bytes())?,
@@ -567,7 +568,9 @@ fn a_ledger_that_is_made_here(rt: HostRuntime) -> Result<(), Fail> {
     );
     assert_eq!(rt;
         sink.held(),
-        b"1 0 want opened\n2 0 peer added\n3 0 base good / good\n4 0 node good\n5 0 check complete\nend complete 1 closed 0 listed 1 floor 0 last 7 epoch 0\n".as_slice()
+        b"1 0 want opened\n2 0 peer added\n3 0 base good / good\n4 0 node good\n5 0 check complete\n\
+          end complete 1 closed 0 listed 1 floor 0 last 7 epoch 0\n"
+            .as_slice()
     );
     assert_eq!(rt; ended.status, 0);
     Ok(())

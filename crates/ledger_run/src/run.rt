@@ -1,5 +1,6 @@
 //! The top call: reads a script, runs it, and prints its journal.
-ghost use Rattle.std.specs.Prelude.{None, ◌≡◌, ◌⊎◌, ◌↔◌, ◌≤◌, ◌∷◌, [], IfErr, OnOk, OnErr, IfSome, IsTrue, MatchOption, if◌then◌else◌, map, codes};
+ghost use Rattle.std.specs.Prelude.{None, ◌≡◌, ◌⊎◌, ◌↔◌, ◌≤◌, ◌∷◌, [], IfErr, OnOk, OnErr, IfSome, IsTrue, MatchOption, if◌then◌else◌, map};
+ghost use Rattle.std.specs.Prelude.{codes};
 ghost use Rattle.std.specs.List.{list_any};
 ghost use Rattle.run_io.specs.Bytes.{Rose, Wrote, WrotePart};
 ghost use Rattle.rotating_store.specs.Stores.{Store};
@@ -308,7 +309,8 @@ pub fn ledger_run<R: Threads + Wait + Sync, H: NodeHash, S: Source, K: Sink, Sh:
         (HasPrinted Sh.B.tells (AskForDump (map (λ w. w.now) words.now)) (K.held sink.old) (K.held sink.new) result.status result.dump) }
     ensures status { IfSome result.core (HasStatus H.half Sh.B.tells result.status) }
     ensures complete { (Rose (S.faults source.old) (S.faults source.new) → ⊥) → (Rose (K.faults sink.old) (K.faults sink.new) → ⊥)
-        → IfSome result.core IsCalm → IfSome result.unopened (λ u. u ≡ Unopened.Memory) → EndsWell H.half Sh.B.tells words.now (S.left source.old) result.status }
+        → IfSome result.core IsCalm → IfSome result.unopened (λ u. u ≡ Unopened.Memory)
+        → EndsWell H.half Sh.B.tells words.now (S.left source.old) result.status }
     ensures usage { IsUsage words.now result.status (K.held sink.old) (K.held sink.new) (K.faults sink.old) (K.faults sink.new)
         (source.new ≡ source.old) }
     ensures refusal { IsRefusal H.half words.now result.status (S.left source.old) (S.left source.new) (K.held sink.old) (K.held sink.new)

@@ -1,5 +1,6 @@
 -- Bytes joined and taken apart are bytes, and so is the form of what is read of a wire form.
-use Rattle.std.proofs.Common.{◌≡◌, ◌-◌, ◌*◌, ◌/◌, ⊎_elim, ℕ, zero, suc, not, ◌==◌, nat_lt, List, [], ◌∷◌, ◌++◌, length, take, drop, slice_index, map}
+use Rattle.std.proofs.Common.{◌≡◌, ◌-◌, ◌*◌, ◌/◌, ⊎_elim, ℕ, zero, suc, not, ◌==◌, nat_lt, List, [], ◌∷◌, ◌++◌, length, take, drop}
+use Rattle.std.proofs.Common.{slice_index, map}
 use Rattle.std.proofs.Common.{Ok, IsTrue, refl, sym, subst}
 use Rattle.std.proofs.lemmas.Bool.{and_parts, and_from}
 use Rattle.std.specs.List.{list_any, concat, AllByRecursion}
@@ -7,7 +8,8 @@ use Rattle.ledger_spec.specs.declared.Kind.{Kind}
 use Rattle.ledger_spec.specs.declared.Kind.TheVariants.{State, Tx, Set}
 use Rattle.ledger_spec.specs.Bytes.{Bytes, Hash, Half, zero_hash, is_zero, is_nonzero, are_bytes, branches, hashes_of}
 use Rattle.ledger_spec.specs.Forms.{Held, inner, leaf, form_of, leaf_form, leaf_prefix, inner_prefix, data_limit}
-use Rattle.ledger_spec.specs.Wire.{Chunk, checked_leaf, keyed_leaf, checked_inner, full, compressed, chunks_in, hash_at, read_typed, read_wire}
+use Rattle.ledger_spec.specs.Wire.{Chunk, checked_leaf, keyed_leaf, checked_inner, full, compressed, chunks_in, hash_at, read_typed}
+use Rattle.ledger_spec.specs.Wire.{read_wire}
 use Rattle.ledger_spec.proofs.Hashes.{concat-hashes_of}
 use Rattle.ledger_spec.proofs.OfferLaws.{ok_same, err_ok, past_test, at_test, either_way, hash_by_chunks, compressed_read_is}
 

@@ -21,7 +21,8 @@ parts_of_state key bytes b whole e =
       size = size;
       key_at =
           ap (λ n. drop n b) front ∙ ap (drop (length (leaf_prefix State ++ bytes))) e ∙ drop-append_seam (leaf_prefix State ++ bytes) key;
-      data_at = ap (drop 4) (ap (λ n. take n b) front ∙ ap (take (length (leaf_prefix State ++ bytes))) e ∙ take-append_seam (leaf_prefix State ++ bytes) key);
+      data_at = ap (drop 4) (ap (λ n. take n b) front ∙ ap (take (length (leaf_prefix State ++ bytes))) e
+          ∙ take-append_seam (leaf_prefix State ++ bytes) key);
     }
 
 no_false : IsTrue false → ⊥

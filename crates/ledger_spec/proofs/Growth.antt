@@ -40,7 +40,8 @@ pub same_branches : {A B F : Type 0} (find : B → Option F) (f g : A → List B
     → ((x : A) → filter_map find (f x) ≡ [] → g x ≡ f x) → filter_map find (flat_map f xs) ≡ [] → flat_map g xs ≡ flat_map f xs
 same_branches find f g [] same clean = refl
 same_branches find f g (x ∷ xs) same clean =
-    let both : (filter_map find (f x) ≡ []) × (filter_map find (flat_map f xs) ≡ []) = both_nil _ _ (sym (filter_map-append find (f x) (flat_map f xs)) ∙ clean) in
+    let both : (filter_map find (f x) ≡ []) × (filter_map find (flat_map f xs) ≡ []) =
+    both_nil _ _ (sym (filter_map-append find (f x) (flat_map f xs)) ∙ clean) in
     λ i. same x both.0 i ++ same_branches find f g xs same both.1 i
 
 -- what isn't missing in the smaller store is seen alike in the larger
@@ -81,15 +82,18 @@ pub place_same : (z : Bool) (place : Place) (h : Hash) (parent : Option (List Ha
     → (if z then [] else met place h parent y ∷ branches_of y g) ≡ (if z then [] else met place h parent x ∷ branches_of x f)
 place_same true place h parent x y f g seen same clean = refl
 place_same false place h parent x y f g (inl e) same clean =
-    let no : (finding_at place x ≡ None) × (filter_map found (branches_of x f) ≡ []) = not_missing place h parent x (branches_of x f) clean in
+    let no : (finding_at place x ≡ None) × (filter_map found (branches_of x f) ≡ []) =
+    not_missing place h parent x (branches_of x f) clean in
     absurd (no_none (subst (λ s. finding_at place s ≡ None) e no.0))
 place_same false place h parent x y f g (inr e) same clean =
-    let no : (finding_at place x ≡ None) × (filter_map found (branches_of x f) ≡ []) = not_missing place h parent x (branches_of x f) clean in
+    let no : (finding_at place x ≡ None) × (filter_map found (branches_of x f) ≡ []) =
+    not_missing place h parent x (branches_of x f) clean in
     ap (λ s. met place h parent s ∷ branches_of s g) e ∙ ap (λ rest. met place h parent x ∷ rest) (branches_same place f g x same no.1)
 
 -- the same of a place with nothing below it
 pub end_same : (z : Bool) (place : Place) (h : Hash) (parent : Option (List Hash)) (x y : Sight) → (x ≡ missing) ⊎ (y ≡ x)
-    → filter_map found (if z then [] else met place h parent x ∷ []) ≡ [] → (if z then [] else met place h parent y ∷ []) ≡ (if z then [] else met place h parent x ∷ [])
+    → filter_map found (if z then [] else met place h parent x ∷ []) ≡ []
+    → (if z then [] else met place h parent y ∷ []) ≡ (if z then [] else met place h parent x ∷ [])
 end_same true place h parent x y seen clean = refl
 end_same false place h parent x y (inl e) clean =
     absurd (no_none (subst (λ s. finding_at place s ≡ None) e (not_missing place h parent x [] clean).0))
@@ -97,17 +101,21 @@ end_same false place h parent x y (inr e) clean = ap (λ s. met place h parent s
 
 -- a walk that finds nothing is the same in a larger store
 pub walk_same : (half : Half) (m n : Lookup) (kind : Kind) (left : ℕ) (parent : Option (List Hash)) (path : List ℕ) (h : Hash) → Grows m n
-    → filter_map found (walk half m kind left parent path h) ≡ [] → walk half n kind left parent path h ≡ walk half m kind left parent path h
+    → filter_map found (walk half m kind left parent path h) ≡ []
+    → walk half n kind left parent path h ≡ walk half m kind left parent path h
 unfolding walk
 walk_same half m n kind zero parent path h up clean =
-    end_same (is_zero h) (Node kind path) h parent (sight_of half (λ x. fault_of x parent kind path) (m h)) (sight_of half (λ x. fault_of x parent kind path) (n h))
+    end_same (is_zero h) (Node kind path) h parent (sight_of half (λ x. fault_of x parent kind path) (m h))
+    (sight_of half (λ x. fault_of x parent kind path) (n h))
     (sight_same half (λ x. fault_of x parent kind path) m n h up) clean
 walk_same half m n kind (suc left) parent path h up clean =
-    place_same (is_zero h) (Node kind path) h parent (sight_of half (λ x. fault_of x parent kind path) (m h)) (sight_of half (λ x. fault_of x parent kind path) (n h))
+    place_same (is_zero h) (Node kind path) h parent (sight_of half (λ x. fault_of x parent kind path) (m h))
+    (sight_of half (λ x. fault_of x parent kind path) (n h))
     (λ hashes. flat_map (λ b. walk half m kind left (Some hashes) (path ++ b ∷ []) (slice_index_or hashes b zero_hash)) branches)
     (λ hashes. flat_map (λ b. walk half n kind left (Some hashes) (path ++ b ∷ []) (slice_index_or hashes b zero_hash)) branches)
     (sight_same half (λ x. fault_of x parent kind path) m n h up)
-    (λ hashes. same_branches found _ _ branches (λ b. walk_same half m n kind left (Some hashes) (path ++ b ∷ []) (slice_index_or hashes b zero_hash) up))
+    (λ hashes. same_branches found _ _ branches
+    (λ b. walk_same half m n kind left (Some hashes) (path ++ b ∷ []) (slice_index_or hashes b zero_hash) up))
     clean
 
 -- the same of a whole map
@@ -124,8 +132,10 @@ maps_same half m n (broken fault) up clean = refl
 maps_same half m n (sound (inner hashes)) up clean = refl
 maps_same half m n (sound (leaf kind key bytes)) up clean = refl
 maps_same half m n (sound (header bytes)) up clean =
-    let both : (filter_map found (walk_map half m State (state_root_of bytes)) ≡ []) × (filter_map found (walk_map half m Tx (tx_root_of bytes)) ≡ []) =
-    both_nil _ _ (sym (filter_map-append found (walk_map half m State (state_root_of bytes)) (walk_map half m Tx (tx_root_of bytes))) ∙ clean) in
+    let both : (filter_map found (walk_map half m State (state_root_of bytes)) ≡ [])
+    × (filter_map found (walk_map half m Tx (tx_root_of bytes)) ≡ []) =
+    both_nil _ _ (sym (filter_map-append found (walk_map half m State (state_root_of bytes)) (walk_map half m Tx (tx_root_of bytes)))
+    ∙ clean) in
     λ i. map_same half m n State (state_root_of bytes) up both.0 i ++ map_same half m n Tx (tx_root_of bytes) up both.1 i
 
 -- a header is seen alike where it isn't missing
@@ -138,11 +148,13 @@ header_sight_same m n t up = seen_at (m t) refl
 
 -- a ledger's walk from a header that is seen so
 pub ledger_same : (half : Half) (m n : Lookup) (t : Hash) (x y : Sight) → Grows m n → (x ≡ missing) ⊎ (y ≡ x)
-    → filter_map found (met Header t None x ∷ maps_of half m x) ≡ [] → met Header t None y ∷ maps_of half n y ≡ met Header t None x ∷ maps_of half m x
+    → filter_map found (met Header t None x ∷ maps_of half m x) ≡ []
+    → met Header t None y ∷ maps_of half n y ≡ met Header t None x ∷ maps_of half m x
 ledger_same half m n t x y up (inl e) clean =
     absurd (no_none (subst (λ s. finding_at Header s ≡ None) e (not_missing Header t None x (maps_of half m x) clean).0))
 ledger_same half m n t x y up (inr e) clean =
-    ap (λ s. met Header t None s ∷ maps_of half n s) e ∙ ap (λ rest. met Header t None x ∷ rest) (maps_same half m n x up (not_missing Header t None x (maps_of half m x) clean).1)
+    ap (λ s. met Header t None s ∷ maps_of half n s) e ∙ ap (λ rest. met Header t None x ∷ rest)
+    (maps_same half m n x up (not_missing Header t None x (maps_of half m x) clean).1)
 
 -- a whole ledger is whole in a larger store
 pub whole_grows : (half : Half) (m n : Lookup) (t : Hash) → Grows m n → Whole half m t → Whole half n t

@@ -109,7 +109,15 @@ write_all body hs n b count size end written =
 pub write_size : (body h : List ℕ) (at k : ℕ) → k ≡ 32 → at + 32 ≤ length body → length h ≡ 32 → length (put_mid at k body h) ≡ length body
 write_size body h at k wide within size =
     let front : length (take at body) ≡ at = length-take-le at body (omega arith) in
-    omega (arith, length-append (take at body) (h ++ drop k (drop at body)), length-append h (drop k (drop at body)), length-drop k (drop at body), length-drop at body, front)
+    omega (
+      arith,
+      length-append (take at body) (h ++ drop k (drop at body)),
+      length-append h (drop k (drop at body)),
+      length-drop k
+          (drop at body),
+      length-drop at body,
+      front,
+    )
 
 -- hashes of 32 bytes, joined: their size, and how they are taken apart
 head_size : (h : List ℕ) (hs : List (List ℕ)) → IsTrue (list_all (λ h. length h == 32) (h ∷ hs)) → length h ≡ 32

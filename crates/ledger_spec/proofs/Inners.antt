@@ -26,18 +26,24 @@ three_true a b c p q r = rw (p, q, r) refl
 -- another length is no inner node
 pub not_inner_length : (b : Bytes) → (length b ≡ 516 → ⊥) → inner_of b ≡ None
 unfolding inner_of
-not_inner_length b other = cond-false _ _ _ (three_second (starts_with nat_eq b inner_prefix) (length b == 516) (list_any is_nonzero (hashes_of 16 (drop 4 b))) (ne_eqb (length b) 516 other))
+not_inner_length b other = cond-false _ _ _
+    (three_second (starts_with nat_eq b inner_prefix) (length b == 516) (list_any is_nonzero (hashes_of 16 (drop 4 b)))
+    (ne_eqb (length b) 516 other))
 
 -- nor is another prefix
 pub not_inner_prefix : (b : Bytes) → starts_with nat_eq b inner_prefix ≡ false → inner_of b ≡ None
 unfolding inner_of
-not_inner_prefix b other = cond-false _ _ _ (three_first (starts_with nat_eq b inner_prefix) (length b == 516) (list_any is_nonzero (hashes_of 16 (drop 4 b))) other)
+not_inner_prefix b other = cond-false _ _ _
+    (three_first (starts_with nat_eq b inner_prefix) (length b == 516) (list_any is_nonzero (hashes_of 16 (drop 4 b))) other)
 
 pub not_inner_empty : (b : Bytes) → list_any is_nonzero (hashes_of 16 (drop 4 b)) ≡ false → inner_of b ≡ None
 unfolding inner_of
-not_inner_empty b other = cond-false _ _ _ (three_third (starts_with nat_eq b inner_prefix) (length b == 516) (list_any is_nonzero (hashes_of 16 (drop 4 b))) other)
+not_inner_empty b other = cond-false _ _ _
+    (three_third (starts_with nat_eq b inner_prefix) (length b == 516) (list_any is_nonzero (hashes_of 16 (drop 4 b))) other)
 
 pub inner_of_is : (b : Bytes) → starts_with nat_eq b inner_prefix ≡ true → length b ≡ 516
     → list_any is_nonzero (hashes_of 16 (drop 4 b)) ≡ true → inner_of b ≡ Some (hashes_of 16 (drop 4 b))
 unfolding inner_of
-inner_of_is b prefix size some = cond-true _ _ _ (three_true (starts_with nat_eq b inner_prefix) (length b == 516) (list_any is_nonzero (hashes_of 16 (drop 4 b))) prefix (eq-eqb (length b) 516 size) some)
+inner_of_is b prefix size some =
+    cond-true _ _ _ (three_true (starts_with nat_eq b inner_prefix) (length b == 516)
+    (list_any is_nonzero (hashes_of 16 (drop 4 b))) prefix (eq-eqb (length b) 516 size) some)

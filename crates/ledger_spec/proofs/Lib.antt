@@ -8,3 +8,4 @@ pub mod Inners
 pub mod Readings
 pub mod ByteForms
 pub mod Owning
+pub mod Storing

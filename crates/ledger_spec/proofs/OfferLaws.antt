@@ -1,5 +1,6 @@
 -- What is read of a wire form has a prefix form, and what is wanted at a place isn't zero.
-use Rattle.std.proofs.Common.{◌≡◌, ◌⊎◌, inl, inr, ⊎_elim, ◌≤◌, ◌-◌, ◌*◌, ◌/◌, ◌%◌, ℕ, zero, suc, Bool, true, false, not, if◌then◌else◌, ◌==◌}
+use Rattle.std.proofs.Common.{◌≡◌, ◌⊎◌, inl, inr, ⊎_elim, ◌≤◌, ◌-◌, ◌*◌, ◌/◌, ◌%◌, ℕ, zero, suc, Bool, true, false, not, if◌then◌else◌}
+use Rattle.std.proofs.Common.{◌==◌}
 use Rattle.std.proofs.Common.{nat_lt, List, map}
 use Rattle.std.proofs.Common.{[], ◌∷◌, ◌++◌, length, take, drop, slice_index, Option, None, Some, Result, Ok, Err, IsTrue, refl, sym, ap}
 use Rattle.std.proofs.Common.{◌∙◌, subst, arith, length-take, length-drop}
@@ -50,7 +51,8 @@ leaf_read : (kind : Kind) (key bytes : Bytes) (n : Held) → length key ≡ 32 �
     → IsLeafRead kind key bytes n
 leaf_read kind key bytes n size e =
     let small : (nat_lt data_limit (length bytes) ≡ false) × _ = past_test (nat_lt data_limit (length bytes)) 11 _ n e in
-    let nonzero : (is_zero key ≡ false) × (Ok (leaf kind key bytes) ≡ Ok n) = past_test (is_zero key) 10 (Ok (leaf kind key bytes)) n small.1 in
+    let nonzero : (is_zero key ≡ false) × (Ok (leaf kind key bytes) ≡ Ok n) =
+    past_test (is_zero key) 10 (Ok (leaf kind key bytes)) n small.1 in
     record {
       item = record { key_size = size; key_nonzero = ap not nonzero.0; data_size = ltb-false data_limit (length bytes) small.0 };
       node = ok_same nonzero.1;
@@ -95,7 +97,8 @@ sizes_of_hashes (suc n) bytes e =
 checked_inner_held : (half : Half) (hashes : List Hash) (n : Held) → length hashes ≡ 16
     → IsTrue (list_all (λ h. length h == 32) hashes) → checked_inner hashes ≡ Ok n → IsHeld half n
 checked_inner_held half hashes n count sizes e =
-    let some : (list_any is_nonzero hashes ≡ true) × (Ok (inner hashes) ≡ Ok n) = at_test (list_any is_nonzero hashes) 8 (Ok (inner hashes)) n e in
+    let some : (list_any is_nonzero hashes ≡ true) × (Ok (inner hashes) ≡ Ok n) =
+    at_test (list_any is_nonzero hashes) 8 (Ok (inner hashes)) n e in
     let is : IsInner hashes = record { count = count; sizes = sizes; some = some.0 } in
     subst (λ x. IsHeld half x) (ok_same some.1) is
 
@@ -151,7 +154,11 @@ compressed_read_is front n e =
     let clean : (not (chunk_cause [] chunks == 0) ≡ false) × (checked_inner (map (hash_at chunks) branches) ≡ Ok n) =
     past_test (not (chunk_cause [] chunks == 0)) (chunk_cause [] chunks) (checked_inner (map (hash_at chunks) branches)) n whole.1
     in
-    record { size = whole_size (length front) (eqb-true (length front % 33) 0 (not_false (length front % 33 == 0) whole.0)); parts = clean.1 }
+    record {
+      size = whole_size (length front) (eqb-true (length front % 33) 0 (not_false (length front % 33 == 0) whole.0));
+      parts =
+          clean.1;
+    }
 
 -- a compressed inner node has a form
 compressed_held : (half : Half) (front : Bytes) (n : Held) → compressed front ≡ Ok n → IsHeld half n
@@ -218,7 +225,8 @@ below_wanted false path s g q e = e
 
 -- a hash that is wanted below an inner node
 hashes_wanted : (path : List ℕ) (on : List Hash → Spot) (o : Option (List Hash)) (g : Hash) (q : Option (List Hash))
-    → ((hashes : List Hash) → on hashes ≡ wanted g q → IsTrue (is_nonzero g)) → option_map_or on o (under_leaf path) ≡ wanted g q → IsTrue (is_nonzero g)
+    → ((hashes : List Hash) → on hashes ≡ wanted g q → IsTrue (is_nonzero g)) → option_map_or on o (under_leaf path) ≡ wanted g q
+    → IsTrue (is_nonzero g)
 hashes_wanted path on None g q each e = absurd (under_wanted e)
 hashes_wanted path on (Some hashes) g q each e = each hashes e
 
@@ -229,7 +237,8 @@ into_wanted path on None g q each e = absurd (no_parent_wanted e)
 into_wanted path on (Some form) g q each e = hashes_wanted path on (inner_of form) g q each e
 
 -- a hash that is wanted on the way down isn't zero
-pub spot_wanted : (nodes : Lookup) (path : List ℕ) (parent : Option (List Hash)) (h : Hash) (rest : List ℕ) (g : Hash) (q : Option (List Hash))
+pub spot_wanted : (nodes : Lookup) (path : List ℕ) (parent : Option (List Hash)) (h : Hash) (rest : List ℕ) (g : Hash)
+    (q : Option (List Hash))
     → spot_from nodes path parent h rest ≡ wanted g q → IsTrue (is_nonzero g)
 spot_wanted nodes path parent h [] g q e = here_wanted (is_zero h) path h g parent q refl e
 spot_wanted nodes path parent h (n ∷ rest) g q e =

@@ -62,11 +62,13 @@ pub read_form : (half : Half) (n : Held) → (b : Bytes) → Form half n b → r
 read_form half (inner hashes) b f = ap (read half) f.1 ∙ ap inner (hashes_at hashes f.0)
 read_form half (leaf State key bytes) b f =
     ap (read half) f.1
-    ∙ ap (λ k. leaf State k (drop 4 (take (length (prefix_of Mln ++ bytes ++ key) - 32) (prefix_of Mln ++ bytes ++ key)))) (key_at (prefix_of Mln) bytes key refl f.0.key_size)
+    ∙ ap (λ k. leaf State k (drop 4 (take (length (prefix_of Mln ++ bytes ++ key) - 32) (prefix_of Mln ++ bytes ++ key))))
+    (key_at (prefix_of Mln) bytes key refl f.0.key_size)
     ∙ ap (leaf State key) (data_at (prefix_of Mln) bytes key refl f.0.key_size)
 read_form half (leaf Tx key bytes) b f =
     ap (read half) f.1
-    ∙ ap (λ k. leaf Tx k (drop 4 (take (length (prefix_of Snd ++ bytes ++ key) - 32) (prefix_of Snd ++ bytes ++ key)))) (key_at (prefix_of Snd) bytes key refl f.0.key_size)
+    ∙ ap (λ k. leaf Tx k (drop 4 (take (length (prefix_of Snd ++ bytes ++ key) - 32) (prefix_of Snd ++ bytes ++ key))))
+    (key_at (prefix_of Snd) bytes key refl f.0.key_size)
     ∙ ap (leaf Tx key) (data_at (prefix_of Snd) bytes key refl f.0.key_size)
 read_form half (leaf Set key bytes) b f = ap (read half) f.1 ∙ ap (λ k. leaf Set k bytes) (sym f.0.1)
 read_form half (header bytes) b f = ap (read half) f.1
@@ -114,7 +116,9 @@ no_header b other = cond-false _ _ _ (and_right (length b == 122) (starts_with n
 
 no_keyed : (kind : Kind) (b : Bytes) → starts_with nat_eq b (leaf_prefix kind) ≡ false → keyed_leaf_of kind b ≡ None
 unfolding keyed_leaf_of
-no_keyed kind b other = cond-false _ _ _ (first_of_four (starts_with nat_eq b (leaf_prefix kind)) (nat_le 36 (length b)) (nat_le (length b) (36 + data_limit)) (is_nonzero (drop (length b - 32) b)) other)
+no_keyed kind b other = cond-false _ _ _
+    (first_of_four (starts_with nat_eq b (leaf_prefix kind)) (nat_le 36 (length b)) (nat_le (length b) (36 + data_limit))
+    (is_nonzero (drop (length b - 32) b)) other)
   where
     first_of_four : (p q r s : Bool) → p ≡ false → (p && q && r && s) ≡ false
     first_of_four false q r s e = refl
@@ -133,10 +137,13 @@ unfolding keyed_leaf_of
 sees_keyed kind p key bytes b is front starts item e =
     let size : length b ≡ length bytes + 36 = ap length e ∙ size_of p bytes key front item.key_size in
     let at : drop (length b - 32) b ≡ key = ap (λ x. drop (length x - 32) x) e ∙ key_at p bytes key front item.key_size in
-    let before : drop 4 (take (length b - 32) b) ≡ bytes = ap (λ x. drop 4 (take (length x - 32) x)) e ∙ data_at p bytes key front item.key_size in
+    let before : drop 4 (take (length b - 32) b) ≡ bytes = ap (λ x. drop 4 (take (length x - 32) x)) e
+    ∙ data_at p bytes key front item.key_size in
     let few : length b ≤ 36 + data_limit = omega (arith, item.data_size, size) in
-    cond-true _ _ _ (four_true (starts_with nat_eq b (leaf_prefix kind)) (nat_le 36 (length b)) (nat_le (length b) (36 + data_limit)) (is_nonzero (drop (length b - 32) b))
-    (ap (starts_with nat_eq b) is ∙ starts) (le-leb 36 (length b) (omega arith)) (le-leb (length b) (36 + data_limit) few) (ap is_nonzero at ∙ item.key_nonzero))
+    cond-true _ _ _ (four_true (starts_with nat_eq b (leaf_prefix kind)) (nat_le 36 (length b)) (nat_le (length b) (36 + data_limit))
+    (is_nonzero (drop (length b - 32) b))
+    (ap (starts_with nat_eq b) is ∙ starts) (le-leb 36 (length b) (omega arith)) (le-leb (length b) (36 + data_limit) few)
+    (ap is_nonzero at ∙ item.key_nonzero))
     ∙ ap (λ k. Some (leaf kind k (drop 4 (take (length b - 32) b)))) at ∙ ap (λ d. Some (leaf kind key d)) before
 
 sees_bare : (half : Half) (key bytes b : Bytes) → IsItem key bytes → key ≡ half b → b ≡ prefix_of Txn ++ bytes
@@ -153,7 +160,9 @@ sees_header : (bytes b : Bytes) → length bytes ≡ 118 → b ≡ header_prefix
 unfolding header_of
 sees_header bytes b whole e =
     let size : length b ≡ 122 = ap length e ∙ omega (arith, whole) in
-    cond-true ((length b == 122) && starts_with nat_eq b header_prefix) _ _ (and_from (length b == 122) (starts_with nat_eq b header_prefix) (eq-eqb (length b) 122 size) (starts_as b _ header_prefix e)) ∙ ap (λ x. Some (drop 4 x)) e
+    cond-true ((length b == 122) && starts_with nat_eq b header_prefix) _ _
+    (and_from (length b == 122) (starts_with nat_eq b header_prefix) (eq-eqb (length b) 122 size) (starts_as b _ header_prefix e))
+    ∙ ap (λ x. Some (drop 4 x)) e
 
 sees_inner : (hashes : List Hash) (b : Bytes) → IsInner hashes → b ≡ inner_prefix ++ concat hashes → inner_of b ≡ Some hashes
 sees_inner hashes b h e =
@@ -179,12 +188,14 @@ sees half (header bytes) b f = at_header half b bytes (not_inner_prefix b (start
 sees half (leaf State key bytes) b f =
     let e : b ≡ prefix_of Mln ++ bytes ++ key = f.1 in
     at_leaf half b (not_inner_prefix b (starts_as b _ inner_prefix e)) (no_header b (starts_as b _ header_prefix e))
-    ∙ ap (λ o. option_or o (option_or (keyed_leaf_of Tx b) (bare_leaf_of half b))) (sees_keyed State (prefix_of Mln) key bytes b refl refl (starts_as b _ (prefix_of Mln) e) f.0 e)
+    ∙ ap (λ o. option_or o (option_or (keyed_leaf_of Tx b) (bare_leaf_of half b)))
+    (sees_keyed State (prefix_of Mln) key bytes b refl refl (starts_as b _ (prefix_of Mln) e) f.0 e)
 sees half (leaf Tx key bytes) b f =
     let e : b ≡ prefix_of Snd ++ bytes ++ key = f.1 in
     at_leaf half b (not_inner_prefix b (starts_as b _ inner_prefix e)) (no_header b (starts_as b _ header_prefix e))
     ∙ ap (λ o. option_or o (option_or (keyed_leaf_of Tx b) (bare_leaf_of half b))) (no_keyed State b (starts_as b _ (prefix_of Mln) e))
-    ∙ ap (λ o. option_or o (bare_leaf_of half b)) (sees_keyed Tx (prefix_of Snd) key bytes b refl refl (starts_as b _ (prefix_of Snd) e) f.0 e)
+    ∙ ap (λ o. option_or o (bare_leaf_of half b))
+    (sees_keyed Tx (prefix_of Snd) key bytes b refl refl (starts_as b _ (prefix_of Snd) e) f.0 e)
 sees half (leaf Set key bytes) b f =
     let e : b ≡ prefix_of Txn ++ bytes = f.1 in
     at_leaf half b (not_inner_prefix b (starts_as b _ inner_prefix e)) (no_header b (starts_as b _ header_prefix e))
@@ -196,8 +207,10 @@ sees half (leaf Set key bytes) b f =
 pub holds_inner : (half : Half) (b : Bytes) (hashes : List Hash) → inner_of b ≡ Some hashes → Form half (inner hashes) b
 unfolding inner_of
 holds_inner half b hashes is =
-    let q : ((starts_with nat_eq b inner_prefix && (length b == 516) && list_any is_nonzero (hashes_of 16 (drop 4 b))) ≡ true) × (hashes_of 16 (drop 4 b) ≡ hashes) = chose _ _ hashes is in
-    let t : Three (starts_with nat_eq b inner_prefix) (length b == 516) (list_any is_nonzero (hashes_of 16 (drop 4 b))) = three_parts _ _ _ q.0 in
+    let q : ((starts_with nat_eq b inner_prefix && (length b == 516) && list_any is_nonzero (hashes_of 16 (drop 4 b))) ≡ true)
+    × (hashes_of 16 (drop 4 b) ≡ hashes) = chose _ _ hashes is in
+    let t : Three (starts_with nat_eq b inner_prefix) (length b == 516) (list_any is_nonzero (hashes_of 16 (drop 4 b))) =
+    three_parts _ _ _ q.0 in
     let size : length b ≡ 516 = eqb-true (length b) 516 t.second in
     let rest : length (drop 4 b) ≡ 512 = omega (arith, length-drop 4 b, size) in
     let whole : length (drop 4 b) ≤ 512 = omega arith in
@@ -236,9 +249,11 @@ prefix_size Set = refl
 pub holds_keyed : (kind : Kind) (b : Bytes) (n : Held) → keyed_leaf_of kind b ≡ Some n → IsKeyed kind b n
 unfolding keyed_leaf_of
 holds_keyed kind b n is =
-    let q : ((starts_with nat_eq b (leaf_prefix kind) && nat_le 36 (length b) && nat_le (length b) (36 + data_limit) && is_nonzero (drop (length b - 32) b)) ≡ true)
+    let q : ((starts_with nat_eq b (leaf_prefix kind) && nat_le 36 (length b) && nat_le (length b) (36 + data_limit) && is_nonzero
+    (drop (length b - 32) b)) ≡ true)
     × (leaf kind (drop (length b - 32) b) (drop 4 (take (length b - 32) b)) ≡ n) = chose _ _ n is in
-    let t : Four (starts_with nat_eq b (leaf_prefix kind)) (nat_le 36 (length b)) (nat_le (length b) (36 + data_limit)) (is_nonzero (drop (length b - 32) b)) = four_parts _ _ _ _ q.0 in
+    let t : Four (starts_with nat_eq b (leaf_prefix kind)) (nat_le 36 (length b)) (nat_le (length b) (36 + data_limit))
+    (is_nonzero (drop (length b - 32) b)) = four_parts _ _ _ _ q.0 in
     let long : 36 ≤ length b = leb-true 36 (length b) t.second in
     let short : length b ≤ 36 + data_limit = leb-true (length b) (36 + data_limit) t.third in
     let front : length (take (length b - 32) b) ≡ length b - 32 = length-take-le (length b - 32) b (omega arith) in
@@ -251,14 +266,17 @@ holds_keyed kind b n is =
         key_nonzero = t.fourth;
         data_size = omega (arith, length-drop 4 (take (length b - 32) b));
       };
-      joined = form_behind b (leaf_prefix kind) (drop 4 (take (length b - 32) b) ++ drop (length b - 32) b) (prefix_size kind) t.first (parts_join b long) ∙ sym (append_assoc (leaf_prefix kind) (drop 4 (take (length b - 32) b)) (drop (length b - 32) b));
+      joined = form_behind b (leaf_prefix kind) (drop 4 (take (length b - 32) b) ++ drop (length b - 32) b) (prefix_size kind) t.first
+          (parts_join b long) ∙ sym (append_assoc (leaf_prefix kind) (drop 4 (take (length b - 32) b)) (drop (length b - 32) b));
     }
 
 holds_bare : (half : Half) (b : Bytes) (n : Held) → ((x : Bytes) → length (half x) ≡ 32) → bare_leaf_of half b ≡ Some n → Form half n b
 unfolding bare_leaf_of
 holds_bare half b n sized is =
-    let q : ((starts_with nat_eq b (leaf_prefix Set) && nat_le (length b) (4 + data_limit) && is_nonzero (half b)) ≡ true) × (leaf Set (half b) (drop 4 b) ≡ n) = chose _ _ n is in
-    let t : Three (starts_with nat_eq b (leaf_prefix Set)) (nat_le (length b) (4 + data_limit)) (is_nonzero (half b)) = three_parts _ _ _ q.0 in
+    let q : ((starts_with nat_eq b (leaf_prefix Set) && nat_le (length b) (4 + data_limit) && is_nonzero (half b)) ≡ true)
+    × (leaf Set (half b) (drop 4 b) ≡ n) = chose _ _ n is in
+    let t : Three (starts_with nat_eq b (leaf_prefix Set)) (nat_le (length b) (4 + data_limit)) (is_nonzero (half b)) =
+    three_parts _ _ _ q.0 in
     let short : length b ≤ 4 + data_limit = leb-true (length b) (4 + data_limit) t.second in
     let e : b ≡ leaf_prefix Set ++ drop 4 b = form_behind b (leaf_prefix Set) (drop 4 b) refl t.first refl in
     subst (λ m. Form half m b) q.1
@@ -283,4 +301,5 @@ by_reader P n None None None None e p q r s t is = t n is
 pub holds : (half : Half) → ((x : Bytes) → length (half x) ≡ 32) → (n : Held) (b : Bytes) → held_of half b ≡ Some n → Form half n b
 holds half sized n b is =
     by_reader (λ m. Form half m b) n (inner_of b) (header_of b) (keyed_leaf_of State b) (keyed_leaf_of Tx b) (bare_leaf_of half b)
-    (holds_inner half b) (holds_header half b) (λ m k. state_form half b m (holds_keyed State b m k)) (λ m k. tx_form half b m (holds_keyed Tx b m k)) (λ m k. holds_bare half b m sized k) is
+    (holds_inner half b) (holds_header half b) (λ m k. state_form half b m (holds_keyed State b m k))
+    (λ m k. tx_form half b m (holds_keyed Tx b m k)) (λ m k. holds_bare half b m sized k) is

@@ -32,7 +32,8 @@ with_root h =
     option_map {T = Hash × Bytes} (λ e. e.1) (find (λ e. same_bytes e.0 h) ((at 0xDD, form_of head10) ∷ (at 0xDE, form_of root10) ∷ []))
 
 abbrev whole10 : Lookup
-whole10 h = option_map {T = Hash × Bytes} (λ e. e.1) (find (λ e. same_bytes e.0 h) ((at 0xDD, form_of head10) ∷ (at 0xDE, form_of root10) ∷ (at 0xFA, form_of leaf10) ∷ []))
+whole10 h = option_map {T = Hash × Bytes} (λ e. e.1)
+    (find (λ e. same_bytes e.0 h) ((at 0xDD, form_of head10) ∷ (at 0xDE, form_of root10) ∷ (at 0xFA, form_of leaf10) ∷ []))
 
 hash_of_leaf : byte_sum_half (form_of leaf10) ≡ at 0xFA
 hash_of_leaf = refl

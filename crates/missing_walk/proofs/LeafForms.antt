@@ -30,17 +30,20 @@ pub keyed : (kind : Kind) (b key : Bytes) (out : Option Held) → true ≡ is_ke
 unfolding keyed_leaf_of
 keyed kind b key out fits place e =
     e ∙ ap (λ k. if is_nonzero k then Some (leaf kind k []) else None) place
-    ∙ passed (is_keyed kind b) (is_nonzero (drop (length b - 32) b)) (leaf kind (drop (length b - 32) b) (drop 4 (take (length b - 32) b))) fits
+    ∙ passed (is_keyed kind b) (is_nonzero (drop (length b - 32) b))
+    (leaf kind (drop (length b - 32) b) (drop 4 (take (length b - 32) b))) fits
 
 pub not_keyed : (kind : Kind) (b : Bytes) → false ≡ is_keyed kind b → None ≡ option_map without_data (keyed_leaf_of kind b)
 unfolding keyed_leaf_of
-not_keyed kind b fits = failed (is_keyed kind b) (is_nonzero (drop (length b - 32) b)) (leaf kind (drop (length b - 32) b) (drop 4 (take (length b - 32) b))) fits
+not_keyed kind b fits = failed (is_keyed kind b) (is_nonzero (drop (length b - 32) b))
+    (leaf kind (drop (length b - 32) b) (drop 4 (take (length b - 32) b))) fits
 
 pub bare : (half : Half) (b key : Bytes) (out : Option Held) → true ≡ is_bare b → key ≡ half b
     → out ≡ (if is_nonzero key then Some (leaf Set key []) else None) → out ≡ option_map without_data (bare_leaf_of half b)
 unfolding bare_leaf_of
 bare half b key out fits same e =
-    e ∙ ap (λ k. if is_nonzero k then Some (leaf Set k []) else None) same ∙ passed (is_bare b) (is_nonzero (half b)) (leaf Set (half b) (drop 4 b)) fits
+    e ∙ ap (λ k. if is_nonzero k then Some (leaf Set k []) else None) same
+    ∙ passed (is_bare b) (is_nonzero (half b)) (leaf Set (half b) (drop 4 b)) fits
 
 pub not_bare : (half : Half) (b : Bytes) → false ≡ is_bare b → None ≡ option_map without_data (bare_leaf_of half b)
 unfolding bare_leaf_of

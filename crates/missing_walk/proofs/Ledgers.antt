@@ -16,7 +16,8 @@ use Rattle.tree_laws.specs.Walks.{finding_of, found_below}
 use Rattle.missing_walk.proofs.Noting.{sees-append, sees_one}
 
 maps_found : (half : Half) (nodes : Lookup) (bytes : Bytes)
-    → found_in_maps half nodes bytes ≡ found_below half nodes State 64 None [] (state_root_of bytes) ++ found_below half nodes Tx 64 None [] (tx_root_of bytes)
+    → found_in_maps half nodes bytes ≡ found_below half nodes State 64 None []
+    (state_root_of bytes) ++ found_below half nodes Tx 64 None [] (tx_root_of bytes)
 unfolding found_in_maps found_below walk_map
 maps_found half nodes bytes =
     filter_map-append finding_of (walk half nodes State 64 None [] (state_root_of bytes)) (walk half nodes Tx 64 None [] (tx_root_of bytes))
@@ -56,10 +57,12 @@ module _ (half : Half) (nodes : Lookup) (target : Hash) (s : Seen) where
       → after ≡ noted s (breaks Header Foreign) → after ≡ sees s (findings half nodes target)
   foreign_header after form bytes more stored same none done =
       done ∙ sees_one s (breaks Header Foreign) more
-      ∙ ap (sees s) (sym (from_header half nodes target (broken Foreign) (ap header_sight (sym stored) ∙ ap header_or_foreign (ap header_of (sym same) ∙ sym none))))
+      ∙ ap (sees s) (sym (from_header half nodes target (broken Foreign)
+      (ap header_sight (sym stored) ∙ ap header_or_foreign (ap header_of (sym same) ∙ sym none))))
 
   pub sound_header : (after : Seen) (form bytes head : Bytes) → Some form ≡ nodes target → bytes ≡ form → Some head ≡ header_of bytes
       → after ≡ sees s (found_in_maps half nodes head) → after ≡ sees s (findings half nodes target)
   unfolding found_in_maps
   sound_header after form bytes head stored same read done =
-      done ∙ ap (sees s) (sym (from_header half nodes target (sound (header head)) (ap header_sight (sym stored) ∙ ap header_or_foreign (ap header_of (sym same) ∙ sym read))))
+      done ∙ ap (sees s) (sym (from_header half nodes target (sound (header head))
+      (ap header_sight (sym stored) ∙ ap header_or_foreign (ap header_of (sym same) ∙ sym read))))

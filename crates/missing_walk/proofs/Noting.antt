@@ -65,7 +65,8 @@ over_at_most s h =
     or_right (is_some s.broken) (nat_le most_missing (length s.missing)) (le-leb most_missing (length s.missing) (omega (arith, h.left)))
 
 more_within : (s : Seen) (room : ℕ) → HasRoom s (suc room) → is_over s ≡ false
-more_within s room h = or_neither (is_some s.broken) (nat_le most_missing (length s.missing)) (ap is_some h.whole) (not_le most_missing (length s.missing) (omega (arith, h.left)))
+more_within s room h = or_neither (is_some s.broken) (nat_le most_missing (length s.missing)) (ap is_some h.whole)
+    (not_le most_missing (length s.missing) (omega (arith, h.left)))
 
 with_missing : (s : Seen) (room : ℕ) (place : Place) → HasRoom s (suc room) → HasRoom (noted s (lacks place)) room
 with_missing s room place h = record { left = omega (arith, h.left, length-append s.missing (place ∷ [])); whole = h.whole }
@@ -79,7 +80,8 @@ with_more s after place found h =
 pub sees_up_to : (s : Seen) (room : ℕ) (xs : List Finding) → HasRoom s room → Follows s (sees s xs) (up_to room xs)
 sees_up_to s room [] h = record { missing = sym (append-nil s.missing); broken = h.whole }
 sees_up_to s zero (x ∷ xs) h =
-    subst (λ t. Follows s t []) (sym (sees_over s (x ∷ xs) (over_at_most s h))) (record { missing = sym (append-nil s.missing); broken = h.whole })
+    subst (λ t. Follows s t []) (sym (sees_over s (x ∷ xs) (over_at_most s h)))
+    (record { missing = sym (append-nil s.missing); broken = h.whole })
 sees_up_to s (suc room) (lacks place ∷ xs) h =
     subst (λ t. Follows s (sees t xs) (lacks place ∷ up_to room xs)) (noted_is s (lacks place) (more_within s room h))
     (with_more s _ place (up_to room xs) (sees_up_to (noted s (lacks place)) room xs (with_missing s room place h)))
@@ -92,14 +94,16 @@ sees_up_to s (suc room) (breaks place fault ∷ xs) h =
 pub finds : (half : Half) (nodes : Lookup) (t : Hash) (f : Found) → IsHeaderOf nodes t f.header
     → shown f ≡ sees nothing_seen (findings half nodes t) → Finds half nodes t f
 finds half nodes t f head e =
-    let h : Follows nothing_seen (sees nothing_seen (findings half nodes t)) (seen half nodes t) = sees_up_to nothing_seen 256 (findings half nodes t) (record { left = refl; whole = refl }) in
+    let h : Follows nothing_seen (sees nothing_seen (findings half nodes t)) (seen half nodes t) =
+    sees_up_to nothing_seen 256 (findings half nodes t) (record { left = refl; whole = refl }) in
     record { header = head; missing = ap (λ (x : Seen). x.missing) e ∙ h.missing; broken = ap (λ (x : Seen). x.broken) e ∙ h.broken }
 
 -- there is room for one place more
 pub one_more : (f f' : Found) (place : Place) → false ≡ is_over (shown f) → shown f' ≡ noted (shown f) (lacks place)
     → length f'.missing ≤ most_missing
 one_more f f' place more done =
-    let room : nat_le most_missing (length f.missing) ≡ false = or_second (is_some f.broken) (nat_le most_missing (length f.missing)) (sym more) in
+    let room : nat_le most_missing (length f.missing) ≡ false =
+    or_second (is_some f.broken) (nat_le most_missing (length f.missing)) (sym more) in
     let long : length f'.missing ≡ length (f.missing ++ place ∷ []) = ap (λ (x : Seen). length x.missing) done in
     omega (arith, below most_missing (length f.missing) room, long, length-append f.missing (place ∷ []))
 

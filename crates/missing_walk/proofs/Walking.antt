@@ -91,32 +91,37 @@ module _ (half : Half) (nodes : Lookup) (kind : Kind) (left : ℕ) (parent : Opt
       → after ≡ noted s (breaks (Node kind path) fault) → after ≡ sees s (found_below half nodes kind left parent path h)
   walk_broken seen fault after more nonzero e shown done =
       done ∙ sees_one s (breaks (Node kind path) fault) (sym more)
-      ∙ ap (sees s) (sym (below_end half nodes kind left parent path h (broken fault) (sym nonzero) (sym (shows _ _ _ e shown)) (λ each. refl)))
+      ∙ ap (sees s) (sym (below_end half nodes kind left parent path h (broken fault) (sym nonzero) (sym (shows _ _ _ e shown))
+      (λ each. refl)))
 
   pub walk_leaf : (seen : Look) → false ≡ is_zero h → seen ≡ look.Leaf → LooksAs seen (at_place half nodes kind parent path h)
       → s ≡ sees s (found_below half nodes kind left parent path h)
   walk_leaf seen nonzero e shown =
       let is_leaf : is_sound_leaf (at_place half nodes kind parent path h) ≡ true = shows _ _ _ e shown in
-      ap (sees s) (sym (below_end half nodes kind left parent path h (at_place half nodes kind parent path h) (sym nonzero) refl (leaf_bare _ is_leaf) ∙ leaf_end _ (Node kind path) is_leaf))
+      ap (sees s) (sym (below_end half nodes kind left parent path h (at_place half nodes kind parent path h) (sym nonzero) refl
+      (leaf_bare _ is_leaf) ∙ leaf_end _ (Node kind path) is_leaf))
 
   pub walk_inner : (seen : Look) (node : Inner) (after : Seen) → false ≡ is_zero h → seen ≡ look.Inner node
       → LooksAs seen (at_place half nodes kind parent path h)
       → left ≡ 64 - length path → length path < 64
-      → after ≡ sees s (found_in half nodes kind (63 - length path) node.hashes path 16) → after ≡ sees s (found_below half nodes kind left parent path h)
+      → after ≡ sees s (found_in half nodes kind (63 - length path) node.hashes path 16)
+      → after ≡ sees s (found_below half nodes kind left parent path h)
   walk_inner seen node after nonzero e shown level above done =
       let next : left ≡ suc (63 - length path) = omega arith in
       done ∙ ap (sees s) (sym (ap (λ l. found_below half nodes kind l parent path h) next
       ∙ below_inner half nodes kind (63 - length path) parent path h node.hashes (sym nonzero) (sym (shows _ _ _ e shown))))
 
 -- one branch more
-pub walk_branch : (half : Half) (nodes : Lookup) (kind : Kind) (hashes : List Hash) (path below : List ℕ) (h : Hash) (n left : ℕ) (s mid after : Seen)
+pub walk_branch : (half : Half) (nodes : Lookup) (kind : Kind) (hashes : List Hash) (path below : List ℕ) (h : Hash) (n left : ℕ)
+    (s mid after : Seen)
     → mid ≡ sees s (found_in half nodes kind (63 - length path) hashes path n)
     → below ≡ path ++ n ∷ [] → h ≡ slice_index_or hashes n zero_hash → left ≡ 64 - length below
     → after ≡ sees mid (found_below half nodes kind left (Some hashes) below h)
     → after ≡ sees s (found_in half nodes kind (63 - length path) hashes path (n + 1))
 walk_branch half nodes kind hashes path below h n left s mid after so_far place hash level done =
     let next : left ≡ 63 - length path = omega (arith, level, ap length place, length-append path (n ∷ [])) in
-    let piece : found_below half nodes kind left (Some hashes) below h ≡ found_below half nodes kind (63 - length path) (Some hashes) (path ++ n ∷ []) (slice_index_or hashes n zero_hash) =
+    let piece : found_below half nodes kind left (Some hashes) below h ≡ found_below half nodes kind (63 - length path) (Some hashes)
+    (path ++ n ∷ []) (slice_index_or hashes n zero_hash) =
     ap (λ l. found_below half nodes kind l (Some hashes) below h) next
     ∙ ap (λ p. found_below half nodes kind (63 - length path) (Some hashes) p h) place
     ∙ ap (λ x. found_below half nodes kind (63 - length path) (Some hashes) (path ++ n ∷ []) x) hash in

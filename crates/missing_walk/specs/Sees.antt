@@ -1,23 +1,23 @@
 -- What a search keeps while it runs, and how a finding changes it.
-use Rattle.std.specs.Prelude.{◌≡◌, ℕ, ◌==◌, ◌≤◌, ◌||◌, Bool, true, false, is_some, nat_le, if◌then◌else◌, List, [], ◌∷◌, ◌++◌, length, Option}
-use Rattle.std.specs.Prelude.{None, Some, IfSome, IsTrue}
+use Rattle.std.specs.Prelude.{◌≡◌, ℕ, ◌==◌, ◌≤◌, ◌||◌, Bool, true, false, is_some, nat_le, if◌then◌else◌, List, [], ◌∷◌, ◌++◌, length}
+use Rattle.std.specs.Prelude.{Option}
+use Rattle.std.specs.Prelude.{None, Some, IfSome}
 use Rattle.std.specs.Option.{option_map}
-use Rattle.std.specs.List.{filter_map, flat_map, range_with_len, slice_index_or}
-use Rattle.ledger_spec.specs.declared.Kind.{Kind}
+use Rattle.std.specs.List.{filter_map}
 use Rattle.ledger_spec.specs.declared.Place.{Place}
 use Rattle.ledger_spec.specs.declared.ShapeFault.{ShapeFault}
 use Rattle.ledger_spec.specs.declared.Kind.TheVariants.{State, Tx}
-use Rattle.ledger_spec.specs.Bytes.{Bytes, Hash, Half, Lookup, zero_hash}
+use Rattle.ledger_spec.specs.Bytes.{Bytes, Hash, Half, Lookup}
 use Rattle.ledger_spec.specs.Header.{header_bytes, state_root_of, tx_root_of}
 use Rattle.ledger_spec.specs.Spots.{header_in}
 use Rattle.ledger_header.specs.declared.Header.{Header}
 use Rattle.ledger_header.specs.Fields.{fields, Reads}
 use Rattle.ledger_spec.specs.Forms.{Held, inner, leaf}
-use Rattle.ledger_spec.specs.Findings.{Sight, missing, broken, sound, Met, walk, walk_map, Finding, lacks, breaks, finding_at}
+use Rattle.ledger_spec.specs.Findings.{Sight, missing, broken, sound, walk_map, Finding, lacks, breaks}
 use Rattle.ledger_spec.specs.Findings.{missing_of, first_broken, seen}
 use Rattle.tree_laws.specs.Walks.{finding_of}
 use Rattle.rotating_store.specs.Stores.{Store}
-use Rattle.own_forms.specs.Reading.{WasRead}
+use Rattle.own_forms.specs.Reading.{WasRead, IsReadable}
 use Rattle.missing_walk.specs.declared.Found.{Found}
 use Rattle.missing_walk.specs.declared.sight.Sight.{Sight as Look}
 use Rattle.missing_walk.specs.declared.sight.Sight.TheVariants as look
@@ -55,11 +55,11 @@ sees s [] = s
 sees s (f ∷ rest) = sees (note s f) rest
 
 -- a part of the walk: the store was only read, and these findings were noted; no more places are noted than a search may find
-pub record Walks (tells : Bool) (s s' : Store) (f f' : Found) (all : List Finding) : Type 0 where
-  pub read : WasRead tells s s'
+pub record Walks (tells : Bool) (half : Half) (s s' : Store) (f f' : Found) (all : List Finding) : Type 0 where
+  pub read : WasRead tells half s s'
   pub header : f'.header ≡ f.header
   pub few : length f.missing ≤ most_missing → length f'.missing ≤ most_missing
-  pub found : IsTrue tells → shown f' ≡ sees (shown f) all
+  pub found : IsReadable tells half s → shown f' ≡ sees (shown f) all
 
 -- the header that is stored under the target, its fields read by the definitions
 pub record IsHeaderOf (nodes : Lookup) (target : Hash) (head : Option Header) : Type 0 where

@@ -31,9 +31,10 @@ pub(crate) fn walk<H: NodeHash, Sh: Shelf>(
     hash: &Hash32,
     found: &mut Found,
 ) -> Result<(), BackFault>
-    ensures walks { OnOk result (Walks Sh.B.tells store.old store.new found.old found.new
-        (found_below H.half (own_forms H.half (map.get (nodes_of store.old))) kind (64 - length id.now) (hashes_above parent.entry) id.now hash.now)) }
-    ensures read { WasRead Sh.B.tells store.old store.new }
+    ensures walks { OnOk result (Walks Sh.B.tells H.half store.old store.new found.old found.new
+        (found_below H.half (own_forms H.half (map.get (nodes_of store.old))) kind (64 - length id.now)
+        (hashes_above parent.entry) id.now hash.now)) }
+    ensures read { WasRead Sh.B.tells H.half store.old store.new }
     ensures fault { IfErr result (λ e. e ≡ BackFault.Fault → Rose store.old.faults store.new.faults) }
 {
     if found.is_over() {
@@ -65,9 +66,9 @@ fn walk_branches<H: NodeHash, Sh: Shelf>(
     found: &mut Found,
 ) -> Result<(), BackFault>
     requires { length id.now < 64 }
-    ensures walks { OnOk result (Walks Sh.B.tells store.old store.new found.old found.new
+    ensures walks { OnOk result (Walks Sh.B.tells H.half store.old store.new found.old found.new
         (found_in H.half (own_forms H.half (map.get (nodes_of store.old))) kind (63 - length id.now) inner.now.hashes id.now 16)) }
-    ensures read { WasRead Sh.B.tells store.old store.new }
+    ensures read { WasRead Sh.B.tells H.half store.old store.new }
     ensures fault { IfErr result (λ e. e ≡ BackFault.Fault → Rose store.old.faults store.new.faults) }
 {
     for b in 0..16u8 {

@@ -14,7 +14,7 @@ ghost use Rattle.ledger_spec.specs.Header.{header_bytes};
 ghost use Rattle.ledger_spec.specs.Own.{own_forms};
 ghost use Rattle.ledger_header.specs.Fields.{fields, Reads};
 ghost use Rattle.rotating_store.specs.Stores.{nodes_of};
-ghost use Rattle.own_forms.specs.Reading.{WasRead};
+ghost use Rattle.own_forms.specs.Reading.{WasRead, IsReadable};
 ghost use Rattle.missing_walk.specs.Sees.{Finds, IsHeaderOf, Walks, shown, nothing_seen, sees, is_over as has_ended, noted, found_in_maps};
 
 mod descent;
@@ -93,9 +93,10 @@ pub fn whole<H: NodeHash, Sh: Shelf>(
     store: &mut RotStore<Sh>,
     target: &Hash32,
 ) -> Result<Found, SearchFault>
-    ensures found { IsTrue Sh.B.tells → IfOk result (Finds H.half (own_forms H.half (map.get (nodes_of store.old))) target.now) }
+    ensures found { IsReadable Sh.B.tells H.half store.old
+        → IfOk result (Finds H.half (own_forms H.half (map.get (nodes_of store.old))) target.now) }
     ensures size { IfOk result (λ f. length f.missing ≤ 256) }
-    ensures read { WasRead Sh.B.tells store.old store.new }
+    ensures read { WasRead Sh.B.tells H.half store.old store.new }
     ensures fault { IfErr result (λ e. e ≡ SearchFault.Fault → Rose store.old.faults store.new.faults) }
 {
     let mut found = Found::new(alloc);
@@ -112,12 +113,12 @@ fn walk_ledger<H: NodeHash, Sh: Shelf>(
 ) -> Result<(), BackFault>
     requires open { shown found.old ≡ nothing_seen }
     requires first { found.old.header ≡ None }
-    ensures header { IsTrue Sh.B.tells
+    ensures header { IsReadable Sh.B.tells H.half store.old
         → OnOk result (IsHeaderOf (own_forms H.half (map.get (nodes_of store.old))) target.now found.new.header) }
-    ensures found { IsTrue Sh.B.tells → OnOk result
+    ensures found { IsReadable Sh.B.tells H.half store.old → OnOk result
         (shown found.new ≡ sees nothing_seen (findings H.half (own_forms H.half (map.get (nodes_of store.old))) target.now)) }
     ensures few { OnOk result (length found.new.missing ≤ 256) }
-    ensures read { WasRead Sh.B.tells store.old store.new }
+    ensures read { WasRead Sh.B.tells H.half store.old store.new }
     ensures fault { IfErr result (λ e. e ≡ BackFault.Fault → Rose store.old.faults store.new.faults) }
 {
     let Some(form) = own_form::<H, Sh>(alloc, store, target)? else {
@@ -143,9 +144,9 @@ fn walk_maps<H: NodeHash, Sh: Shelf>(
     found: &mut Found,
 ) -> Result<(), BackFault>
     requires { Reads (header_bytes (fields header.now)) header.now }
-    ensures walks { OnOk result (Walks Sh.B.tells store.old store.new found.old found.new
+    ensures walks { OnOk result (Walks Sh.B.tells H.half store.old store.new found.old found.new
         (found_in_maps H.half (own_forms H.half (map.get (nodes_of store.old))) (header_bytes (fields header.now)))) }
-    ensures read { WasRead Sh.B.tells store.old store.new }
+    ensures read { WasRead Sh.B.tells H.half store.old store.new }
     ensures fault { IfErr result (λ e. e ≡ BackFault.Fault → Rose store.old.faults store.new.faults) }
 {
     let root = NodeId::root();

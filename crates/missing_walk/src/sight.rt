@@ -7,7 +7,7 @@ ghost use Rattle.std.specs.FinMap as map;
 ghost use Rattle.run_io.specs.Bytes.{Rose};
 ghost use Rattle.ledger_spec.specs.Own.{own_forms};
 ghost use Rattle.rotating_store.specs.Stores.{nodes_of};
-ghost use Rattle.own_forms.specs.Reading.{WasRead};
+ghost use Rattle.own_forms.specs.Reading.{WasRead, IsReadable};
 ghost use Rattle.half_hash.specs.Prefix.{prefix_of};
 ghost use Rattle.ledger_spec.specs.declared.Kind.TheVariants as kinds;
 ghost use Rattle.ledger_spec.specs.Bytes.{is_nonzero};
@@ -44,10 +44,10 @@ pub(crate) fn look<H: NodeHash, Sh: Shelf>(
     id: &NodeId,
     hash: &Hash32,
 ) -> Result<Sight, BackFault>
-    ensures sight { IsTrue Sh.B.tells → IfOk result (λ s. LooksAs s (sight_of H.half
+    ensures sight { IsReadable Sh.B.tells H.half store.old → IfOk result (λ s. LooksAs s (sight_of H.half
         (λ n. fault_of n (hashes_above parent.entry) kind id.now) (own_forms H.half (map.get (nodes_of store.old)) hash.now))) }
     ensures inner { IfOk result (HasBelow (length id.now)) }
-    ensures read { WasRead Sh.B.tells store.old store.new }
+    ensures read { WasRead Sh.B.tells H.half store.old store.new }
     ensures fault { IfErr result (λ e. e ≡ BackFault.Fault → Rose store.old.faults store.new.faults) }
 {
     match own_form::<H, Sh>(alloc, store, hash)? {

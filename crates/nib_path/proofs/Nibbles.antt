@@ -58,7 +58,8 @@ pub head-more : (ns : List ℕ) (i : ℕ) → i < length ns → i < 64
 head-more ns i h below =
     let at : length (take i ns) ≡ i = omega (arith, length-take i ns) in
     let zeros : 64 - i ≡ suc (64 - (i + 1)) = omega arith in
-    let seam : slice_set (take i ns ++ 0 ∷ replicate (64 - (i + 1)) 0) (length (take i ns)) (slice_index ns i) ≡ take i ns ++ slice_index ns i ∷ replicate (64 - (i + 1)) 0 = set-append_seam (take i ns) 0 _ _ in
+    let seam : slice_set (take i ns ++ 0 ∷ replicate (64 - (i + 1)) 0) (length (take i ns))
+    (slice_index ns i) ≡ take i ns ++ slice_index ns i ∷ replicate (64 - (i + 1)) 0 = set-append_seam (take i ns) 0 _ _ in
     rw (zeros, take_more ns i 0 h, append_assoc) (rw at at seam)
 
 -- a list of nibbles that is some of a list's, and then zeros

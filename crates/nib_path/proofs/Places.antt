@@ -52,7 +52,8 @@ head-even key id d even e =
 pub head-IsNodeId : (id key : List ℕ) (d : ℕ) → d ≤ 64 → length key ≡ 32 → nibbles id ≡ take d (nibbles key) ++ replicate (64 - d) 0
     → IsNodeId (record { depth = d; id = id })
 head-IsNodeId id key d h full e =
-    let whole : length (nibbles id) ≡ length (take d (nibbles key)) + length (replicate {A = ℕ} (64 - d) 0) = ap length e ∙ length-append _ _ in
+    let whole : length (nibbles id) ≡ length (take d (nibbles key)) + length (replicate {A = ℕ} (64 - d) 0) = ap length e
+    ∙ length-append _ _ in
     let zeros : length (replicate {A = ℕ} (64 - d) 0) ≡ 64 - d = length-replicate (64 - d) 0 in
     record {
       shallow = h;

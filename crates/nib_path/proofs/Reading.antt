@@ -86,7 +86,8 @@ read_wire_id-ok bytes p e =
           let full : length bytes ≡ 33 = eqb-true (length bytes) 33 whole in
           let good : read_id (take 32 bytes) (slice_index bytes 32) ≡ Ok p = sym (cond-true _ _ _ whole) ∙ e in
           let parts = read_id-ok (take 32 bytes) (slice_index bytes 32) p (omega (arith, length-take 32 bytes)) good in
-          bytes-split bytes full ∙ ap (λ (r : List ℕ). r ++ slice_index bytes 32 ∷ []) (sym parts.0) ∙ ap (λ n. id_of p ++ n ∷ []) (sym parts.1)
+          bytes-split bytes full ∙ ap (λ (r : List ℕ). r ++ slice_index bytes 32 ∷ []) (sym parts.0)
+          ∙ ap (λ n. id_of p ++ n ∷ []) (sym parts.1)
       | inr short ↦
           let bad : Err (Length (length bytes)) ≡ Ok p = sym (cond-false _ _ _ short) ∙ e in
           absurd (cc)
@@ -98,7 +99,8 @@ read_wire_id-IfOk bytes (Err f) e = tt
 
 length-filled : (p : List ℕ) → IsPath p → length (p ++ replicate (64 - length p) 0) ≡ 2 * 32
 length-filled p h =
-    let both : length (p ++ replicate {A = ℕ} (64 - length p) 0) ≡ length p + length (replicate {A = ℕ} (64 - length p) 0) = length-append p _ in
+    let both : length (p ++ replicate {A = ℕ} (64 - length p) 0) ≡ length p + length (replicate {A = ℕ} (64 - length p) 0) =
+    length-append p _ in
     let zeros : length (replicate {A = ℕ} (64 - length p) 0) ≡ 64 - length p = length-replicate (64 - length p) 0 in
     omega (arith, h.short)
 
@@ -133,7 +135,8 @@ read_id-id_of p h =
     let n = length p in
     let zeros = replicate (64 - n) 0 in
     let rest : drop n (nibbles (id_of p)) ≡ zeros = ap (drop n) (nibbles-id_of p h) ∙ drop_at p zeros n refl in
-    let none : first_set_from n (nibbles (id_of p)) ≡ None = ap (position_from (λ k. nat_lt 0 k) n) rest ∙ position_from-replicate n (64 - n) in
+    let none : first_set_from n (nibbles (id_of p)) ≡ None = ap (position_from (λ k. nat_lt 0 k) n) rest
+    ∙ position_from-replicate n (64 - n) in
     cond-false _ _ _ (le-ltb 64 n h.short)
     ∙ ap (path_unless (take n (nibbles (id_of p)))) none
     ∙ ap (λ (q : List ℕ). Ok q) (path_of-inside_of p h)
@@ -147,7 +150,8 @@ read_wire_id-id_wire p h =
     let id = id_of p in
     let n = length-id_wire p h in
     let front : take 32 (id_wire p) ≡ id = take_at id _ 32 (length-id_of p h) in
-    let last : slice_index (id_wire p) 32 ≡ length p = ap (λ k. slice_index (id_wire p) k) (sym (length-id_of p h)) ∙ get_or_seam id (length p) [] in
+    let last : slice_index (id_wire p) 32 ≡ length p = ap (λ k. slice_index (id_wire p) k) (sym (length-id_of p h))
+    ∙ get_or_seam id (length p) [] in
     cond-true _ _ _ (eq-eqb (length (id_wire p)) 33 n)
     ∙ ap (λ (r : List ℕ). read_id r (slice_index (id_wire p) 32)) front
     ∙ ap (read_id id) last

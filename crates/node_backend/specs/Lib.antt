@@ -1,3 +1,4 @@
+pub mod Order
 pub mod Counts
 pub mod Numbers
 pub mod Doubts

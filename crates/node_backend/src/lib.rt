@@ -4,6 +4,7 @@
 mod back;
 mod memory;
 mod shelf;
+mod table;
 
 pub use back::{BackFault, Backend, Shelf};
 pub use memory::MemBackend;
@@ -37,6 +38,19 @@ mod tests {
         assert_eq!(rt; backend.next(alloc, Some(&key))?, None);
         assert_eq!(rt; backend.gets(), 1);
         assert_eq!(rt; backend.faults(), 0);
+        Ok(())
+    }
+
+    #[test]
+    fn the_next_hash_comes_after_the_last(rt: HostRuntime) -> Result<(), Fail> {
+        let alloc = rt.alloc();
+        let (low, high) = (hash(1), hash(2));
+        let mut backend = MemBackend::new(alloc, Vec::new(alloc));
+        backend.put(alloc, &high, b"high")?;
+        backend.put(alloc, &low, b"low")?;
+        assert_eq!(rt; backend.next(alloc, None)?, Some(low));
+        assert_eq!(rt; backend.next(alloc, Some(&low))?, Some(high));
+        assert_eq!(rt; backend.next(alloc, Some(&high))?, None);
         Ok(())
     }
 

@@ -2,14 +2,14 @@
 ghost use Rattle.std.specs.Prelude.{◌≡◌, ◌≢◌, ◌≤◌, ◌⊎◌, ℕ, Bool, IsTrue, true, None, IfOk, OnOk, OnErr, MatchBool, if◌then◌else◌};
 ghost use Rattle.std.specs.FinMap as map;
 ghost use Rattle.std.specs.Option.{option_copied};
-ghost use Rattle.node_table.specs.Order.{IsNext};
+ghost use Rattle.node_backend.specs.Order.{IsNext};
 ghost use Rattle.run_io.specs.Bytes.{Rose};
 ghost use Rattle.node_backend.specs.Counts.{held_sum};
 ghost use Rattle.node_backend.specs.Calls.{fails_next, faults_after};
 
+use crate::table::NodeTable;
 use crate::{BackFault, Backend};
 use half_hash::{Blob, Hash32};
-use node_table::NodeTable;
 use std::alloc::Global;
 
 /// A backend in memory. It fails exactly in the calls with the numbers that it is given, from 1.

@@ -10,8 +10,8 @@ ghost use Rattle.node_backend.specs.Calls.{fails_next, faults_after, plan_at};
 ghost use Rattle.node_backend.specs.Shelves.{refuses_fresh, Called};
 
 use crate::memory::call_fails;
+use crate::table::NodeTable;
 use crate::{BackFault, MemBackend, Shelf};
-use node_table::NodeTable;
 use std::alloc::{AllocError, Global};
 use std::marker::Model;
 

@@ -25,7 +25,8 @@ module _ {S : Type 0} (state : Nodes → SetOf → S) where
   -- with one form more
   pub with_one : (half : Half) (s : Store) (form : Bytes)
       → of_store (with_form half s form)
-      ≡ (if is_some (map.get (nodes_of s) (half form)) then of_store s else state (map.insert (nodes_of s) (half form) form) (set.insert (born_of s) (half form)))
+      ≡ (if is_some (map.get (nodes_of s) (half form)) then of_store s else state (map.insert (nodes_of s) (half form) form)
+      (set.insert (born_of s) (half form)))
   with_one half s form = new_form half s form (map.get (nodes_of s) (half form)) refl
 
   -- with forms more, by the state's own words for that, which read as those of a store

@@ -2,3 +2,4 @@ pub mod Walking
 pub mod Storing
 pub mod Kept
 pub mod Wanted
+pub mod Notes

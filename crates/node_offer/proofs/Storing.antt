@@ -1,5 +1,6 @@
 -- What is stored for an outcome, and what is left where there is none.
-use Rattle.std.proofs.Common.{◌≡◌, ◌≢◌, inl, inr, ℕ, true, false, is_some, if◌then◌else◌, nat_eq, List, [], ◌∷◌, Option, Some, None, Result, Ok, Err}
+use Rattle.std.proofs.Common.{◌≡◌, ◌≢◌, inl, inr, ℕ, true, false, is_some, if◌then◌else◌, nat_eq, List, [], ◌∷◌, Option, Some, None, Result}
+use Rattle.std.proofs.Common.{Ok, Err}
 use Rattle.std.proofs.Common.{IfErr, IsErrAnd, refl, sym, ap, ◌∙◌, subst}
 use Rattle.std.proofs.lemmas.Bool.{and_parts, eqb-true}
 use Rattle.std.specs.FinMap as map
@@ -29,14 +30,17 @@ same_is (x ∷ xs) (y ∷ ys) e =
     ap (λ n. n ∷ xs) (eqb-true x y both.0) ∙ ap (λ l. y ∷ l) (same_is xs ys both.1)
 
 not_same : (a b : Bytes) → a ≢ b → same_bytes a b ≡ false
-not_same a b ne = elim (same_bytes a b) as (λ r. same_bytes a b ≡ r → r ≡ false) [ true ↦ λ e. absurd (ne (same_is a b e)) | false ↦ λ e. refl ] refl
+not_same a b ne = elim (same_bytes a b) as (λ r. same_bytes a b ≡ r → r ≡ false)
+    [ true ↦ λ e. absurd (ne (same_is a b e)) | false ↦ λ e. refl ] refl
 
 -- the outcome where the node has the wanted hash
 at_wanted : (half : Half) (nodes : Nodes) (kind : Kind) (path : List ℕ) (n : Held) (h : Hash) (parent : Option (List Hash)) (form : Bytes)
     → form ≡ form_of n → half form ≡ h
-    → spot_outcome half (map.get nodes) kind path n (way.wanted h parent) ≡ node_given (fault_of n parent kind path) h form (map.get nodes h)
+    → spot_outcome half (map.get nodes) kind path n (way.wanted h parent) ≡ node_given (fault_of n parent kind path) h form
+    (map.get nodes h)
 at_wanted half nodes kind path n h parent form is own =
-    let same : same_bytes (hash_of half n) h ≡ true = ap (λ f. same_bytes (half f) h) (sym is) ∙ ap (λ x. same_bytes x h) own ∙ same_self h in
+    let same : same_bytes (hash_of half n) h ≡ true = ap (λ f. same_bytes (half f) h) (sym is) ∙ ap (λ x. same_bytes x h) own
+    ∙ same_self h in
     rw same (ap (λ f. node_given (fault_of n parent kind path) h f (map.get nodes h)) (sym is))
 
 given_clash : (fault : Option ShapeFault) (h : Hash) (form old : Bytes) → old ≢ form
@@ -59,21 +63,26 @@ one_form half s s' h form own none counted =
 -- a node that wasn't there is what the outcome stores
 stored_at : (half : Half) (s s' : Store) (kind : Kind) (path : List ℕ) (n : Held) (h : Hash) (parent : Option (List Hash)) (form : Bytes)
     → form ≡ form_of n → half form ≡ h → map.get (nodes_of s) h ≡ None
-    → Counted (with_pair s h form) s' → HasForms half (stored_by (Ok n) (spot_outcome half (map.get (nodes_of s)) kind path n (way.wanted h parent))) s s'
+    → Counted (with_pair s h form) s'
+    → HasForms half (stored_by (Ok n) (spot_outcome half (map.get (nodes_of s)) kind path n (way.wanted h parent))) s s'
 stored_at half s s' kind path n h parent form is own none counted =
     let forms : stored_by (Ok n) (spot_outcome half (map.get (nodes_of s)) kind path n (way.wanted h parent)) ≡ form ∷ [] =
-    ap (stored_by (Ok n)) (at_wanted half (nodes_of s) kind path n h parent form is own ∙ ap (node_given (fault_of n parent kind path) h form) none)
+    ap (stored_by (Ok n)) (at_wanted half (nodes_of s) kind path n h parent form is own
+    ∙ ap (node_given (fault_of n parent kind path) h form) none)
     ∙ given_new (fault_of n parent kind path) n h form is in
     subst (λ fs. HasForms half fs s s') (sym forms) (one_form half s s' h form own none counted)
 
 -- the store refused a node's form
-pub refused_at : (half : Half) (s s' : Store) (kind : Kind) (path : List ℕ) (n : Held) (h : Hash) (parent : Option (List Hash)) (form : Bytes) (e : OfferFault)
+pub refused_at : (half : Half) (s s' : Store) (kind : Kind) (path : List ℕ) (n : Held) (h : Hash) (parent : Option (List Hash))
+    (form : Bytes) (e : OfferFault)
     → form ≡ form_of n → Stores half s h form (Err e) s'
-    → Refuses half (spot_outcome half (map.get (nodes_of s)) kind path n (way.wanted h parent)) (stored_by (Ok n) (spot_outcome half (map.get (nodes_of s)) kind path n (way.wanted h parent))) s e s'
+    → Refuses half (spot_outcome half (map.get (nodes_of s)) kind path n (way.wanted h parent))
+    (stored_by (Ok n) (spot_outcome half (map.get (nodes_of s)) kind path n (way.wanted h parent))) s e s'
 refused_at half s s' kind path n h parent form (faults.Clash hash old new) is p = (
   at_wanted half (nodes_of s) kind path n h parent form is p.0 ∙ ap (node_given (fault_of n parent kind path) h form) p.3
       ∙ given_clash (fault_of n parent kind path) h form old p.4
-      ∙ ap (λ k. Err (record { hash = k; old = old; new = form })) (sym p.1) ∙ ap (λ f. Err (record { hash = hash; old = old; new = f })) (sym p.2),
+      ∙ ap (λ k. Err (record { hash = k; old = old; new = form })) (sym p.1)
+      ∙ ap (λ f. Err (record { hash = hash; old = old; new = f })) (sym p.2),
   p.5,
 )
 refused_at half s s' kind path n h parent form faults.Fault is (own, inl same) = inl same
@@ -89,29 +98,34 @@ handed_on P (Ok y) x is p = tt
 handed_on P (Err e) x is p = subst P (sym is) p
 
 -- the outcome, by what the place is among the forms that are held
-pub by_place : (half : Half) (held stored : Nodes) (t : Hash) (kind : Kind) (path : List ℕ) (n : Held) (spot : way.Spot) (wire : Result Held ℕ) → stored ≡ held → AreStored half (map.get held)
+pub by_place : (half : Half) (held stored : Nodes) (t : Hash) (kind : Kind) (path : List ℕ) (n : Held) (spot : way.Spot)
+    (wire : Result Held ℕ) → stored ≡ held → AreStored half (map.get held)
     → spot ≡ spot_of (own_forms half (map.get held)) t kind path → wire ≡ Ok n
     → wire_outcome half (map.get held) t kind path wire ≡ spot_outcome half (map.get stored) kind path n spot
 by_place half held stored t kind path n spot wire same all at read =
     ap (wire_outcome half (map.get held) t kind path) read
-    ∙ ap (λ p. spot_outcome half (map.get held) kind path n p) (sym (at ∙ ap (λ l. spot_of l t kind path) (all_own half (map.get held) all)))
+    ∙ ap (λ p. spot_outcome half (map.get held) kind path n p)
+    (sym (at ∙ ap (λ l. spot_of l t kind path) (all_own half (map.get held) all)))
     ∙ ap (λ m. spot_outcome half (map.get m) kind path n spot) (sym same)
 
 -- what is stored doesn't hang on the counts
-with_counts : (half : Half) (s : Store) (f g : ℕ) (forms : List Bytes)
-    → with_forms half (record s { faults = f; gets = g }) forms ≡ record (with_forms half s forms) { faults = f; gets = g }
-with_counts half s f g [] = refl
-with_counts half s f g (form ∷ forms) =
-    elim (is_some (map.get (nodes_of s) (half form))) as (λ b. with_forms half (if b then record s { faults = f; gets = g } else with_pair (record s { faults = f; gets = g }) (half form) form) forms
-    ≡ record (with_forms half (if b then s else with_pair s (half form) form) forms) { faults = f; gets = g }) [
-      | true ↦ with_counts half s f g forms
-      | false ↦ with_counts half (with_pair s (half form) form) f g forms
+with_counts : (half : Half) (s : Store) (f g : ℕ) (n : List Hash) (forms : List Bytes)
+    → with_forms half (record s { faults = f; gets = g; noted = n }) forms ≡ record (with_forms half s forms) { faults = f; gets = g; noted = n }
+with_counts half s f g n [] = refl
+with_counts half s f g n (form ∷ forms) =
+    elim (is_some (map.get (nodes_of s) (half form))) as
+    (λ b. with_forms half
+    (if b then record s { faults = f; gets = g; noted = n } else with_pair (record s { faults = f; gets = g; noted = n }) (half form) form) forms
+    ≡ record (with_forms half (if b then s else with_pair s (half form) form) forms) { faults = f; gets = g; noted = n }) [
+      | true ↦ with_counts half s f g n forms
+      | false ↦ with_counts half (with_pair s (half form) form) f g n forms
     ]
 
-counted_forms : (half : Half) (s0 s1 s2 : Store) (forms : List Bytes) → Counted s0 s1 → HasForms half forms s1 s2
+pub counted_forms : (half : Half) (s0 s1 s2 : Store) (forms : List Bytes) → Counted s0 s1 → HasForms half forms s1 s2
     → HasForms half forms s0 s2
 counted_forms half s0 s1 s2 forms read has =
-    has ∙ ap (λ (x : Store). record x { faults = s2.faults; gets = s2.gets }) (ap (λ x. with_forms half x forms) read ∙ with_counts half s0 s1.faults s1.gets forms)
+    has ∙ ap (λ (x : Store). record x { faults = s2.faults; gets = s2.gets; noted = s2.noted })
+    (ap (λ x. with_forms half x forms) read ∙ with_counts half s0 s1.faults s1.gets s1.noted forms)
 
 refuses_by : (half : Half) (out out' : Result Offered Clash) (forms forms' : List Bytes) (s0 s1 s2 : Store) (e : OfferFault) → out' ≡ out
     → forms' ≡ forms → Counted s0 s1
@@ -125,10 +139,17 @@ refuses_by half out out' forms forms' s0 s1 s2 faults.Memory o f read (inr has) 
     inr (counted_forms half s0 s1 s2 forms read (subst (λ fs. HasForms half fs s1 s2) f has))
 
 -- an offer whose node was refused at its place
-pub refused_there : (half : Half) (s0 s1 s2 : Store) (t : Hash) (kind : Kind) (path : List ℕ) (n : Held) (spot : way.Spot) (wire : Result Held ℕ) (e : OfferFault)
-    → Counted s0 s1 → AreStored half (map.get (nodes_of s0)) → spot ≡ spot_of (own_forms half (map.get (nodes_of s0))) t kind path → wire ≡ Ok n
-    → Refuses half (spot_outcome half (map.get (nodes_of s1)) kind path n spot) (stored_by (Ok n) (spot_outcome half (map.get (nodes_of s1)) kind path n spot)) s1 e s2
-    → Refuses half (wire_outcome half (map.get (nodes_of s0)) t kind path wire) (stored_by wire (wire_outcome half (map.get (nodes_of s0)) t kind path wire)) s0 e s2
+pub refused_there : (half : Half) (s0 s1 s2 : Store) (t : Hash) (kind : Kind) (path : List ℕ) (n : Held) (spot : way.Spot)
+    (wire : Result Held ℕ) (e : OfferFault)
+    → Counted s0 s1 → AreStored half (map.get (nodes_of s0)) → spot ≡ spot_of (own_forms half (map.get (nodes_of s0))) t kind path
+    → wire ≡ Ok n
+    → Refuses half (spot_outcome half (map.get (nodes_of s1)) kind path n spot)
+    (stored_by (Ok n) (spot_outcome half (map.get (nodes_of s1)) kind path n spot)) s1 e s2
+    → Refuses half (wire_outcome half (map.get (nodes_of s0)) t kind path wire)
+    (stored_by wire (wire_outcome half (map.get (nodes_of s0)) t kind path wire)) s0 e s2
 refused_there half s0 s1 s2 t kind path n spot wire e read all at wired refuses =
-    let out : wire_outcome half (map.get (nodes_of s0)) t kind path wire ≡ spot_outcome half (map.get (nodes_of s1)) kind path n spot = by_place half (nodes_of s0) (nodes_of s1) t kind path n spot wire (ap nodes_of read) all at wired in
-    refuses_by half _ _ _ _ s0 s1 s2 e (sym out) (ap (λ w. stored_by w (spot_outcome half (map.get (nodes_of s1)) kind path n spot)) (sym wired) ∙ ap (stored_by wire) (sym out)) read refuses
+    let out : wire_outcome half (map.get (nodes_of s0)) t kind path wire ≡ spot_outcome half (map.get (nodes_of s1)) kind path n spot =
+    by_place half (nodes_of s0) (nodes_of s1) t kind path n spot wire (ap nodes_of read) all at wired in
+    refuses_by half _ _ _ _ s0 s1 s2 e (sym out)
+    (ap (λ w. stored_by w (spot_outcome half (map.get (nodes_of s1)) kind path n spot)) (sym wired) ∙ ap (stored_by wire) (sym out))
+    read refuses

@@ -19,7 +19,8 @@ use Rattle.node_offer.specs.Ways.{spot, step_down, step_of}
 id_nibbles : (path : List ℕ) → IsPath path → nibbles (id_of path) ≡ path ++ replicate (64 - length path) 0
 id_nibbles path is =
     let zeros : List ℕ = replicate (64 - length path) 0 in
-    nibbles-packed 32 (path ++ zeros) (omega (arith, length-append path zeros, length-replicate {A = ℕ} (64 - length path) 0, is.short)) (list_all-append_zeros path (64 - length path) is.nibbles_below)
+    nibbles-packed 32 (path ++ zeros) (omega (arith, length-append path zeros, length-replicate {A = ℕ} (64 - length path) 0, is.short))
+    (list_all-append_zeros path (64 - length path) is.nibbles_below)
 
 nibble_is : (path : List ℕ) (d : ℕ) → IsPath path → d < length path → slice_index (nibbles (id_of path)) d ≡ get_or path d 0
 nibble_is path d is lt = ap (λ ns. get_or ns d 0) (id_nibbles path is) ∙ get_or_append_left path (replicate (64 - length path) 0) 0 d lt
@@ -28,21 +29,29 @@ at_is : (path : List ℕ) (d : ℕ) → IsPath path → d < length path → take
 at_is path d is lt = ap (take d) (id_nibbles path is) ∙ take-append-le d path (replicate (64 - length path) 0) (omega arith)
 
 -- one level down
-walk_on : (nodes : Lookup) (path : List ℕ) (d : ℕ) (parent : Option (List Hash)) (h : Hash) (at : List ℕ) (r : Result Inner Spot) (total : way.Spot) → d < length path → at ≡ take d path
-    → ((on : List Hash → way.Spot) → step_of r on ≡ step_down at on h (nodes h)) → spot_from nodes (take d path) parent h (drop d path) ≡ total
-    → step_of r (λ hashes. spot_from nodes (take (d + 1) path) (Some hashes) (slice_index_or hashes (get_or path d 0) zero_hash) (drop (d + 1) path)) ≡ total
+walk_on : (nodes : Lookup) (path : List ℕ) (d : ℕ) (parent : Option (List Hash)) (h : Hash) (at : List ℕ) (r : Result Inner Spot)
+    (total : way.Spot) → d < length path → at ≡ take d path
+    → ((on : List Hash → way.Spot) → step_of r on ≡ step_down at on h (nodes h))
+    → spot_from nodes (take d path) parent h (drop d path) ≡ total
+    → step_of r (λ hashes. spot_from nodes (take (d + 1) path) (Some hashes) (slice_index_or hashes (get_or path d 0) zero_hash)
+    (drop (d + 1) path)) ≡ total
 walk_on nodes path d parent h at r total lt is step so_far =
-    let on : List Hash → way.Spot = λ hashes. spot_from nodes (take d path ++ get_or path d 0 ∷ []) (Some hashes) (slice_index_or hashes (get_or path d 0) zero_hash) (drop (d + 1) path) in
-    ap (λ p. step_of r (λ hashes. spot_from nodes p (Some hashes) (slice_index_or hashes (get_or path d 0) zero_hash) (drop (d + 1) path))) (take_more path d 0 lt)
+    let on : List Hash → way.Spot = λ hashes. spot_from nodes (take d path ++ get_or path d 0 ∷ []) (Some hashes)
+    (slice_index_or hashes (get_or path d 0) zero_hash) (drop (d + 1) path) in
+    ap (λ p. step_of r (λ hashes. spot_from nodes p (Some hashes) (slice_index_or hashes (get_or path d 0) zero_hash)
+    (drop (d + 1) path))) (take_more path d 0 lt)
     ∙ step on
     ∙ ap (λ a. step_down a on h (nodes h)) is
     ∙ sym (ap (λ x. spot_from nodes (take d path) parent h x) (drop_more path d 0 lt))
     ∙ so_far
 
 -- on through the inner node at a place on the way
-pub goes_on : (nodes : Lookup) (path key : List ℕ) (d n : ℕ) (parent : Option (List Hash)) (h next : Hash) (at : List ℕ) (i : Inner) (total : way.Spot) → IsPath path → d < length path → key ≡ id_of path → at ≡ take d (nibbles key)
-    → n ≡ nibble_of key d → next ≡ slice_index_or i.hashes n zero_hash → ((on : List Hash → way.Spot) → step_of (Ok i) on ≡ step_down at on h (nodes h))
-    → spot_from nodes (take d path) parent h (drop d path) ≡ total → spot_from nodes (take (d + 1) path) (Some i.hashes) next (drop (d + 1) path) ≡ total
+pub goes_on : (nodes : Lookup) (path key : List ℕ) (d n : ℕ) (parent : Option (List Hash)) (h next : Hash) (at : List ℕ) (i : Inner)
+    (total : way.Spot) → IsPath path → d < length path → key ≡ id_of path → at ≡ take d (nibbles key)
+    → n ≡ nibble_of key d → next ≡ slice_index_or i.hashes n zero_hash
+    → ((on : List Hash → way.Spot) → step_of (Ok i) on ≡ step_down at on h (nodes h))
+    → spot_from nodes (take d path) parent h (drop d path) ≡ total
+    → spot_from nodes (take (d + 1) path) (Some i.hashes) next (drop (d + 1) path) ≡ total
 goes_on nodes path key d n parent h next at i total is lt id before nibble branch step so_far =
     let branch_is : next ≡ slice_index_or i.hashes (get_or path d 0) zero_hash =
     branch ∙ ap (λ m. slice_index_or i.hashes m zero_hash) (nibble ∙ ap (λ k. nibble_of k d) id ∙ nibble_is path d is lt)
@@ -53,7 +62,8 @@ goes_on nodes path key d n parent h next at i total is lt id before nibble branc
 -- what stands in the way there
 pub ends : (nodes : Lookup) (path key : List ℕ) (d : ℕ) (parent : Option (List Hash)) (h : Hash) (at : List ℕ) (s : Spot) (total : way.Spot)
     → IsPath path → d < length path → key ≡ id_of path → at ≡ take d (nibbles key)
-    → ((on : List Hash → way.Spot) → step_of (Err s) on ≡ step_down at on h (nodes h)) → spot_from nodes (take d path) parent h (drop d path) ≡ total → spot s ≡ total
+    → ((on : List Hash → way.Spot) → step_of (Err s) on ≡ step_down at on h (nodes h))
+    → spot_from nodes (take d path) parent h (drop d path) ≡ total → spot s ≡ total
 ends nodes path key d parent h at s total is lt id before step so_far =
     walk_on nodes path d parent h at (Err s) total lt (before ∙ ap (λ k. take d (nibbles k)) id ∙ at_is path d is lt) step so_far
 

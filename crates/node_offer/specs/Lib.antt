@@ -1,4 +1,3 @@
-pub mod Bad
 pub mod Faults
 pub mod Stored
 pub mod Ways

@@ -6,7 +6,7 @@ ghost use Rattle.ledger_spec.specs.Forms.{Held, hash_of};
 ghost use Rattle.ledger_spec.specs.Offers.{node_outcome};
 ghost use Rattle.ledger_spec.specs.Spots.{spot_of, wanted};
 ghost use Rattle.ledger_spec.specs.Wire.{read_wire};
-ghost use Rattle.node_offer.specs.Bad.{is_bad};
+ghost use Rattle.ledger_spec.specs.Acquiring.{is_bad};
 
 /// A node with the hash that is wanted at its place never charges its peer.
 pub fn a_wanted_node_is_never_bad()

@@ -1,7 +1,9 @@
 //! A node that a peer offers for a place.
-ghost use Rattle.std.specs.Prelude.{◌≡◌, IsTrue, IfErr, IfOk, Ok};
+ghost use Rattle.std.specs.Prelude.{◌≡◌, IsTrue, IfErr, IfOk, Ok, is_some};
 ghost use Rattle.std.specs.FinMap as map;
 ghost use Rattle.std.specs.Option.{option_map};
+ghost use Rattle.ledger_spec.specs.Findings.{held_of};
+ghost use Rattle.ledger_spec.specs.Forms.{form_of};
 ghost use Rattle.ledger_spec.specs.Rules.{fault_of, rule_number};
 ghost use Rattle.ledger_spec.specs.Spots as way;
 ghost use Rattle.ledger_spec.specs.Wire.{read_wire};
@@ -10,14 +12,14 @@ ghost use Rattle.ledger_spec.specs.Offers.{node_outcome, spot_outcome, stored_by
 ghost use Rattle.run_io.specs.Bytes.{Rose};
 ghost use Rattle.ledger_spec.specs.Own.{AreStored};
 ghost use Rattle.rotating_store.specs.Stores.{nodes_of};
-ghost use Rattle.own_forms.specs.Reading.{IsLater};
+ghost use Rattle.own_forms.specs.Reading.{IsLater, IsReadable};
 ghost use Rattle.node_offer.specs.Stored.{HasForms, Refuses};
 ghost use Rattle.node_offer.specs.Ways.{hashes_of_parent, offered_as, spot as spot_means};
 
 use crate::fault::OfferFault;
 use crate::spots::{Spot, place};
 use crate::store::{Stored, put};
-use half_hash::{Hash32, NodeHash};
+use half_hash::{Hash32, NodeHash, known_half};
 use ledger_spec::Offered;
 use nib_path::NodeId;
 use node_backend::Shelf;
@@ -49,6 +51,7 @@ pub fn offer<H: NodeHash, Sh: Shelf>(
         → IfErr result (λ e. Refuses H.half (node_outcome H.half (map.get (nodes_of store.old)) target.now kind id.now blob.now)
         (stored_by (read_wire H.half blob.now) (node_outcome H.half (map.get (nodes_of store.old)) target.now kind id.now blob.now))
         store.old e store.new) }
+    ensures notes { IsReadable Sh.B.tells H.half store.old → IsReadable Sh.B.tells H.half store.new }
     ensures later { IsLater store.old store.new }
     ensures fault { IfErr result (λ e. e ≡ OfferFault.Fault → Rose store.old.faults store.new.faults) }
 {
@@ -58,6 +61,7 @@ pub fn offer<H: NodeHash, Sh: Shelf>(
         Err(fault) => return Ok(Offered::BadWire(wire_code(&fault))),
     };
     let spot = place::<H, Sh>(alloc, store, target, kind, id)?;
+    known_half::<H>();
     Ok(offer_to::<H, Sh>(alloc, store, &node, spot, kind, id)?)
 }
 
@@ -77,6 +81,8 @@ fn offer_to<H: NodeHash, Sh: Shelf>(
         (spot_outcome H.half (map.get (nodes_of store.old)) kind id.now (held node.now) (spot_means spot))
         (stored_by (Ok (held node.now)) (spot_outcome H.half (map.get (nodes_of store.old)) kind id.now (held node.now) (spot_means spot)))
         store.old e store.new) }
+    ensures notes { IsTrue (is_some (held_of H.half (form_of (held node.now)))) → IsReadable Sh.B.tells H.half store.old
+        → IsReadable Sh.B.tells H.half store.new }
     ensures later { IsLater store.old store.new }
     ensures fault { IfErr result (λ e. e ≡ OfferFault.Fault → Rose store.old.faults store.new.faults) }
 {
@@ -102,13 +108,16 @@ fn offer_at<H: NodeHash, Sh: Shelf>(
     id: &NodeId,
 ) -> Result<Offered, OfferFault>
     ensures outcome { IsTrue Sh.B.tells → IfOk result (λ o.
-        spot_outcome H.half (map.get (nodes_of store.old)) kind id.now (held node.now) (way.wanted wanted.now (hashes_of_parent parent)) ≡ Ok o) }
+        spot_outcome H.half (map.get (nodes_of store.old)) kind id.now (held node.now)
+        (way.wanted wanted.now (hashes_of_parent parent)) ≡ Ok o) }
     ensures stored { IsTrue Sh.B.tells → IfOk result (λ o. HasForms H.half (stored_by (Ok (held node.now)) (Ok o)) store.old store.new) }
     ensures err { IsTrue Sh.B.tells → IfErr result (λ e. Refuses H.half
         (spot_outcome H.half (map.get (nodes_of store.old)) kind id.now (held node.now) (way.wanted wanted.now (hashes_of_parent parent)))
         (stored_by (Ok (held node.now))
         (spot_outcome H.half (map.get (nodes_of store.old)) kind id.now (held node.now) (way.wanted wanted.now (hashes_of_parent parent))))
         store.old e store.new) }
+    ensures notes { IsTrue (is_some (held_of H.half (form_of (held node.now)))) → IsReadable Sh.B.tells H.half store.old
+        → IsReadable Sh.B.tells H.half store.new }
     ensures later { IsLater store.old store.new }
     ensures fault { IfErr result (λ e. e ≡ OfferFault.Fault → Rose store.old.faults store.new.faults) }
 {

@@ -1,5 +1,5 @@
 //! The way from a ledger's header to a place in one of its maps.
-ghost use Rattle.std.specs.Prelude.{◌≡◌, [], None, List, IsTrue, IfOk, IfErr};
+ghost use Rattle.std.specs.Prelude.{◌≡◌, [], None, List, IfOk, IfErr};
 ghost use Rattle.std.specs.FinMap as map;
 ghost use Rattle.std.specs.Option.{option_map, option_map_or};
 ghost use Rattle.ledger_spec.specs.Forms.{header_of, inner_of as inner_form};
@@ -9,7 +9,7 @@ ghost use Rattle.ledger_spec.specs.Spots.{header_in, header_root, spot_from, spo
 ghost use Rattle.run_io.specs.Bytes.{Rose};
 ghost use Rattle.ledger_spec.specs.Own.{own_forms};
 ghost use Rattle.rotating_store.specs.Stores.{nodes_of};
-ghost use Rattle.own_forms.specs.Reading.{WasRead};
+ghost use Rattle.own_forms.specs.Reading.{WasRead, IsReadable};
 ghost use Rattle.node_offer.specs.Stored.{IsPlain};
 ghost use Rattle.node_offer.specs.Ways.{spot, step_down, step_of};
 
@@ -47,9 +47,9 @@ pub fn place<H: NodeHash, Sh: Shelf>(
     kind: Kind,
     id: &NodeId,
 ) -> Result<Spot, OfferFault>
-    ensures spot { IsTrue Sh.B.tells
+    ensures spot { IsReadable Sh.B.tells H.half store.old
         → IfOk result (λ s. spot s ≡ spot_of (own_forms H.half (map.get (nodes_of store.old))) target.now kind id.now) }
-    ensures read { WasRead Sh.B.tells store.old store.new }
+    ensures read { WasRead Sh.B.tells H.half store.old store.new }
     ensures fault { IfErr result (λ e. e ≡ OfferFault.Fault → Rose store.old.faults store.new.faults) }
     ensures kind { IfErr result IsPlain }
 {
@@ -67,9 +67,9 @@ fn root_in<H: NodeHash, Sh: Shelf>(
     target: &Hash32,
     kind: Kind,
 ) -> Result<Option<Hash32>, BackFault>
-    ensures root { IsTrue Sh.B.tells → IfOk result (λ root. root
+    ensures root { IsReadable Sh.B.tells H.half store.old → IfOk result (λ root. root
         ≡ option_map (header_root kind) (header_in (own_forms H.half (map.get (nodes_of store.old))) target.now)) }
-    ensures read { WasRead Sh.B.tells store.old store.new }
+    ensures read { WasRead Sh.B.tells H.half store.old store.new }
     ensures fault { IfErr result (λ e. e ≡ BackFault.Fault → Rose store.old.faults store.new.faults) }
 {
     match own_form::<H, Sh>(alloc, store, target)? {
@@ -97,9 +97,9 @@ fn walk<H: NodeHash, Sh: Shelf>(
     root: Hash32,
     id: &NodeId,
 ) -> Result<Spot, BackFault>
-    ensures spot { IsTrue Sh.B.tells
+    ensures spot { IsReadable Sh.B.tells H.half store.old
         → IfOk result (λ s. spot s ≡ spot_from (own_forms H.half (map.get (nodes_of store.old))) [] None root id.now) }
-    ensures read { WasRead Sh.B.tells store.old store.new }
+    ensures read { WasRead Sh.B.tells H.half store.old store.new }
     ensures fault { IfErr result (λ e. e ≡ BackFault.Fault → Rose store.old.faults store.new.faults) }
 {
     id.known();
@@ -129,9 +129,9 @@ fn step<H: NodeHash, Sh: Shelf>(
     hash: &Hash32,
     at: NodeId,
 ) -> Result<Result<Inner, Spot>, BackFault>
-    ensures step { IsTrue Sh.B.tells → IfOk result (λ s. (on : List Hash → way.Spot)
+    ensures step { IsReadable Sh.B.tells H.half store.old → IfOk result (λ s. (on : List Hash → way.Spot)
         → step_of s on ≡ step_down at on hash.now (own_forms H.half (map.get (nodes_of store.old)) hash.now)) }
-    ensures read { WasRead Sh.B.tells store.old store.new }
+    ensures read { WasRead Sh.B.tells H.half store.old store.new }
     ensures fault { IfErr result (λ e. e ≡ BackFault.Fault → Rose store.old.faults store.new.faults) }
 {
     if hash.is_zero() {

@@ -1,5 +1,6 @@
 -- Whether bytes are a leaf's form, by the tests that the code makes of them.
-use Rattle.std.proofs.Common.{◌≡◌, ◌+◌, ◌-◌, ◌&&◌, Bool, true, false, is_some, if◌then◌else◌, nat_eq, nat_le, length, take, drop, Some, None, refl}
+use Rattle.std.proofs.Common.{◌≡◌, ◌+◌, ◌-◌, ◌&&◌, Bool, true, false, is_some, if◌then◌else◌, nat_eq, nat_le, length, take, drop, Some}
+use Rattle.std.proofs.Common.{None, refl}
 use Rattle.std.proofs.Common.{ap, ◌∙◌}
 use Rattle.std.specs.List.{starts_with}
 use Rattle.ledger_spec.specs.declared.Kind.{Kind}
@@ -26,11 +27,13 @@ pub keyed : (kind : Kind) (b key : Bytes) (out : Bool) → true ≡ is_keyed kin
     → out ≡ is_some (keyed_leaf_of kind b)
 unfolding keyed_leaf_of
 keyed kind b key out fits place e =
-    e ∙ ap is_nonzero place ∙ passed (is_keyed kind b) (is_nonzero (drop (length b - 32) b)) (leaf kind (drop (length b - 32) b) (drop 4 (take (length b - 32) b))) fits
+    e ∙ ap is_nonzero place ∙ passed (is_keyed kind b) (is_nonzero (drop (length b - 32) b))
+    (leaf kind (drop (length b - 32) b) (drop 4 (take (length b - 32) b))) fits
 
 pub not_keyed : (kind : Kind) (b : Bytes) → false ≡ is_keyed kind b → false ≡ is_some (keyed_leaf_of kind b)
 unfolding keyed_leaf_of
-not_keyed kind b fits = failed (is_keyed kind b) (is_nonzero (drop (length b - 32) b)) (leaf kind (drop (length b - 32) b) (drop 4 (take (length b - 32) b))) fits
+not_keyed kind b fits = failed (is_keyed kind b) (is_nonzero (drop (length b - 32) b))
+    (leaf kind (drop (length b - 32) b) (drop 4 (take (length b - 32) b))) fits
 
 pub bare : (half : Half) (b key : Bytes) (out : Bool) → true ≡ is_bare b → key ≡ half b → out ≡ is_nonzero key
     → out ≡ is_some (bare_leaf_of half b)

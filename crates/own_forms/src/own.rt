@@ -1,11 +1,11 @@
 //! The form that is held under a hash.
-ghost use Rattle.std.specs.Prelude.{◌≡◌, ◌≤◌, ◌+◌, IsTrue, IfOk, IfErr};
+ghost use Rattle.std.specs.Prelude.{◌≡◌, ◌≤◌, ◌+◌, IfOk, IfErr, IsTrue, Some};
 ghost use Rattle.std.specs.FinMap as map;
 ghost use Rattle.run_io.specs.Bytes.{Rose};
 ghost use Rattle.ledger_spec.specs.Bytes.{same_bytes};
-ghost use Rattle.ledger_spec.specs.Own.{is_own as stands, own_forms};
-ghost use Rattle.rotating_store.specs.Stores.{nodes_of};
-ghost use Rattle.own_forms.specs.Reading.{WasRead};
+ghost use Rattle.ledger_spec.specs.Own.{is_own as stands, own_form as held_at, own_forms};
+ghost use Rattle.rotating_store.specs.Stores.{is_noted, nodes_of};
+ghost use Rattle.own_forms.specs.Reading.{IsReadable, MayNote, WasRead};
 
 use crate::forms::is_form;
 use half_hash::{Blob, Hash32, NodeHash};
@@ -13,29 +13,39 @@ use node_backend::{BackFault, Shelf};
 use rotating_store::{RotStore, StoreFault};
 use std::alloc::Global;
 
-/// The form that is held under the hash, or None where none is. It asks each backend at most once.
+/// The form that is held under the hash, or None where none is. It asks each backend at most once. A form is checked when it is first
+/// read, and then noted as checked in the store.
 pub fn own_form<H: NodeHash, Sh: Shelf>(
     alloc: Global,
     store: &mut RotStore<Sh>,
     h: &Hash32,
 ) -> Result<Option<Blob>, BackFault>
-    ensures form { IsTrue Sh.B.tells → IfOk result (λ b. b ≡ own_forms H.half (map.get (nodes_of store.old)) h.now) }
-    ensures read { WasRead Sh.B.tells store.old store.new }
+    ensures form { IsReadable Sh.B.tells H.half store.old → IfOk result (λ b. b ≡ own_forms H.half (map.get (nodes_of store.old)) h.now) }
+    ensures read { WasRead Sh.B.tells H.half store.old store.new }
     ensures few { store.new.gets ≤ store.old.gets + 2 }
     ensures fault { IfErr result (λ e. e ≡ BackFault.Fault → Rose store.old.faults store.new.faults) }
 {
     match store.get(alloc, h) {
-        Ok(Some(form)) => {
-            if is_own::<H>(h, form.bytes()) {
-                Ok(Some(form))
-            } else {
-                Ok(None)
-            }
-        }
+        Ok(Some(form)) => Ok(if_own::<H, Sh>(store, h, form)),
         Ok(None) => Ok(None),
         Err(StoreFault::Fault) => Err(BackFault::Fault),
         Err(_) => Err(BackFault::Memory),
     }
+}
+
+// The form, where it is its hash's own. It isn't checked where that was noted, and noted where it was checked.
+fn if_own<H: NodeHash, Sh: Shelf>(store: &mut RotStore<Sh>, h: &Hash32, form: Blob) -> Option<Blob>
+    ensures form { (IsTrue (is_noted store.old h.now) → IsTrue (stands H.half h.now form)) → result ≡ held_at H.half h.now (Some form) }
+    ensures noted { MayNote H.half store.old h.now form store.new }
+{
+    if store.is_noted(h) {
+        return Some(form);
+    }
+    if !is_own::<H>(h, form.bytes()) {
+        return None;
+    }
+    store.note(h);
+    Some(form)
 }
 
 // Whether the bytes have this hash, and are a form.

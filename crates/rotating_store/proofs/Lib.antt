@@ -1,3 +1,4 @@
 pub mod Merging
 pub mod Keeping
 pub mod Nexts
+pub mod Notes

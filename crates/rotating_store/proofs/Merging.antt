@@ -10,7 +10,7 @@ use Rattle.std.specs.FinMap as map
 use Rattle.std.specs.FinMap.{find, get-insert, get-entries, get_tied, same_map}
 use Rattle.std.specs.FinSet as set
 use Rattle.std.specs.FinSet.{contains-from_list, contains-insert, contains-difference, same_set}
-use Rattle.node_table.proofs.Tables.{hashes_antisymmetric}
+use Rattle.node_backend.proofs.Tables.{hashes_antisymmetric}
 use Rattle.ledger_spec.specs.Maps.{MapOf, hashes_in}
 use Rattle.ledger_spec.specs.Bytes.{Bytes, Hash, Nodes}
 use Rattle.rotating_store.specs.Stores.{insert_all, merged}

@@ -10,7 +10,7 @@ use Rattle.std.specs.BTreeMap.Range.{IsLeBy}
 use Rattle.std.specs.FinMap as map
 use Rattle.ledger_spec.specs.Maps.{hash_cmp}
 use Rattle.ledger_spec.specs.Bytes.{Bytes, Hash, Nodes}
-use Rattle.node_table.specs.Order.{IsAfter, IsNext}
+use Rattle.node_backend.specs.Order.{IsAfter, IsNext}
 use Rattle.rotating_store.specs.Stores.{merged, lesser_of}
 use Rattle.rotating_store.proofs.Merging.{get-merged}
 

@@ -1,8 +1,9 @@
 -- What a store holds: the one map of its two backends.
-use Rattle.std.specs.Prelude.{◌≡◌, ℕ, Bool, cond, List, [], ◌∷◌, Option, None, Some}
+use Rattle.std.specs.Prelude.{◌≡◌, ◌⊎◌, ℕ, Bool, IsTrue, cond, List, [], ◌∷◌, Option, None, Some}
 use Rattle.std.specs.Ordering.{is_gt}
 use Rattle.std.specs.FinMap as finite
 use Rattle.std.specs.FinSet as set
+use Rattle.std.specs.BTreeSet.{BTreeSet, contains}
 use Rattle.ledger_spec.specs.Maps.{SetOf, hashes_in, hash_cmp}
 use Rattle.ledger_spec.specs.Bytes.{Bytes, Hash, Nodes}
 use Rattle.node_backend.specs.Counts.{held_sum}
@@ -16,8 +17,8 @@ insert_all m (e ∷ es) = finite.insert (insert_all m es) e.0 e.1
 unfoldable pub merged : Nodes → Nodes → Nodes
 merged writable archive = insert_all archive (finite.entries writable)
 
--- what contracts see of a store: the two maps, whether a fresh backend is ready, the epoch, the counts, and how much
--- of the counts is of backends that were discarded
+-- what contracts see of a store: the two maps, whether a fresh backend is ready, the epoch, the counts, how much
+-- of the counts is of backends that were discarded, and the hashes whose forms were noted as checked
 pub record Store : Type 0 where
   pub writable : Nodes
   pub archive : Nodes
@@ -27,6 +28,7 @@ pub record Store : Type 0 where
   pub gets : ℕ
   pub past_faults : ℕ
   pub past_gets : ℕ
+  pub noted : List Hash
 
 -- a count of what is past, and those of the backends at hand
 abbrev pub sum_of : ℕ → ℕ → ℕ → ℕ → ℕ
@@ -44,9 +46,21 @@ nodes_of s = merged s.writable s.archive
 abbrev pub born_of : Store → SetOf
 born_of s = set.difference (hashes_in s.writable) (hashes_in s.archive)
 
--- but for the counts
+abbrev pub noted_set : Store → BTreeSet Hash
+noted_set s = record { keys = s.noted }
+
+-- the form under the hash was noted as checked
+abbrev pub is_noted : Store → Hash → Bool
+is_noted s h = contains hash_cmp (noted_set s) h
+
+-- the second is as the first, but for a note of this hash
+pub record IsNoted (s : Store) (h : Hash) (s' : Store) : Type 0 where
+  pub notes : (q : Hash) → IsTrue (is_noted s' q) → IsTrue (is_noted s q) ⊎ (q ≡ h)
+  pub rest : s' ≡ record s { noted = s'.noted }
+
+-- but for the counts and the notes
 abbrev pub Counted : Store → Store → Type 0
-Counted t s = s ≡ record t { faults = s.faults; gets = s.gets }
+Counted t s = s ≡ record t { faults = s.faults; gets = s.gets; noted = s.noted }
 
 -- with a pair in the writable map
 abbrev pub with_pair : Store → Hash → Bytes → Store

@@ -1,13 +1,13 @@
 //! The store: one map over two backends. What is new goes into the writable one; what the archive alone
 //! has is kept by a swap only if it was copied forward before.
-ghost use Rattle.std.specs.Prelude.{◌≡◌, ◌≢◌, ◌≤◌, ◌<◌, ◌^◌, ◌+◌, ◌-◌, IsTrue, true, false, is_some, Err};
+ghost use Rattle.std.specs.Prelude.{◌≡◌, ◌≢◌, ◌≤◌, ◌<◌, ◌^◌, ◌+◌, ◌-◌, IsTrue, true, false, is_some, Err, []};
 ghost use Rattle.std.specs.Prelude.{IfOk, IfErr, OnOk, OnErr, IsOk};
 ghost use Rattle.std.specs.FinMap as map;
 ghost use Rattle.std.specs.Option.{option_copied, option_map, option_map_or};
-ghost use Rattle.node_table.specs.Order.{IsNext};
+ghost use Rattle.node_backend.specs.Order.{IsNext};
 ghost use Rattle.run_io.specs.Bytes.{Rose};
 ghost use Rattle.node_backend.specs.Counts.{held_sum};
-ghost use Rattle.rotating_store.specs.Stores.{Store, nodes_of, Counted, Agree, SamePast, sum_of};
+ghost use Rattle.rotating_store.specs.Stores.{Store, nodes_of, Counted, Agree, SamePast, sum_of, is_noted, IsNoted};
 ghost use Rattle.rotating_store.specs.Puts.{Puts, TellsWrongHash, Compares, IsPlain};
 ghost use Rattle.rotating_store.specs.Moves.{Moves};
 ghost use Rattle.rotating_store.specs.Keeps.{Numbered, Keeps};
@@ -16,6 +16,7 @@ use crate::pair::{copy_over, get_either, next_of_either};
 use half_hash::{Blob, Hash32, Memory, NodeHash};
 use node_backend::{BackFault, Backend, Shelf};
 use std::alloc::Global;
+use std::collections::BTreeSet;
 use std::marker::Model;
 
 /// What a put came to.
@@ -73,6 +74,7 @@ pub struct RotStore<Sh: Shelf> {
     epoch: u64,
     past_faults: u64,
     past_gets: u64,
+    noted: BTreeSet<Hash32>,
 }
 
 /// The very shelf and backends of a store.
@@ -111,6 +113,7 @@ impl<Sh: Shelf> Model for RotStore<Sh> {
       gets = sum_of r.past_gets (Sh.B.gets r.writable) (Sh.B.gets r.archive) (option_map_or Sh.B.gets r.ready 0);
       past_faults = r.past_faults;
       past_gets = r.past_gets;
+      noted = r.noted.keys;
     } };
 
     ghost invariant = { λ r. Numbered (Sh.live r.shelf) (Sh.undone r.shelf)
@@ -126,7 +129,7 @@ impl<Sh: Shelf> RotStore<Sh> {
         ensures state { IfOk result (λ s. (s.epoch ≡ 0) × (s.ready ≡ false)) }
         ensures count { IfOk result (λ s. Sh.faults shelf ≤ s.faults) }
         ensures gets { IfOk result (λ s. s.gets ≡ 0) }
-        ensures past { IfOk result (λ s. (s.past_faults ≡ 0) × (s.past_gets ≡ 0)) }
+        ensures past { IfOk result (λ s. (s.past_faults ≡ 0) × (s.past_gets ≡ 0) × (s.noted ≡ [])) }
         ensures cause { (s : Sh) → result ≡ Err (Unopened.Shelf s) → Rose (Sh.faults shelf) (Sh.faults s) }
         ensures never { (s : Store) → result ≢ Err (Unopened.Store s) }
     {
@@ -150,6 +153,7 @@ impl<Sh: Shelf> RotStore<Sh> {
             epoch: 0,
             past_faults: 0,
             past_gets: 0,
+            noted: BTreeSet::new(alloc),
         })
     }
 
@@ -157,7 +161,7 @@ impl<Sh: Shelf> RotStore<Sh> {
     pub fn get(&mut self, alloc: Global, h: &Hash32) -> Result<Option<Blob>, StoreFault>
         ensures found { IsTrue Sh.B.tells → IfOk result (λ b. b ≡ map.get (nodes_of self.old) h.now) }
         ensures same { IsTrue Sh.B.tells → Counted self.old self.new }
-        ensures rest { SamePast self.old self.new × (self.new.ready ≡ self.old.ready) }
+        ensures rest { SamePast self.old self.new × (self.new.ready ≡ self.old.ready) × (self.new.noted ≡ self.old.noted) }
         ensures later { self.old.faults ≤ self.new.faults }
         ensures asked { (self.old.gets ≤ self.new.gets) × (self.new.gets ≤ self.old.gets + 2) }
         ensures cause { result ≡ Err StoreFault.Fault → Rose self.old.faults self.new.faults }
@@ -171,7 +175,7 @@ impl<Sh: Shelf> RotStore<Sh> {
     pub fn has(&mut self, alloc: Global, h: &Hash32) -> Result<bool, StoreFault>
         ensures found { IsTrue Sh.B.tells → IfOk result (λ b. b ≡ is_some (map.get (nodes_of self.old) h.now)) }
         ensures same { IsTrue Sh.B.tells → Counted self.old self.new }
-        ensures rest { SamePast self.old self.new × (self.new.ready ≡ self.old.ready) }
+        ensures rest { SamePast self.old self.new × (self.new.ready ≡ self.old.ready) × (self.new.noted ≡ self.old.noted) }
         ensures later { self.old.faults ≤ self.new.faults }
         ensures asked { (self.old.gets ≤ self.new.gets) × (self.new.gets ≤ self.old.gets + 2) }
         ensures cause { result ≡ Err StoreFault.Fault → Rose self.old.faults self.new.faults }
@@ -191,7 +195,7 @@ impl<Sh: Shelf> RotStore<Sh> {
     ) -> Result<Put, StoreFault>
         ensures puts { IsTrue Sh.B.tells → Puts self.old h.now form.now result self.new }
         ensures wrong { TellsWrongHash H.half h.now form.now result }
-        ensures rest { SamePast self.old self.new × (self.new.ready ≡ self.old.ready) }
+        ensures rest { SamePast self.old self.new × (self.new.ready ≡ self.old.ready) × (self.new.noted ≡ self.old.noted) }
         ensures later { (self.old.faults ≤ self.new.faults) × (self.old.gets ≤ self.new.gets) }
         ensures cause { result ≡ Err StoreFault.Fault → Rose self.old.faults self.new.faults }
     {
@@ -213,7 +217,7 @@ impl<Sh: Shelf> RotStore<Sh> {
         ensures moves { IsTrue Sh.B.tells → Moves self.old.writable self.old.archive h.now result self.new.writable }
         ensures there { IsTrue Sh.B.tells → OnOk result (map.get self.new.writable h.now ≡ map.get (nodes_of self.old) h.now) }
         ensures archive { IsTrue Sh.B.tells → self.new.archive ≡ self.old.archive }
-        ensures rest { SamePast self.old self.new × (self.new.ready ≡ self.old.ready) }
+        ensures rest { SamePast self.old self.new × (self.new.ready ≡ self.old.ready) × (self.new.noted ≡ self.old.noted) }
         ensures later { (self.old.faults ≤ self.new.faults) × (self.old.gets ≤ self.new.gets) }
         ensures cause { result ≡ Err StoreFault.Fault → Rose self.old.faults self.new.faults }
         ensures kind { IfErr result IsPlain }
@@ -230,7 +234,8 @@ impl<Sh: Shelf> RotStore<Sh> {
     ) -> Result<Option<Hash32>, StoreFault>
         ensures next { IsTrue Sh.B.tells → IfOk result (IsNext (nodes_of self.old) (option_copied after.entry)) }
         ensures same { IsTrue Sh.B.tells → Counted self.old self.new }
-        ensures rest { SamePast self.old self.new × (self.new.ready ≡ self.old.ready) × (self.new.gets ≡ self.old.gets) }
+        ensures rest { SamePast self.old self.new × (self.new.ready ≡ self.old.ready) × (self.new.gets ≡ self.old.gets)
+            × (self.new.noted ≡ self.old.noted) }
         ensures later { self.old.faults ≤ self.new.faults }
         ensures cause { result ≡ Err StoreFault.Fault → Rose self.old.faults self.new.faults }
         ensures kind { IfErr result IsPlain }
@@ -247,7 +252,7 @@ impl<Sh: Shelf> RotStore<Sh> {
         ensures unready { OnErr result (self.new.ready ≡ self.old.ready) }
         // One that is ready stays, and none is asked for.
         ensures was_ready { self.old.ready ≡ true → OnOk result (self.new ≡ self.old) × IsOk result }
-        ensures rest { SamePast self.old self.new × (self.new.gets ≡ self.old.gets) }
+        ensures rest { SamePast self.old self.new × (self.new.gets ≡ self.old.gets) × (self.new.noted ≡ self.old.noted) }
         ensures later { self.old.faults ≤ self.new.faults }
         ensures cause { result ≡ Err StoreFault.Fault → Rose self.old.faults self.new.faults }
         ensures kind { IfErr result IsPlain }
@@ -272,6 +277,7 @@ impl<Sh: Shelf> RotStore<Sh> {
         ensures epoch { self.new.epoch ≡ self.old.epoch + 1 }
         ensures later { self.old.faults ≤ self.new.faults }
         ensures gets { self.new.gets ≡ self.old.gets }
+        ensures notes { self.new.noted ≡ [] }
         ensures past { (self.old.past_faults ≤ self.new.past_faults) × (self.old.past_gets ≤ self.new.past_gets) }
     {
         let Some(fresh) = self.ready.take() else {
@@ -283,6 +289,22 @@ impl<Sh: Shelf> RotStore<Sh> {
         self.past_gets = self.past_gets.saturating_add(old.gets());
         let _ = self.shelf.discard(old);
         self.epoch += 1;
+        self.noted.clear();
+    }
+
+    /// Notes that a caller has checked the form that is held under a hash, which is forgotten with the next swap. Where memory is
+    /// refused nothing is noted.
+    pub fn note(&mut self, h: &Hash32)
+        ensures noted { IsNoted self.old h.now self.new }
+    {
+        let _ = self.noted.insert(*h);
+    }
+
+    /// Whether the form of a hash was noted as checked since the last swap.
+    pub fn is_noted(&self, h: &Hash32) -> bool
+        ensures { result ≡ is_noted self.now h.now }
+    {
+        self.noted.contains(h)
     }
 
     /// Tells a proof that a hash that stands in both backends has the same bytes in them.

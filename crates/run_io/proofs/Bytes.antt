@@ -60,8 +60,10 @@ reading_step None mid new held buf n room r t = tt
 reading_step (Some bytes) mid new held buf n room r t =
     let P : Option (List ℕ) → Type 0 = λ m. IfSome m (λ b. Takes b n buf room new) in
     let k : Takes (drop (length held) bytes) n buf room new = subst P r.1 t in
-    let size : length (held ++ take n buf) ≡ length held + n = length-append held (take n buf) ∙ ap (λ (i : ℕ). length held + i) (ap length k.front ∙ length-take-le n (drop (length held) bytes) k.few) in (
-      ap (λ (l : List ℕ). held ++ l) k.front ∙ ap (λ (l : List ℕ). l ++ take n (drop (length held) bytes)) r.0 ∙ sym (take-add (length held) n bytes) ∙ ap (λ (i : ℕ). take i bytes) (sym size),
+    let size : length (held ++ take n buf) ≡ length held + n = length-append held (take n buf)
+    ∙ ap (λ (i : ℕ). length held + i) (ap length k.front ∙ length-take-le n (drop (length held) bytes) k.few) in (
+      ap (λ (l : List ℕ). held ++ l) k.front ∙ ap (λ (l : List ℕ). l ++ take n (drop (length held) bytes)) r.0
+          ∙ sym (take-add (length held) n bytes) ∙ ap (λ (i : ℕ). take i bytes) (sym size),
       k.left ∙ ap Some (drop-drop n (length held) bytes ∙ ap (λ (i : ℕ). drop i bytes) (sym size)),
     )
 
@@ -95,7 +97,8 @@ took_ended (Some bytes) mid new held buf n room most r t none some le =
     let P : Option (List ℕ) → Type 0 = λ m. IfSome m (λ b. Takes b n buf room new) in
     let k : Takes (drop (length held) bytes) n buf room new = subst P r.1 t in
     let short : length bytes ≤ length held = omega (arith, k.ended none some, length-drop (length held) bytes) in
-    let gone : drop (length held + n) bytes ≡ drop most bytes = drop_all (length held + n) bytes (omega arith) ∙ sym (drop_all most bytes (omega arith)) in
+    let gone : drop (length held + n) bytes ≡ drop most bytes = drop_all (length held + n) bytes (omega arith)
+    ∙ sym (drop_all most bytes (omega arith)) in
     k.left ∙ ap Some (drop-drop n (length held) bytes ∙ gone)
 
 -- a read that fails takes a front of what is left
@@ -134,7 +137,12 @@ wrote_part (Some held) mid new a b text x y whole =
     let P : Option (List ℕ) → Type 0 = λ m. WrotePart m new b in
     let p : WrotePart (Some (held ++ a)) new b = subst P x y in (
       a ++ p.0,
-      (p.1.0 ++ whole.0, append_assoc a p.0 (p.1.0 ++ whole.0) ∙ ap (λ (l : List ℕ). a ++ l) (sym (append_assoc p.0 p.1.0 whole.0) ∙ ap (λ (l : List ℕ). l ++ whole.0) p.1.1) ∙ sym (append_assoc a b whole.0) ∙ whole.1),
+      (
+        p.1.0 ++ whole.0,
+        append_assoc a p.0 (p.1.0 ++ whole.0)
+            ∙ ap (λ (l : List ℕ). a ++ l) (sym (append_assoc p.0 p.1.0 whole.0) ∙ ap (λ (l : List ℕ). l ++ whole.0) p.1.1)
+            ∙ sym (append_assoc a b whole.0) ∙ whole.1,
+      ),
       p.2 ∙ ap Some (append_assoc held a p.0),
     )
 

@@ -1,5 +1,6 @@
 -- What a blob's word says is bytes.
-use Rattle.std.proofs.Common.{◌≡◌, ◌≤◌, ◌<◌, ◌+◌, ◌-◌, ◌*◌, ◌&&◌, ⊎_elim, ℕ, Bool, true, false, nat_le, nat_lt, if◌then◌else◌, [], ◌∷◌, Option, Some, None}
+use Rattle.std.proofs.Common.{◌≡◌, ◌≤◌, ◌<◌, ◌+◌, ◌-◌, ◌*◌, ◌&&◌, ⊎_elim, ℕ, Bool, true, false, nat_le, nat_lt, if◌then◌else◌, [], ◌∷◌}
+use Rattle.std.proofs.Common.{Option, Some, None}
 use Rattle.std.proofs.Common.{Result, Ok, Err, IsTrue, refl, sym, subst, arith}
 use Rattle.std.proofs.lemmas.Bool.{leb-true, lt-ltb, and_parts, and_from}
 use Rattle.hex.specs.declared.error.FromHexError.{FromHexError}

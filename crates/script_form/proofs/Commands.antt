@@ -1,5 +1,6 @@
 -- What the words of a line say, given its command's word.
-use Rattle.std.proofs.Common.{◌≡◌, ◌≢◌, ℕ, ◌-◌, ◌≤◌, List, [], ◌∷◌, length, take, drop, map, get_or, Bor, Option, Some, None, refl, sym, subst}
+use Rattle.std.proofs.Common.{◌≡◌, ◌≢◌, ℕ, ◌-◌, ◌≤◌, List, [], ◌∷◌, length, take, drop, map, get_or, Bor, Option, Some, None, refl, sym}
+use Rattle.std.proofs.Common.{subst}
 use Rattle.std.proofs.Common.{ap, arith}
 use Rattle.std.proofs.lemmas.List.{take_all}
 use Rattle.std.specs.Prelude.{codes, slice_index, Result, Ok, Err, IfOk, IfSome, IfNone, MatchOption}
@@ -74,26 +75,80 @@ no_command call args verb is none command.Swap says = (says_it call args verb co
 
 -- where the verb is one of these, the others have no command
 pub only_want : (args : List Bytes) → ((t : Hash) (seq : ℕ) → AreArguments args (command.Want t seq) → ⊥) → NoCommand args (codes "want")
-only_want args none = record { want = λ _. none; peer = differ _ _ (λ e. absurd (omega arith)); base = differ _ _ (λ e. absurd (omega arith)); node = differ _ _ (λ e. absurd (omega arith)); check = differ _ _ (λ e. absurd (omega arith)); tick = differ _ _ (λ e. absurd (omega arith)) }
+only_want args none = record {
+  want = λ _. none;
+  peer = differ _ _ (λ e. absurd (omega arith));
+  base =
+      differ _ _ (λ e. absurd (omega arith));
+  node = differ _ _ (λ e. absurd (omega arith));
+  check =
+      differ _ _ (λ e. absurd (omega arith));
+  tick = differ _ _ (λ e. absurd (omega arith));
+}
 
 pub only_peer : (args : List Bytes) → ((p : ℕ) (t : Hash) → AreArguments args (command.Peer p t) → ⊥) → NoCommand args (codes "peer")
-only_peer args none = record { want = differ _ _ (λ e. absurd (omega arith)); peer = λ _. none; base = differ _ _ (λ e. absurd (omega arith)); node = differ _ _ (λ e. absurd (omega arith)); check = differ _ _ (λ e. absurd (omega arith)); tick = differ _ _ (λ e. absurd (omega arith)) }
+only_peer args none = record {
+  want = differ _ _ (λ e. absurd (omega arith));
+  peer = λ _. none;
+  base =
+      differ _ _ (λ e. absurd (omega arith));
+  node = differ _ _ (λ e. absurd (omega arith));
+  check =
+      differ _ _ (λ e. absurd (omega arith));
+  tick = differ _ _ (λ e. absurd (omega arith));
+}
 
 pub only_base : (args : List Bytes)
     → ((p : ℕ) (t : Hash) (head : Bytes) (state tx : Option Bytes) → AreArguments args (command.Base p t head state tx) → ⊥)
     → NoCommand args (codes "base")
-only_base args none = record { want = differ _ _ (λ e. absurd (omega arith)); peer = differ _ _ (λ e. absurd (omega arith)); base = λ _. none; node = differ _ _ (λ e. absurd (omega arith)); check = differ _ _ (λ e. absurd (omega arith)); tick = differ _ _ (λ e. absurd (omega arith)) }
+only_base args none = record {
+  want = differ _ _ (λ e. absurd (omega arith));
+  peer = differ _ _ (λ e. absurd (omega arith));
+  base =
+      λ _. none;
+  node = differ _ _ (λ e. absurd (omega arith));
+  check = differ _ _ (λ e. absurd (omega arith));
+  tick =
+      differ _ _ (λ e. absurd (omega arith));
+}
 
 pub only_node : (args : List Bytes)
     → ((p : ℕ) (t : Hash) (kind : Kind) (path : List ℕ) (blob : Bytes) → AreArguments args (command.Node p t kind path blob) → ⊥)
     → NoCommand args (codes "node")
-only_node args none = record { want = differ _ _ (λ e. absurd (omega arith)); peer = differ _ _ (λ e. absurd (omega arith)); base = differ _ _ (λ e. absurd (omega arith)); node = λ _. none; check = differ _ _ (λ e. absurd (omega arith)); tick = differ _ _ (λ e. absurd (omega arith)) }
+only_node args none = record {
+  want = differ _ _ (λ e. absurd (omega arith));
+  peer = differ _ _ (λ e. absurd (omega arith));
+  base =
+      differ _ _ (λ e. absurd (omega arith));
+  node = λ _. none;
+  check = differ _ _ (λ e. absurd (omega arith));
+  tick =
+      differ _ _ (λ e. absurd (omega arith));
+}
 
 pub only_check : (args : List Bytes) → ((t : Hash) → AreArguments args (command.Check t) → ⊥) → NoCommand args (codes "check")
-only_check args none = record { want = differ _ _ (λ e. absurd (omega arith)); peer = differ _ _ (λ e. absurd (omega arith)); base = differ _ _ (λ e. absurd (omega arith)); node = differ _ _ (λ e. absurd (omega arith)); check = λ _. none; tick = differ _ _ (λ e. absurd (omega arith)) }
+only_check args none = record {
+  want = differ _ _ (λ e. absurd (omega arith));
+  peer = differ _ _ (λ e. absurd (omega arith));
+  base =
+      differ _ _ (λ e. absurd (omega arith));
+  node = differ _ _ (λ e. absurd (omega arith));
+  check = λ _. none;
+  tick =
+      differ _ _ (λ e. absurd (omega arith));
+}
 
 pub only_tick : (args : List Bytes) → ((t : Hash) → AreArguments args (command.Tick t) → ⊥) → NoCommand args (codes "tick")
-only_tick args none = record { want = differ _ _ (λ e. absurd (omega arith)); peer = differ _ _ (λ e. absurd (omega arith)); base = differ _ _ (λ e. absurd (omega arith)); node = differ _ _ (λ e. absurd (omega arith)); check = differ _ _ (λ e. absurd (omega arith)); tick = λ _. none }
+only_tick args none = record {
+  want = differ _ _ (λ e. absurd (omega arith));
+  peer = differ _ _ (λ e. absurd (omega arith));
+  base =
+      differ _ _ (λ e. absurd (omega arith));
+  node = differ _ _ (λ e. absurd (omega arith));
+  check =
+      differ _ _ (λ e. absurd (omega arith));
+  tick = λ _. none;
+}
 
 -- what one command's reader found, or that it found nothing
 pub found : {Q : Type 0} (words args : List Bytes) (verb : Bytes) (r : Option Command) → words ≡ verb ∷ args

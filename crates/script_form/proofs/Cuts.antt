@@ -54,7 +54,9 @@ pub cuts_word : (text : List ℕ) (so_far : List (Bor (List ℕ))) (word : Bor (
     → ((k : ℕ) → k < i → get_or rest k 0 ≢ 32) → get_or rest i 0 ≡ 32 → word.now ≡ take i rest → nat_lt 0 (length word.now) ≡ true
     → Cuts text (so_far ++ word ∷ []) (drop (i + 1) rest)
 cuts_word text so_far word rest i c lt before at is some = record {
-  cut = c.cut ∙ ap (λ (w : List (List ℕ)). map (λ w. w.now) so_far ++ w) (words_cut rest i lt before at ∙ ap (λ (w : List (List ℕ)). w ++ words_of (drop (i + 1) rest)) (ap (λ (w : List ℕ). filter (λ w. nat_lt 0 (length w)) (w ∷ [])) (sym is) ∙ one word.now some))
+  cut = c.cut ∙ ap (λ (w : List (List ℕ)). map (λ w. w.now) so_far ++ w)
+      (words_cut rest i lt before at ∙ ap (λ (w : List (List ℕ)). w ++ words_of (drop (i + 1) rest))
+      (ap (λ (w : List ℕ). filter (λ w. nat_lt 0 (length w)) (w ∷ [])) (sym is) ∙ one word.now some))
       ∙ sym (append_assoc (map (λ w. w.now) so_far) (word.now ∷ []) (words_of (drop (i + 1) rest)))
       ∙ ap (λ (w : List (List ℕ)). w ++ words_of (drop (i + 1) rest)) (sym (map-append (λ (w : Bor (List ℕ)). w.now) so_far (word ∷ [])));
 }
@@ -66,7 +68,9 @@ pub cuts_none : (text : List ℕ) (so_far : List (Bor (List ℕ))) (word rest : 
     → ((k : ℕ) → k < i → get_or rest k 0 ≢ 32) → get_or rest i 0 ≡ 32 → word ≡ take i rest → nat_lt 0 (length word) ≡ false
     → Cuts text so_far (drop (i + 1) rest)
 cuts_none text so_far word rest i c lt before at is none = record {
-  cut = c.cut ∙ ap (λ (w : List (List ℕ)). map (λ w. w.now) so_far ++ w) (words_cut rest i lt before at ∙ ap (λ (w : List (List ℕ)). w ++ words_of (drop (i + 1) rest)) (ap (λ (w : List ℕ). filter (λ w. nat_lt 0 (length w)) (w ∷ [])) (sym is) ∙ nothing word none));
+  cut = c.cut ∙ ap (λ (w : List (List ℕ)). map (λ w. w.now) so_far ++ w)
+      (words_cut rest i lt before at ∙ ap (λ (w : List (List ℕ)). w ++ words_of (drop (i + 1) rest))
+      (ap (λ (w : List ℕ). filter (λ w. nat_lt 0 (length w)) (w ∷ [])) (sym is) ∙ nothing word none));
 }
   where
     nothing : (w : List ℕ) → nat_lt 0 (length w) ≡ false → filter (λ w. nat_lt 0 (length w)) (w ∷ []) ≡ []
@@ -74,19 +78,23 @@ cuts_none text so_far word rest i c lt before at is none = record {
 
 -- the last piece
 pub cuts_end : (text : List ℕ) (so_far : List (Bor (List ℕ))) (word : Bor (List ℕ)) (rest : List ℕ) → Cuts text so_far rest
-    → ((k : ℕ) → k < length rest → get_or rest k 0 ≢ 32) → word.now ≡ rest → nat_lt 0 (length word.now) ≡ true → map (λ w. w.now) (so_far ++ word ∷ []) ≡ words_of text
+    → ((k : ℕ) → k < length rest → get_or rest k 0 ≢ 32) → word.now ≡ rest → nat_lt 0 (length word.now) ≡ true
+    → map (λ w. w.now) (so_far ++ word ∷ []) ≡ words_of text
 cuts_end text so_far word rest c before is some =
     map-append (λ (w : Bor (List ℕ)). w.now) so_far (word ∷ [])
-    ∙ ap (λ (w : List (List ℕ)). map (λ w. w.now) so_far ++ w) (one word.now some ∙ ap (λ (w : List ℕ). filter (λ w. nat_lt 0 (length w)) (w ∷ [])) is ∙ sym (words_end rest before)) ∙ sym c.cut
+    ∙ ap (λ (w : List (List ℕ)). map (λ w. w.now) so_far ++ w)
+    (one word.now some ∙ ap (λ (w : List ℕ). filter (λ w. nat_lt 0 (length w)) (w ∷ [])) is ∙ sym (words_end rest before)) ∙ sym c.cut
   where
     one : (w : List ℕ) → nat_lt 0 (length w) ≡ true → w ∷ [] ≡ filter (λ w. nat_lt 0 (length w)) (w ∷ [])
     one w e = rw e refl
 
 pub cuts_over : (text : List ℕ) (so_far : List (Bor (List ℕ))) (word rest : List ℕ) → Cuts text so_far rest
-    → ((k : ℕ) → k < length rest → get_or rest k 0 ≢ 32) → word ≡ rest → nat_lt 0 (length word) ≡ false → map (λ w. w.now) so_far ≡ words_of text
+    → ((k : ℕ) → k < length rest → get_or rest k 0 ≢ 32) → word ≡ rest → nat_lt 0 (length word) ≡ false
+    → map (λ w. w.now) so_far ≡ words_of text
 cuts_over text so_far word rest c before is none =
     sym (append-nil (map (λ w. w.now) so_far))
-    ∙ ap (λ (w : List (List ℕ)). map (λ w. w.now) so_far ++ w) (nothing word none ∙ ap (λ (w : List ℕ). filter (λ w. nat_lt 0 (length w)) (w ∷ [])) is ∙ sym (words_end rest before)) ∙ sym c.cut
+    ∙ ap (λ (w : List (List ℕ)). map (λ w. w.now) so_far ++ w)
+    (nothing word none ∙ ap (λ (w : List ℕ). filter (λ w. nat_lt 0 (length w)) (w ∷ [])) is ∙ sym (words_end rest before)) ∙ sym c.cut
   where
     nothing : (w : List ℕ) → nat_lt 0 (length w) ≡ false → [] ≡ filter (λ w. nat_lt 0 (length w)) (w ∷ [])
     nothing w e = rw e refl

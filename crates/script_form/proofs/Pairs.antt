@@ -1,5 +1,6 @@
 -- Pairs of hexadecimal digits.
-use Rattle.std.proofs.Common.{◌≡◌, ◌+◌, ◌*◌, ◌<◌, ◌≤◌, ℕ, List, length, take, drop, get_or, Bool, true, false, Option, Some, None, Result, Ok, Err, refl, sym, ◌∙◌, ap, subst}
+use Rattle.std.proofs.Common.{◌≡◌, ◌+◌, ◌*◌, ◌<◌, ◌≤◌, ℕ, List, length, take, drop, get_or, Bool, true, false, Option, Some, None, Result}
+use Rattle.std.proofs.Common.{Ok, Err, refl, sym, ◌∙◌, ap, subst}
 use Rattle.std.specs.Prelude.{IfSome, is_some, ◌&&◌, MatchBool, slice_set}
 use Rattle.hex.specs.declared.error.FromHexError.{FromHexError}
 use Rattle.hex.specs.Hex.{hex_digit_value, is_hex_digit, digit_or_error, value_at, pair_value, decode_pairs, ◌>>=◌}
@@ -43,12 +44,14 @@ refused r e is bytes says = err_ok (sym is ∙ says)
 
 -- the first i pairs are read, or one of them isn't two digits
 pub record Decodes (good : Bool) (word out : List ℕ) (i : ℕ) : Type 0 where
-  pub read : MatchBool good (decode_pairs 0 word ≡ prepend (take i out) (decode_pairs (2 * i) (drop (2 * i) word))) ((bytes : List ℕ) → decode_pairs 0 word ≡ Ok bytes → ⊥)
+  pub read : MatchBool good (decode_pairs 0 word ≡ prepend (take i out) (decode_pairs (2 * i) (drop (2 * i) word)))
+      ((bytes : List ℕ) → decode_pairs 0 word ≡ Ok bytes → ⊥)
 
 pub decodes_more : (good one two : Bool) (word out : List ℕ) (i high low h l : ℕ) → Decodes good word out i → 2 * i + 1 < length word
     → i < length out
     → high ≡ get_or word (2 * i) 0 → low ≡ get_or word (2 * i + 1) 0 → one ≡ is_hex_digit high → two ≡ is_hex_digit low
-    → IfSome (hex_digit_value high) (λ x. h ≡ x) → IfSome (hex_digit_value low) (λ x. l ≡ x) → Decodes ((good && one) && two) word (slice_set out i (h * 16 + l)) (i + 1)
+    → IfSome (hex_digit_value high) (λ x. h ≡ x) → IfSome (hex_digit_value low) (λ x. l ≡ x)
+    → Decodes ((good && one) && two) word (slice_set out i (h * 16 + l)) (i + 1)
 decodes_more false one two word out i high low h l d fits room at next first second is also = record { read = d.read }
 decodes_more true false two word out i high low h l d fits room at next first second is also =
     let bad = bad_high (get_or word (2 * i) 0) (get_or word (2 * i + 1) 0) (2 * i) (ap is_hex_digit (sym at) ∙ sym first) in
@@ -59,7 +62,10 @@ decodes_more true true false word out i high low h l d fits room at next first s
 decodes_more true true true word out i high low h l d fits room at next first second is also =
     let P : ℕ → ℕ → Type 0 = λ a b. pair_value a b (2 * i) ≡ Ok (h * 16 + l) in
     let pair = good_pair high low h l (2 * i) is also (sym first) (sym second) in
-    record { read = decode_step word out i (h * 16 + l) fits room (subst (λ b. P (get_or word (2 * i) 0) b) next (subst (λ a. P a low) at pair)) d.read }
+    record {
+      read = decode_step word out i (h * 16 + l) fits room
+          (subst (λ b. P (get_or word (2 * i) 0) b) next (subst (λ a. P a low) at pair)) d.read;
+    }
 
 pub decodes_all : (good : Bool) (word out : List ℕ) (i : ℕ) → Decodes good word out i → length out ≤ i → length word ≤ 2 * i
     → MatchBool good (decode_pairs 0 word ≡ Ok out) ((bytes : List ℕ) → decode_pairs 0 word ≡ Ok bytes → ⊥)

@@ -1,5 +1,6 @@
 -- A call that says a command has no cause, and one without a cause says one.
-use Rattle.std.proofs.Common.{◌≡◌, ◌≢◌, inl, inr, ℕ, List, [], ◌∷◌, length, Bool, true, false, Option, None, Some, refl, sym, ◌∙◌, ap, subst, arith}
+use Rattle.std.proofs.Common.{◌≡◌, ◌≢◌, inl, inr, ℕ, List, [], ◌∷◌, length, Bool, true, false, Option, None, Some, refl, sym, ◌∙◌, ap}
+use Rattle.std.proofs.Common.{subst, arith}
 use Rattle.std.specs.Prelude.{codes}
 use Rattle.nib_path.specs.Paths.{id_wire}
 use Rattle.half_hash.specs.Hex.{IsHexOf}
@@ -68,7 +69,8 @@ never : (c : Cause) → ((a : Argument) (word : Bytes) → IsWrong c a word → 
 never c each [] [] wrong = wrong
 never c each [] (word ∷ words) wrong = wrong
 never c each (a ∷ arguments) [] wrong = wrong
-never c each (a ∷ arguments) (word ∷ words) wrong = elim wrong [ inl here ↦ each a word here | inr behind ↦ never c each arguments words behind ]
+never c each (a ∷ arguments) (word ∷ words) wrong = elim wrong
+    [ inl here ↦ each a word here | inr behind ↦ never c each arguments words behind ]
 
 -- a word without a cause can't but be right
 must_be_right : (a : Argument) (word : Bytes) → ((c : Cause) → IsWrong c a word → ⊥) → (IsRight a word → ⊥) → ⊥
@@ -88,7 +90,8 @@ must_be_rights [] [] e free not = not tt
 must_be_rights [] (word ∷ words) e free not = absurd (omega arith)
 must_be_rights (a ∷ arguments) [] e free not = absurd (omega arith)
 must_be_rights (a ∷ arguments) (word ∷ words) e free not =
-    must_be_right a word (λ c here. free c (inl here)) (λ right. must_be_rights arguments words (omega (arith, e)) (λ c behind. free c (inr behind)) (λ rights. not (right, rights)))
+    must_be_right a word (λ c here. free c (inl here))
+    (λ right. must_be_rights arguments words (omega (arith, e)) (λ c behind. free c (inr behind)) (λ rights. not (right, rights)))
 
 -- right arguments say a command
 form_says : (f : Form) (args : List Bytes) → AreRight (arguments_in f) args → (c : Command) × (word_of c ≡ word_in f) × AreArguments args c
@@ -96,8 +99,11 @@ form_says form.Want (t ∷ n ∷ []) right = (command.Want right.0.0 right.1.0.0
 form_says form.Peer (n ∷ t ∷ []) right = (command.Peer right.0.0 right.1.0.0, refl, (n, t, refl, right.0.1, right.1.0.1))
 form_says form.Base (n ∷ t ∷ h ∷ []) right =
     (command.Base right.0.0 right.1.0.0 right.1.1.0.0 None None, refl, (n, t, h, [], refl, right.0.1, right.1.0.1, right.1.1.0.1, tt))
-form_says form.BaseState (n ∷ t ∷ h ∷ s ∷ []) right =
-    (command.Base right.0.0 right.1.0.0 right.1.1.0.0 (Some right.1.1.1.0.0) None, refl, (n, t, h, s ∷ [], refl, right.0.1, right.1.0.1, right.1.1.0.1, right.1.1.1.0.1))
+form_says form.BaseState (n ∷ t ∷ h ∷ s ∷ []) right = (
+  command.Base right.0.0 right.1.0.0 right.1.1.0.0 (Some right.1.1.1.0.0) None,
+  refl,
+  (n, t, h, s ∷ [], refl, right.0.1, right.1.0.1, right.1.1.0.1, right.1.1.1.0.1),
+)
 form_says form.Node (n ∷ t ∷ k ∷ i ∷ b ∷ []) right =
     let kind : n ∷ t ∷ k ∷ i ∷ b ∷ [] ≡ n ∷ t ∷ codes "state" ∷ i ∷ b ∷ [] = ap (λ (w : Bytes). n ∷ t ∷ w ∷ i ∷ b ∷ []) right.1.1.0 in (
       command.Node right.0.0 right.1.0.0 State right.1.1.1.0.0 right.1.1.1.1.0.0,
@@ -131,8 +137,12 @@ form_said args (command.Peer p t) are =
 form_said args (command.Base p t head state tx) are =
     let said = base_said are.0 are.1 are.2 are.3 p t head state tx are.5 are.6 are.7 are.8 in
     (said.0, said.1, subst (AreRight (arguments_in said.0)) (sym are.4) said.2)
-form_said args (command.Node p t kind path blob) are =
-    (form.Node, refl, subst (AreRight (arguments_in form.Node)) (sym are.4) ((p, are.5), ((t, are.6), (refl, ((path, are.8), ((blob, are.9), tt))))))
+form_said args (command.Node p t kind path blob) are = (
+  form.Node,
+  refl,
+  subst (AreRight (arguments_in form.Node)) (sym are.4)
+      ((p, are.5), ((t, are.6), (refl, ((path, are.8), ((blob, are.9), tt))))),
+)
 form_said args (command.Check t) are = (form.Check, refl, subst (AreRight (arguments_in form.Check)) (sym are.1) ((t, are.2), tt))
 form_said args (command.Tick t) are = (form.Tick, refl, subst (AreRight (arguments_in form.Tick)) (sym are.1) ((t, are.2), tt))
 form_said args _ are = absurd are
@@ -165,7 +175,8 @@ call_never (word ∷ args) c each one two has = never c each (arguments_in has.0
 pub call_must_say : (call : List Bytes) → ((c : Cause) → CallHas call c → ⊥) → ((said : Command) → CallSays call said → ⊥) → ⊥
 call_must_say [] free none = free cause.UnknownCommand tt
 call_must_say (word ∷ args) free none =
-    free cause.ArgumentCount (λ f is count. must_be_rights (arguments_in f) args count (wrong f is count) (λ right. let says = form_says f args right in none says.0 (is ∙ sym says.1, says.2)))
+    free cause.ArgumentCount (λ f is count. must_be_rights (arguments_in f) args count (wrong f is count)
+    (λ right. let says = form_says f args right in none says.0 (is ∙ sym says.1, says.2)))
   where
     wrong : (f : Form) → word ≡ word_in f → length args ≡ length (arguments_in f) → (c : Cause) → HasWrong c (arguments_in f) args → ⊥
     wrong f is count cause.UnknownCommand has = never cause.UnknownCommand (λ a w x. x) (arguments_in f) args has

@@ -1,5 +1,6 @@
 -- A line that says something has no cause, and one without a cause says something.
-use Rattle.std.proofs.Common.{◌≡◌, ◌≢◌, ◌⊎◌, inl, inr, ℕ, zero, suc, ◌-◌, ◌<◌, ◌≤◌, List, [], ◌∷◌, length, take, drop, map, get_or, Bor, Bool, true, false, refl, sym, ◌∙◌, ap, subst, arith}
+use Rattle.std.proofs.Common.{◌≡◌, ◌≢◌, ◌⊎◌, inl, inr, ℕ, zero, suc, ◌-◌, ◌<◌, ◌≤◌, List, [], ◌∷◌, length, take, drop, map, get_or, Bor}
+use Rattle.std.proofs.Common.{Bool, true, false, refl, sym, ◌∙◌, ap, subst, arith}
 use Rattle.std.proofs.lemmas.List.{take_all}
 use Rattle.std.specs.Prelude.{MatchBool, Result, Ok, Err, IfOk, not, ◌&&◌}
 use Rattle.half_hash.specs.declared.bytes.Memory.{Memory}
@@ -66,7 +67,8 @@ words_must_say : (earlier : List ℕ) (words : List Bytes) → is_command words 
     → ((l : Line) → WordsSay earlier words l → ⊥) → ⊥
 words_must_say earlier [] stands free none = differ stands refl
 words_must_say earlier (actor ∷ words) stands free none =
-    free cause.NoActor (λ a is. must_name earlier words (free cause.BadAfter) (λ after named. call_must_say (call_in words) call (λ said says.
+    free cause.NoActor (λ a is. must_name earlier words (free cause.BadAfter)
+    (λ after named. call_must_say (call_in words) call (λ said says.
     none (record { number = 0; actor = a; after = after; command = said }) (is, named, says))))
   where
     call : (c : Cause) → CallHas (call_in words) c → ⊥
@@ -110,7 +112,8 @@ must_say earlier text stands none fine = words_must_say earlier (words_of text) 
 -- the other causes of a command line are those of its call
 pub as_call : (earlier : List ℕ) (actor : Bytes) (words : List Bytes) (c : Cause) (b : Bool) → c ≢ cause.NoActor → c ≢ cause.BadAfter
     → c ≢ cause.TooManyCommands
-    → MatchBool b (CallHas (call_in words) c) (CallHas (call_in words) c → ⊥) → MatchBool b (WordsHave earlier (actor ∷ words) c) (WordsHave earlier (actor ∷ words) c → ⊥)
+    → MatchBool b (CallHas (call_in words) c) (CallHas (call_in words) c → ⊥)
+    → MatchBool b (WordsHave earlier (actor ∷ words) c) (WordsHave earlier (actor ∷ words) c → ⊥)
 as_call earlier actor words cause.NoActor b one two three says = absurd (one refl)
 as_call earlier actor words cause.BadAfter b one two three says = absurd (two refl)
 as_call earlier actor words cause.TooManyCommands b one two three says = absurd (three refl)
@@ -255,7 +258,8 @@ says_nothing earlier words text cut stands none =
 
 -- without a name for the line that is waited for the words say none
 pub no_name : (earlier : List ℕ) (words : List (Bor Bytes)) (l : Line) → 1 ≤ length words
-    → ((after : ℕ) → SaysAfter earlier (map (λ w. w.now) (take (length words - 1) (drop 1 words))) after → ⊥) → WordsSay earlier (map (λ w. w.now) words) l → ⊥
+    → ((after : ℕ) → SaysAfter earlier (map (λ w. w.now) (take (length words - 1) (drop 1 words))) after → ⊥)
+    → WordsSay earlier (map (λ w. w.now) words) l → ⊥
 no_name earlier [] l le none says = says
 no_name earlier (actor ∷ words) l le none says =
     let P : List (Bor Bytes) → Type 0 = λ w. SaysAfter earlier (map (λ w. w.now) w) l.after in
@@ -275,22 +279,29 @@ NamesNone earlier behind = (waits behind ≡ true) × ((n : ℕ) → IsEarlier e
 
 pub bad_after : (earlier : List ℕ) (words : List (Bor Bytes)) (c : Cause) (b : Bool) → 1 ≤ length words
     → is_command (map (λ w. w.now) words) ≡ true → c ≡ cause.BadAfter
-    → MatchBool b (NamesNone earlier (map (λ w. w.now) (take (length words - 1) (drop 1 words)))) (NamesNone earlier (map (λ w. w.now) (take (length words - 1) (drop 1 words))) → ⊥)
+    → MatchBool b (NamesNone earlier (map (λ w. w.now) (take (length words - 1) (drop 1 words))))
+    (NamesNone earlier (map (λ w. w.now) (take (length words - 1) (drop 1 words))) → ⊥)
     → MatchBool b (CommandHas earlier (map (λ w. w.now) words) c) (CommandHas earlier (map (λ w. w.now) words) c → ⊥)
 bad_after earlier [] c b le stands is says = absurd (omega arith)
 bad_after earlier (actor ∷ words) c b le stands is says =
-    let R : List (Bor Bytes) → Type 0 = λ w. MatchBool b (NamesNone earlier (map (λ w. w.now) w)) (NamesNone earlier (map (λ w. w.now) w) → ⊥) in
-    let S : Cause → Type 0 = λ a. MatchBool b (CommandHas earlier (map (λ w. w.now) (actor ∷ words)) a) (CommandHas earlier (map (λ w. w.now) (actor ∷ words)) a → ⊥) in
-    subst S (sym is) (of_command earlier (map (λ w. w.now) (actor ∷ words)) cause.BadAfter b stands (subst R (take_all (length (actor ∷ words) - 1) words (omega arith)) says))
+    let R : List (Bor Bytes) → Type 0 = λ w. MatchBool b (NamesNone earlier (map (λ w. w.now) w))
+    (NamesNone earlier (map (λ w. w.now) w) → ⊥) in
+    let S : Cause → Type 0 = λ a. MatchBool b (CommandHas earlier (map (λ w. w.now) (actor ∷ words)) a)
+    (CommandHas earlier (map (λ w. w.now) (actor ∷ words)) a → ⊥) in
+    subst S (sym is) (of_command earlier (map (λ w. w.now) (actor ∷ words)) cause.BadAfter b stands
+    (subst R (take_all (length (actor ∷ words) - 1) words (omega arith)) says))
 
 pub other_cause : (earlier : List ℕ) (words : List (Bor Bytes)) (c : Cause) (call : List Bytes) (r : Result Bool Memory) → 1 ≤ length words
     → is_command (map (λ w. w.now) words) ≡ true
-    → c ≢ cause.NoActor → c ≢ cause.BadAfter → c ≢ cause.TooManyCommands → call ≡ call_in (map (λ w. w.now) (take (length words - 1) (drop 1 words)))
+    → c ≢ cause.NoActor → c ≢ cause.BadAfter → c ≢ cause.TooManyCommands
+    → call ≡ call_in (map (λ w. w.now) (take (length words - 1) (drop 1 words)))
     → IfOk r (λ found. MatchBool found (CallHas call c) (CallHas call c → ⊥))
     → IfOk r (λ found. MatchBool found (CommandHas earlier (map (λ w. w.now) words) c) (CommandHas earlier (map (λ w. w.now) words) c → ⊥))
 other_cause earlier [] c call r le stands one two three is says = absurd (omega arith)
 other_cause earlier (actor ∷ words) c call (Err e) le stands one two three is says = tt
 other_cause earlier (actor ∷ words) c call (Ok b) le stands one two three is says =
     let R : List Bytes → Type 0 = λ w. MatchBool b (CallHas w c) (CallHas w c → ⊥) in
-    let whole : call ≡ call_in (map (λ w. w.now) words) = is ∙ ap (λ (w : List (Bor Bytes)). call_in (map (λ w. w.now) w)) (take_all (length (actor ∷ words) - 1) words (omega arith)) in
-    of_command earlier (map (λ w. w.now) (actor ∷ words)) c b stands (as_call earlier actor.now (map (λ w. w.now) words) c b one two three (subst R whole says))
+    let whole : call ≡ call_in (map (λ w. w.now) words) = is ∙ ap (λ (w : List (Bor Bytes)). call_in (map (λ w. w.now) w))
+    (take_all (length (actor ∷ words) - 1) words (omega arith)) in
+    of_command earlier (map (λ w. w.now) (actor ∷ words)) c b stands
+    (as_call earlier actor.now (map (λ w. w.now) words) c b one two three (subst R whole says))

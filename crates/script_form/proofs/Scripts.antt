@@ -60,7 +60,8 @@ fine_more half lines line are fine before l after e =
 
 size_more : (lines : List Bytes) (line : Bytes) → size_of (lines ++ line ∷ []) ≡ size_of lines + length line
 size_more lines line =
-    ap length (flat_map-append (λ (l : Bytes). l) lines (line ∷ [])) ∙ length-append (flat_map (λ (l : Bytes). l) lines) (line ++ []) ∙ ap (λ (n : ℕ). size_of lines + n) (ap length (append-nil line))
+    ap length (flat_map-append (λ (l : Bytes). l) lines (line ∷ [])) ∙ length-append (flat_map (λ (l : Bytes). l) lines) (line ++ [])
+    ∙ ap (λ (n : ℕ). size_of lines + n) (ap length (append-nil line))
 
 -- ---- of which kind a line is
 skipped_no_command : (words : List Bytes) → is_skipped words ≡ true → is_command words ≡ false
@@ -90,7 +91,9 @@ commands_skip : (n : ℕ) (lines : List Bytes) (line : Bytes) → is_command (wo
     → commands_from n (lines ++ line ∷ []) ≡ commands_from n lines
 commands_skip n [] line other = rw other refl
 commands_skip n (x ∷ lines) line other =
-    elim (is_command (words_of (text_of x))) as (λ b. cond b (n ∷ commands_from (n + 1) (lines ++ line ∷ [])) (commands_from (n + 1) (lines ++ line ∷ [])) ≡ cond b (n ∷ commands_from (n + 1) lines) (commands_from (n + 1) lines)) [
+    elim (is_command (words_of (text_of x))) as
+    (λ b. cond b (n ∷ commands_from (n + 1) (lines ++ line ∷ [])) (commands_from (n + 1) (lines ++ line ∷ [])) ≡ cond b
+    (n ∷ commands_from (n + 1) lines) (commands_from (n + 1) lines)) [
       | true ↦ ap (λ (ns : List ℕ). n ∷ ns) (commands_skip (n + 1) lines line other)
       | false ↦ commands_skip (n + 1) lines line other
     ]
@@ -100,7 +103,9 @@ commands_more : (n : ℕ) (lines : List Bytes) (line : Bytes) (m : ℕ) → is_c
 commands_more n [] line m stands is = let same : m ≡ n = omega arith in rw (stands, same) refl
 commands_more n (x ∷ lines) line m stands is =
     let more = commands_more (n + 1) lines line m stands (omega (arith, is)) in
-    elim (is_command (words_of (text_of x))) as (λ b. cond b (n ∷ commands_from (n + 1) (lines ++ line ∷ [])) (commands_from (n + 1) (lines ++ line ∷ [])) ≡ cond b (n ∷ commands_from (n + 1) lines) (commands_from (n + 1) lines) ++ m ∷ []) [
+    elim (is_command (words_of (text_of x))) as
+    (λ b. cond b (n ∷ commands_from (n + 1) (lines ++ line ∷ [])) (commands_from (n + 1) (lines ++ line ∷ [])) ≡ cond b
+    (n ∷ commands_from (n + 1) lines) (commands_from (n + 1) lines) ++ m ∷ []) [
       | true ↦ ap (λ (ns : List ℕ). n ∷ ns) more
       | false ↦ more
     ]
@@ -189,7 +194,8 @@ numbers_below lines ns n same below =
     subst (λ (w : List ℕ). All (λ m. m < n) w) same (All-map (λ m. m < n) (λ (x : Line). x.number) lines below)
 
 rises_more : (ns : List ℕ) (n : ℕ) → IsNonDecreasing ns → All (λ m. m < n) ns → IsNonDecreasing (ns ++ n ∷ [])
-rises_more ns n rises below = IsNonDecreasingBy-push (λ x. x) ns n rises (λ d some. let last : get_or ns (length ns - 1) d < n = below (length ns - 1) d (omega arith) in omega arith)
+rises_more ns n rises below = IsNonDecreasingBy-push (λ x. x) ns n rises
+    (λ d some. let last : get_or ns (length ns - 1) d < n = below (length ns - 1) d (omega arith) in omega arith)
 
 has_of_line : (half : Half) (before : List Bytes) (line : Bytes) (c : Cause) → LineHas half (earlier_of before) (text_of line) c
     → Has half before line c
@@ -243,14 +249,16 @@ reads_start half bytes = record {
   own = record { own = λ k d lt. absurd (omega arith); distinct = tt };
 }
 
-module _ (half : Half) (bytes : Bytes) (records : List Record) (lines : List Line) (earlier : List ℕ) (n : ℕ) (rest : Bytes) (r : Reads half bytes records lines earlier n rest) where
+module _ (half : Half) (bytes : Bytes) (records : List Record) (lines : List Line) (earlier : List ℕ) (n : ℕ) (rest : Bytes)
+    (r : Reads half bytes records lines earlier n rest) where
   same_earlier : earlier_in earlier records ≡ earlier_of r.done
   same_earlier =
       ap (λ (ns : List ℕ). record { commands = ns; hashes = hashes_of records }) r.numbers
       ∙ ap (λ (hs : List Hash). record { commands = commands_from 1 r.done; hashes = hs }) r.hashes
 
   -- the next line's text, and how many bytes the line has
-  module _ (text : Bytes) (k : ℕ) (is : text ≡ text_of (take k rest)) (cut : lines_of rest ≡ take k rest ∷ lines_of (drop k rest)) (some : 0 < k) (within : k ≤ length rest) where
+  module _ (text : Bytes) (k : ℕ) (is : text ≡ text_of (take k rest)) (cut : lines_of rest ≡ take k rest ∷ lines_of (drop k rest))
+      (some : 0 < k) (within : k ≤ length rest) where
     long : length (take k rest) ≡ k
     long = length-take-le k rest within
 
@@ -334,7 +342,8 @@ module _ (half : Half) (bytes : Bytes) (records : List Record) (lines : List Lin
     reads_line l small room fine command says =
         let words = words_of (text_of (take k rest)) in
         let stands = here (λ w. is_command w ≡ true) command in
-        let below : All (λ x. x.number < l.number) lines = All-weaker (λ x. x.number < n) (λ x. x.number < l.number) (λ x less. omega (arith, less, says.numbered)) lines r.below in
+        let below : All (λ x. x.number < l.number) lines = All-weaker (λ x. x.number < n) (λ x. x.number < l.number)
+        (λ x less. omega (arith, less, says.numbered)) lines r.below in
         let text_says : Says earlier n (text_of (take k rest)) l = subst (λ (t : Bytes). Says earlier n t l) is says in
         let numbered_says = subst (λ (m : ℕ). Says earlier m (text_of (take k rest)) l) r.place text_says in
         let whole_says = subst (λ (e : List ℕ). Says e (length r.done + 1) (text_of (take k rest)) l) r.numbers numbered_says in
@@ -356,9 +365,12 @@ module _ (half : Half) (bytes : Bytes) (records : List Record) (lines : List Lin
           room = omega (arith, size_more r.done (take k rest), fits room);
           few = omega (arith, r.few, length-drop k rest, some, within);
           count = omega (arith, r.count, length-append lines (l ∷ []));
-          below = All-push (λ x. x.number < n + 1) lines l (All-weaker (λ x. x.number < n) (λ x. x.number < n + 1) (λ x less. omega (arith, less)) lines r.below) (omega (arith, says.numbered));
+          below = All-push (λ x. x.number < n + 1) lines l
+              (All-weaker (λ x. x.number < n) (λ x. x.number < n + 1) (λ x less. omega (arith, less)) lines r.below)
+              (omega (arith, says.numbered));
           rises = rises_more earlier n r.rises (numbers_below lines earlier n r.same r.below);
-          servable = servable_more lines l r.servable (omega (arith, says.numbered, r.place)) below (omega (arith, r.count, r.few, small)) (let K : List ℕ → Type 0 = λ e. Known e l in subst K (sym r.same) (known earlier (words_of text) l says.words));
+          servable = servable_more lines l r.servable (omega (arith, says.numbered, r.place)) below (omega (arith, r.count, r.few, small))
+              (let K : List ℕ → Type 0 = λ e. Known e l in subst K (sym r.same) (known earlier (words_of text) l says.words));
           own = r.own;
         }
 

@@ -111,7 +111,8 @@ servable_more lines l s some below few k = record {
   numbers_rise = rises_more 0 lines l s.numbers_rise some below;
   in_range = All-push (λ x. IsInRange x.command) lines l s.in_range k.in_range;
   served = All-push (λ x. IsServed x.command) lines l s.served k.served;
-  waiting = All-push (WaitsForEarlier (lines ++ l ∷ [])) lines l (All-weaker (WaitsForEarlier lines) (WaitsForEarlier (lines ++ l ∷ [])) wider lines s.waiting) here;
+  waiting = All-push (WaitsForEarlier (lines ++ l ∷ [])) lines l
+      (All-weaker (WaitsForEarlier lines) (WaitsForEarlier (lines ++ l ∷ [])) wider lines s.waiting) here;
   few = omega (arith, few, length-append lines (l ∷ []));
 }
   where
@@ -125,5 +126,8 @@ servable_more lines l s some below few k = record {
 
     here : WaitsForEarlier (lines ++ l ∷ []) l
     here some =
-        let among = k.waits some in
-        (All-contains (λ n. n < l.number) (map (λ x. x.number) lines) l.after (All-map (λ n. n < l.number) (λ (x : Line). x.number) lines below) among, more l.after among)
+        let among = k.waits some in (
+          All-contains (λ n. n < l.number) (map (λ x. x.number) lines) l.after
+              (All-map (λ n. n < l.number) (λ (x : Line). x.number) lines below) among,
+          more l.after among,
+        )

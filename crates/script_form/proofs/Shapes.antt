@@ -13,7 +13,8 @@ use Rattle.script_form.specs.Commands.{word_in, arguments_in, IsWrong}
 -- the form of a first byte and a number of arguments
 abbrev form_by : ℕ → ℕ → Form
 form_by first count =
-    if first == 119 then form.Want else if first == 112 then form.Peer else if first == 110 then form.Node else if first == 99 then form.Check
+    if first == 119 then form.Want else if first == 112 then form.Peer else if first == 110 then form.Node else if first == 99 then
+    form.Check
     else if first == 116 then form.Tick else if count == 3 then form.Base else form.BaseState
 
 by_form : (f : Form) → form_by (slice_index (word_in f) 0) (length (arguments_in f)) ≡ f

@@ -17,7 +17,8 @@ use Rattle.std.proofs.lemmas.List.{take_all}
 -- what is made of the hashes
 pub made : (b body : Bytes) (hs : List Hash) (o : Option Inner) → starts_with nat_eq b inner_prefix ≡ true → length b ≡ 516
     → body ≡ drop 4 b → hs ≡ hashes_of 16 body
-    → MatchOption o (IsTrue (list_all is_zero hs)) (λ i. (i.hashes ≡ hs) × IsTrue (list_any is_nonzero hs)) → option_map (λ (i : Inner). i.hashes) o ≡ inner_of b
+    → MatchOption o (IsTrue (list_all is_zero hs)) (λ i. (i.hashes ≡ hs) × IsTrue (list_any is_nonzero hs))
+    → option_map (λ (i : Inner). i.hashes) o ≡ inner_of b
 made b body hs None prefix size rest is all =
     let e : hs ≡ hashes_of 16 (drop 4 b) = is ∙ ap (hashes_of 16) rest in
     sym (not_inner_empty b (ap (list_any is_nonzero) (sym e) ∙ none_nonzero hs all))
@@ -38,7 +39,8 @@ pub inner_empty_cause : (b body : Bytes) (hs : List Hash) → length b ≡ 516 �
 unfolding inner_cause
 inner_empty_cause b body hs size rest is all =
     cond-false (not (length b == 516)) _ _ (same_length b size)
-    ∙ cond-true (list_all is_zero (hashes_of 16 (drop 4 b))) _ _ (ap (λ x. list_all is_zero (hashes_of 16 x)) (sym rest) ∙ ap (list_all is_zero) (sym is) ∙ all)
+    ∙ cond-true (list_all is_zero (hashes_of 16 (drop 4 b))) _ _
+    (ap (λ x. list_all is_zero (hashes_of 16 x)) (sym rest) ∙ ap (list_all is_zero) (sym is) ∙ all)
 
 -- what stands behind the prefix is the hashes, joined
 pub inner_body : (b body : Bytes) (hs got : List Hash) → length b ≡ 516 → body ≡ drop 4 b → hs ≡ hashes_of 16 body → got ≡ hs
@@ -53,6 +55,7 @@ unfolding inner_cause
 no_inner_cause b hashes h e =
     let joined : length (concat hashes) ≡ 512 = omega (arith, length-concat hashes h.sizes, h.count) in
     let size : length b ≡ 516 = ap length e ∙ omega (arith, joined) in
-    let same : hashes_of 16 (drop 4 b) ≡ hashes = ap (λ x. hashes_of 16 (drop 4 x)) e ∙ ap (λ n. hashes_of n (concat hashes)) (sym h.count) ∙ hashes_of-concat hashes h.sizes in
+    let same : hashes_of 16 (drop 4 b) ≡ hashes = ap (λ x. hashes_of 16 (drop 4 x)) e
+    ∙ ap (λ n. hashes_of n (concat hashes)) (sym h.count) ∙ hashes_of-concat hashes h.sizes in
     cond-false (not (length b == 516)) _ _ (same_length b size)
     ∙ cond-false (list_all is_zero (hashes_of 16 (drop 4 b))) _ _ (ap (list_all is_zero) same ∙ some_not_all hashes h.some)

@@ -70,7 +70,8 @@ cause_snd half b le min mln snd =
 
 pub cause_txn : (half : Half) (b : Bytes) → 4 ≤ length b → starts_with nat_eq b (prefix_of Min) ≡ false
     → starts_with nat_eq b (prefix_of Mln) ≡ false
-    → starts_with nat_eq b (prefix_of Snd) ≡ false → starts_with nat_eq b (prefix_of Txn) ≡ true → form_cause half b ≡ leaf_cause (length b - 4) (half b)
+    → starts_with nat_eq b (prefix_of Snd) ≡ false → starts_with nat_eq b (prefix_of Txn) ≡ true
+    → form_cause half b ≡ leaf_cause (length b - 4) (half b)
 unfolding form_cause
 cause_txn half b le min mln snd txn =
     cond-false (nat_lt (length b) 4) _ _ (long b le) ∙ cond-false (starts_with nat_eq b (prefix_of Min)) _ _ min
@@ -79,7 +80,8 @@ cause_txn half b le min mln snd txn =
 
 pub cause_prefix : (half : Half) (b : Bytes) → 4 ≤ length b → starts_with nat_eq b (prefix_of Min) ≡ false
     → starts_with nat_eq b (prefix_of Mln) ≡ false
-    → starts_with nat_eq b (prefix_of Snd) ≡ false → starts_with nat_eq b (prefix_of Txn) ≡ false → form_cause half b ≡ Some (Prefix (from_be_bytes w32 (take 4 b)))
+    → starts_with nat_eq b (prefix_of Snd) ≡ false → starts_with nat_eq b (prefix_of Txn) ≡ false
+    → form_cause half b ≡ Some (Prefix (from_be_bytes w32 (take 4 b)))
 unfolding form_cause
 cause_prefix half b le min mln snd txn =
     cond-false (nat_lt (length b) 4) _ _ (long b le) ∙ cond-false (starts_with nat_eq b (prefix_of Min)) _ _ min
@@ -95,18 +97,21 @@ starts_as b form p e = ap (λ x. starts_with nat_eq x p) e
 -- a node's form has no cause
 pub no_cause : (half : Half) (n : Held) (b : Bytes) → IsTrue (is_node n) → Form half n b → form_cause half b ≡ None
 no_cause half (inner hashes) b node f =
-    cause_min half b (four (prefix_of Min) (concat hashes) b refl f.1) (starts_as b (prefix_of Min ++ concat hashes) (prefix_of Min) f.1) ∙ no_inner_cause b hashes f.0 f.1
+    cause_min half b (four (prefix_of Min) (concat hashes) b refl f.1) (starts_as b (prefix_of Min ++ concat hashes) (prefix_of Min) f.1)
+    ∙ no_inner_cause b hashes f.0 f.1
 no_cause half (leaf State key bytes) b node f =
     let e : b ≡ prefix_of Mln ++ bytes ++ key = f.1 in
     cause_mln half b (four (prefix_of Mln) (bytes ++ key) b refl e) (starts_as b _ (prefix_of Min) e) (starts_as b _ (prefix_of Mln) e)
     ∙ no_keyed_cause (prefix_of Mln) bytes key b refl f.0 e
 no_cause half (leaf Tx key bytes) b node f =
     let e : b ≡ prefix_of Snd ++ bytes ++ key = f.1 in
-    cause_snd half b (four (prefix_of Snd) (bytes ++ key) b refl e) (starts_as b _ (prefix_of Min) e) (starts_as b _ (prefix_of Mln) e) (starts_as b _ (prefix_of Snd) e)
+    cause_snd half b (four (prefix_of Snd) (bytes ++ key) b refl e) (starts_as b _ (prefix_of Min) e) (starts_as b _ (prefix_of Mln) e)
+    (starts_as b _ (prefix_of Snd) e)
     ∙ no_keyed_cause (prefix_of Snd) bytes key b refl f.0 e
 no_cause half (leaf Set key bytes) b node f =
     let e : b ≡ prefix_of Txn ++ bytes = f.1 in
-    cause_txn half b (four (prefix_of Txn) bytes b refl e) (starts_as b _ (prefix_of Min) e) (starts_as b _ (prefix_of Mln) e) (starts_as b _ (prefix_of Snd) e) (starts_as b _ (prefix_of Txn) e)
+    cause_txn half b (four (prefix_of Txn) bytes b refl e) (starts_as b _ (prefix_of Min) e) (starts_as b _ (prefix_of Mln) e)
+    (starts_as b _ (prefix_of Snd) e) (starts_as b _ (prefix_of Txn) e)
     ∙ ap (leaf_cause (length b - 4)) (ap half e ∙ sym f.0.1) ∙ no_bare_cause key bytes b f.0.0 e
 no_cause half (header bytes) b node f = absurd (false≢true node)
 

@@ -25,8 +25,10 @@ use Rattle.shamap_node.proofs.Reading.{no_cause, no_leaf_cause, cause_txn}
 bare_no_cause : (half : Half) (b : Bytes) (n : Held) → bare_leaf_of half b ≡ Some n → form_cause half b ≡ None
 unfolding bare_leaf_of
 bare_no_cause half b n is =
-    let q : ((starts_with nat_eq b (leaf_prefix Set) && nat_le (length b) (4 + data_limit) && is_nonzero (half b)) ≡ true) × (leaf Set (half b) (drop 4 b) ≡ n) = chose _ _ n is in
-    let t : Three (starts_with nat_eq b (leaf_prefix Set)) (nat_le (length b) (4 + data_limit)) (is_nonzero (half b)) = three_parts _ _ _ q.0 in
+    let q : ((starts_with nat_eq b (leaf_prefix Set) && nat_le (length b) (4 + data_limit) && is_nonzero (half b)) ≡ true)
+    × (leaf Set (half b) (drop 4 b) ≡ n) = chose _ _ n is in
+    let t : Three (starts_with nat_eq b (leaf_prefix Set)) (nat_le (length b) (4 + data_limit)) (is_nonzero (half b)) =
+    three_parts _ _ _ q.0 in
     let short : length b ≤ 4 + data_limit = leb-true (length b) (4 + data_limit) t.second in
     let e : b ≡ prefix_of Txn ++ drop 4 b = form_behind b (leaf_prefix Set) (drop 4 b) refl t.first refl in
     let long : 4 ≤ length b = omega (arith, ap length e) in
@@ -41,7 +43,8 @@ passes : (half : Half) (b : Bytes) (n : Held) → held_of half b ≡ Some n → 
 passes half b n is =
     by_reader (Passes half b) n (inner_of b) (header_of b) (keyed_leaf_of State b) (keyed_leaf_of Tx b) (bare_leaf_of half b)
     (λ hashes k node. no_cause half (inner hashes) b node (holds_inner half b hashes k)) (λ bytes k node. absurd (false≢true node))
-    (λ m k node. no_cause half m b node (state_form half b m (holds_keyed State b m k))) (λ m k node. no_cause half m b node (tx_form half b m (holds_keyed Tx b m k)))
+    (λ m k node. no_cause half m b node (state_form half b m (holds_keyed State b m k)))
+    (λ m k node. no_cause half m b node (tx_form half b m (holds_keyed Tx b m k)))
     (λ m k node. bare_no_cause half b m k) is
 
 not_node : (half : Half) (b : Bytes) (fault : FormFault) → form_cause half b ≡ Some fault → (n : Held) → held_of half b ≡ Some n

@@ -1,6 +1,16 @@
 //! Nodes of a SHAMap, the hash tree of an XRP Ledger's entries and transactions, and their prefix
 //! forms: the bytes that are hashed and stored (XRP Ledger documentation, "Ledger data formats" and
 //! "Hash prefixes").
+//!
+//! A tree of two items, whose keys begin with the nibbles 2 6 and 2 B:
+//!
+//!     []        inner node, the root: branch 2 has a hash, the other fifteen are zero
+//!      └ [2]       inner node: branches 6 and B have hashes
+//!          ├ [2 6]    leaf: the item with the key 26..
+//!          └ [2 B]    leaf: the item with the key 2B..
+//!
+//! An inner node keeps the hashes of the nodes below it, and so its own hash says what all of them are. A leaf stands at the shortest
+//! path that no other key begins with.
 #![tactic(auto)]
 
 mod forms;
@@ -37,7 +47,9 @@ mod tests {
     const KEY: &[u8] = b"2B6AC232AA4C4BE41BF49D2459FA4A0347E1B543A4C92FCEE0821C0201E2E9A8";
 
     const DATA: &[u8] =
-        b"\x11\0\x61\x22\0\0\0\0\x24\0\0\0\x01\x25\0\0\0\0\x2D\0\0\0\0\x55\0\0\0\0\0\0\0\0\0\0\0\0\0\0\0\0\0\0\0\0\0\0\0\0\0\0\0\0\0\0\0\0\x62\x41\x63\x45\x78\x5D\x8A\0\0\x81\x14\xB5\xF7\x62\x79\x8A\x53\xD5\x43\xA0\x14\xCA\xF8\xB2\x97\xCF\xF8\xF2\xF9\x37\xE8";
+        b"\x11\0\x61\x22\0\0\0\0\x24\0\0\0\x01\x25\0\0\0\0\x2D\0\0\0\0\x55\0\0\0\0\0\0\0\0\0\0\0\0\0\0\0\0\0\0\0\0\0\0\0\0\0\0\0\
+          \0\0\0\0\0\x62\x41\x63\x45\x78\x5D\x8A\0\0\x81\x14\xB5\xF7\x62\x79\x8A\x53\xD5\x43\xA0\x14\xCA\xF8\xB2\x97\xCF\xF8\xF2\
+          \xF9\x37\xE8";
 
     const LEAF: &[u8] = b"C30E11C83C5ADFB63E9540266E12A6BCEB90E562331DCBE84CECAC0205C51D0F";
 

@@ -15,7 +15,8 @@ use Rattle.ledger_spec.specs.Peers.{same_place, unasked}
 
 -- paths are one where their fields are
 pub same_ids : (p q : List ℕ) → IsPath p → IsPath q → (nat_eq (length p) (length q) && bytes_eq (id_of p) (id_of q)) ≡ same_bytes p q
-same_ids p q h k = same_from_decides (nat_eq (length p) (length q) && bytes_eq (id_of p) (id_of q)) (same_bytes p q) (same_path-Decides p q h k) (bytes_eq-Decides p q)
+same_ids p q h k = same_from_decides (nat_eq (length p) (length q) && bytes_eq (id_of p) (id_of q)) (same_bytes p q)
+    (same_path-Decides p q h k) (bytes_eq-Decides p q)
 
 one_more : (asked missing : List Place) (i : ℕ) (x : Place) → i < length missing → x ≡ get_or missing i x
     → unasked asked (take (i + 1) missing) ≡ unasked asked (take i missing) ++ unasked asked (x ∷ [])

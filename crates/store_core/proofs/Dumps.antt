@@ -16,7 +16,7 @@ use Rattle.ledger_spec.specs.Bytes.{Bytes, Hash, Half, Lookup, Nodes}
 use Rattle.ledger_spec.specs.Own.{AreStored, own_forms}
 use Rattle.ledger_spec.proofs.Owning.{all_own}
 use Rattle.ledger_spec.specs.Maps.{hash_cmp}
-use Rattle.node_table.specs.Order.{IsAfter, IsNext}
+use Rattle.node_backend.specs.Order.{IsAfter, IsNext}
 use Rattle.ledger_machine.specs.declared.commands.Record.{Record}
 use Rattle.store_core.specs.Dumping.{comes_after, Follows, IsNextRecord}
 
@@ -123,18 +123,22 @@ one_behind after next form (e ∷ es) sorted at found least =
         → said e ∷ behind after es ≡ record { hash = next; form = form } ∷ behind (Some next) (e ∷ es)
     here t Less is =
         absurd (none_some (sym (find_below next (e ∷ es)
-        (subst (λ (r : Ordering). T (is_lt r && below_all hash_cmp next es)) (sym is) (below_later next e.0 es is (first _ _ sorted)))) ∙ found))
+        (subst (λ (r : Ordering). T (is_lt r && below_all hash_cmp next es)) (sym is) (below_later next e.0 es is (first _ _ sorted))))
+        ∙ found))
     here t Greater is =
         let le : IsLeBy hash_cmp next e.0 = least e.0 (after_is after e.0 t) (ap is_some (find_itself e es)) in
         not_true (sym (ap is_gt is) ∙ le)
     here t Equal is =
         let key : next ≡ e.0 = same next e.0 is in
-        let value : form ≡ e.1 = ap (λ (o : Option Bytes). elim o as (λ _. Bytes) [ None ↦ form | Some x ↦ x ]) (sym found ∙ ap (λ (r : Ordering). cond (is_eq r) (Some e.1) (find hash_cmp next es)) is) in
+        let value : form ≡ e.1 = ap (λ (o : Option Bytes). elim o as (λ _. Bytes) [ None ↦ form | Some x ↦ x ])
+        (sym found ∙ ap (λ (r : Ordering). cond (is_eq r) (Some e.1) (find hash_cmp next es)) is) in
         ap (λ (rs : List Record). said e ∷ rs)
         (all_behind after e.0 es (λ h l. after_yes after h (after_later after e.0 h (after_is after e.0 t) l)) (first _ _ sorted)
         ∙ sym (all_behind (Some next) e.0 es (λ h l. ap is_lt (ap (λ (k : Hash). hash_cmp k h) key ∙ l)) (first _ _ sorted))
         ∙ sym (ap (λ (r : Ordering). cond (is_lt r) (said e ∷ behind (Some next) es) (behind (Some next) es)) is))
-        ∙ ap (λ (r : Record). r ∷ behind (Some next) (e ∷ es)) (ap (λ (k : Hash). record { hash = k; form = e.1 }) (sym key) ∙ ap (λ (x : Bytes). record { hash = next; form = x }) (sym value))
+        ∙ ap (λ (r : Record). r ∷ behind (Some next) (e ∷ es))
+        (ap (λ (k : Hash). record { hash = k; form = e.1 }) (sym key)
+        ∙ ap (λ (x : Bytes). record { hash = next; form = x }) (sym value))
 
     more : (h : Hash) → IsSome (find hash_cmp h es) → IsSome (find hash_cmp h (e ∷ es))
     more h some =
@@ -177,16 +181,19 @@ next_is half nodes after next form all is held =
     has_next nodes after next form is (sym (held ∙ ap (λ (f : Lookup). f next) (all_own half (finite.get nodes) all)))
 
 -- the same, said of other names
-pub next_from : (nodes nodes' : Nodes) (a b d o o' : Option Hash) → nodes' ≡ nodes → a ≡ b → b ≡ d → o ≡ o' → IsNext nodes' a o → IsNext nodes d o'
+pub next_from : (nodes nodes' : Nodes) (a b d o o' : Option Hash) → nodes' ≡ nodes → a ≡ b → b ≡ d → o ≡ o' → IsNext nodes' a o
+    → IsNext nodes d o'
 next_from nodes nodes' a b d o o' same first then found is =
-    subst (λ (n : Nodes). IsNext n d o') same (subst (λ (x : Option Hash). IsNext nodes' x o') (first ∙ then) (subst (λ (x : Option Hash). IsNext nodes' a x) found is))
+    subst (λ (n : Nodes). IsNext n d o') same
+    (subst (λ (x : Option Hash). IsNext nodes' x o') (first ∙ then) (subst (λ (x : Option Hash). IsNext nodes' a x) found is))
 
 pub follows_of : (a b o : Option Hash) (h : Hash) → a ≡ b → o ≡ Some h → IfSome o (Follows a) → Follows b h
 follows_of a b o h same found follows =
     subst (λ (x : Option Hash). Follows x h) same (subst (λ (x : Option Hash). IfSome x (Follows a)) found follows)
 
 -- something is held under the next hash
-pub next_some : (half : Half) (nodes nodes' : Nodes) (after : Option Hash) (next : Hash) (field : Option Bytes) → AreStored half (finite.get nodes)
+pub next_some : (half : Half) (nodes nodes' : Nodes) (after : Option Hash) (next : Hash) (field : Option Bytes)
+    → AreStored half (finite.get nodes)
     → IsNext nodes after (Some next) → nodes' ≡ nodes → field ≡ own_forms half (finite.get nodes') next
     → ((x : Bytes) → field ≡ Some x → ⊥) → ⊥
 next_some half nodes nodes' after next None all is same found none =

@@ -47,7 +47,10 @@ pub below_middle : (lines : List Line) → Rises 0 lines → (middle number : �
 below_middle lines rise middle number d lt less k e before within =
     elim (cases_lt k middle (omega arith)) [
       | inl earlier ↦ omega (arith, rising 0 lines rise k middle e d earlier lt, less)
-      | inr here ↦ let same : (get_or lines k e).number ≡ (get_or lines middle d).number = ap (λ (n : ℕ). (get_or lines n e).number) here ∙ ap (λ (l : Line). l.number) (get_or_default lines middle e d lt) in omega (arith, same, less)
+      | inr here ↦
+          let same : (get_or lines k e).number ≡ (get_or lines middle d).number = ap (λ (n : ℕ). (get_or lines n e).number) here
+          ∙ ap (λ (l : Line). l.number) (get_or_default lines middle e d lt) in
+          omega (arith, same, less)
     ]
   where
     cases_lt : (k n : ℕ) → k ≤ n → (k < n) ⊎ (k ≡ n)
@@ -64,19 +67,25 @@ above_middle lines rise middle number d lt more k e after within =
       | true ↦ λ h. let later : middle < k = grind (arith, nat_tests) in omega (arith, rising 0 lines rise middle k d e later within, more)
       | false ↦ λ h.
           let here : k ≡ middle = grind (arith, nat_tests) in
-          let same : (get_or lines k e).number ≡ (get_or lines middle d).number = ap (λ (n : ℕ). (get_or lines n e).number) here ∙ ap (λ (l : Line). l.number) (get_or_default lines middle e d lt) in
+          let same : (get_or lines k e).number ≡ (get_or lines middle d).number = ap (λ (n : ℕ). (get_or lines n e).number) here
+          ∙ ap (λ (l : Line). l.number) (get_or_default lines middle e d lt) in
           omega (arith, same, more)
     ] refl
 
 pub line_there : (lines : List Line) (at number : ℕ) (l : Line) → at < length lines → AllBefore lines at number → l ≡ get_or lines at l
     → l.number ≡ number → Some l ≡ line_of lines number
 line_there lines at number l lt below is here =
-    ap Some is ∙ sym (found_at lines at number l lt (λ k before. λ same. absurd (omega (arith, below k l before (omega (arith, before, lt)), same))) (ap (λ (x : Line). x.number) (sym is) ∙ here))
+    ap Some is ∙ sym (found_at lines at number l lt
+    (λ k before. λ same. absurd (omega (arith, below k l before (omega (arith, before, lt)), same)))
+    (ap (λ (x : Line). x.number) (sym is) ∙ here))
 
 pub line_nowhere : (lines : List Line) → Rises 0 lines → (at number : ℕ) (l : Line) → at < length lines → AllBefore lines at number
     → AllFrom lines at number → l ≡ get_or lines at l → l.number ≢ number → None ≡ line_of lines number
 line_nowhere lines rise at number l lt below above is other =
-    let more : number < (get_or lines at l).number = let le = above at l (omega arith) lt in let e : l.number ≡ (get_or lines at l).number = ap (λ (x : Line). x.number) is in let apart : l.number ≡ number → ⊥ = other in grind (arith) in
+    let more : number < (get_or lines at l).number = let le = above at l (omega arith) lt in
+    let e : l.number ≡ (get_or lines at l).number = ap (λ (x : Line). x.number) is in
+    let apart : l.number ≡ number → ⊥ = other in
+    grind (arith) in
     sym (found_none lines number (λ k d within same. elim (nat_lt k at) as (λ b. nat_lt k at ≡ b → ⊥) [
       | true ↦ λ h. let before : k < at = grind (arith, nat_tests) in absurd (omega (arith, below k d before within, same))
       | false ↦ λ h.

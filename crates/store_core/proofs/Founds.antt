@@ -83,7 +83,8 @@ found_seq_is half s t found finds = seq_by found.header (header_in (form_in s) t
 
 -- an open acquisition is answered by what was found: by the header where it has a fault
 pub head_decides : (o : Option Acquisition) (asked floor : ℕ) (found : Found) (v : Option CheckReply) (r : CheckReply) → IsSome o
-    → ((rest : CheckReply) → option_map_or (λ (h : Head). header_verdict asked floor (header_bytes (fields h)) rest) found.header rest ≡ unwrap_or v rest)
+    → ((rest : CheckReply) → option_map_or (λ (h : Head). header_verdict asked floor (header_bytes (fields h)) rest) found.header rest ≡
+    unwrap_or v rest)
     → v ≡ Some r → r ≡ found_reply o asked floor found
 head_decides None asked floor found v r is_open verdict is = cc
 head_decides (Some a) asked floor found v r is_open verdict is =
@@ -91,7 +92,8 @@ head_decides (Some a) asked floor found v r is_open verdict is =
 
 -- else by the places
 pub places_answer : (o : Option Acquisition) (asked floor : ℕ) (found : Found) (v : Option CheckReply) (r : CheckReply) → IsSome o
-    → ((rest : CheckReply) → option_map_or (λ (h : Head). header_verdict asked floor (header_bytes (fields h)) rest) found.header rest ≡ unwrap_or v rest)
+    → ((rest : CheckReply) → option_map_or (λ (h : Head). header_verdict asked floor (header_bytes (fields h)) rest) found.header rest ≡
+    unwrap_or v rest)
     → v ≡ None → ((a : Acquisition) → o ≡ Some a → r ≡ place_reply a found found.broken) → r ≡ found_reply o asked floor found
 places_answer None asked floor found v r is_open verdict is by = cc
 places_answer (Some a) asked floor found v r is_open verdict is by =
@@ -114,7 +116,8 @@ lent_verdict asked floor (Some h) o v e verdict reads rest =
     ap (λ x. option_map_or (λ (h : Head). header_verdict asked floor (header_bytes (fields h)) rest) x rest) (sym e)
     ∙ verdict (subst (λ (x : Option Head). IfSome x (λ h. Reads (header_bytes (fields h)) h)) (sym e) reads) rest
 
-pub check_found : (half : Half) (s : State) (t : Hash) (a : Acquisition) (wanted : ForHash Acquisition) (asked floor : ℕ) (found : Found) (r : CheckReply)
+pub check_found : (half : Half) (s : State) (t : Hash) (a : Acquisition) (wanted : ForHash Acquisition) (asked floor : ℕ) (found : Found)
+    (r : CheckReply)
     → get_in hash_cmp s.wanted t ≡ Some a → asked ≡ a.seq → wanted ≡ s.wanted → floor ≡ s.floor → Finds half (form_in s) t found
     → r ≡ found_reply (get_in hash_cmp wanted t) asked floor found → r ≡ check_reply half s t
 check_found half s t a wanted asked floor found r at seq same_wanted same_floor finds is =

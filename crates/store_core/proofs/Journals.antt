@@ -70,7 +70,11 @@ numbers_next lines from a at line next is =
 
 numbers-take-le : (a n : ℕ) (lines : List Line) → length (numbers_of a (take n lines)) ≤ length (numbers_of a lines)
 numbers-take-le a n lines =
-    omega (arith, ap length (ap (numbers_of a) (sym (take-append-drop n lines)) ∙ numbers-append a (take n lines) (drop n lines)), length-append (numbers_of a (take n lines)) (numbers_of a (drop n lines)))
+    omega (
+      arith,
+      ap length (ap (numbers_of a) (sym (take-append-drop n lines)) ∙ numbers-append a (take n lines) (drop n lines)),
+      length-append (numbers_of a (take n lines)) (numbers_of a (drop n lines)),
+    )
 
 answered_part : (a : ℕ) (es : List Entry) → part (λ e. e.actor) es a ≡ length (answered_by a es)
 answered_part a es = sym (length-map (filter (λ e. e.actor == a) es) (λ (e : Entry). e.line))
@@ -123,7 +127,16 @@ bound_more es e missed opened now now' (inl b) later cause =
 pub answers : (half : Half) (lines : List Line) (s s' : State) (line : Line) (e : Entry) (from at : ℕ) → IsNext lines from e.actor at
     → line ≡ get_or lines at line → e.line ≡ line.number → e.actor ≡ e.actor → Step half s e.actor line.command e.reply (used_by e) s'
     → Answers half lines s e s'
-answers half lines s s' line e from at next is number _ step = record { place = at; line = line; stands = slice_get_read lines (length lines) at line refl next.within is; number = number; actor = sym (next.actor line is); step = step }
+answers half lines s s' line e from at next is number _ step =
+    record {
+      place = at;
+      line = line;
+      stands = slice_get_read lines (length lines) at line refl next.within is;
+      number = number;
+      actor =
+          sym (next.actor line is);
+      step = step;
+    }
 
 -- the commands that are served acquire a ledger
 pub served_acquires : (c : Command) → IsServed c → IsAcquiring c
@@ -135,19 +148,27 @@ served_acquires (command.Check t) served = tt
 served_acquires (command.Tick t) served = tt
 served_acquires _ served = absurd served
 
-module _ (half : Half) (records : List Record) (lines : List Line) (cursors : List ℕ) (journal : List Entry) (capacity interval : ℕ) (told : Bool)
+module _ (half : Half) (records : List Record) (lines : List Line) (cursors : List ℕ) (journal : List Entry) (capacity interval : ℕ)
+    (told : Bool)
     (opened now missed : ℕ) (s : State) (k : CoreKeeps half records lines cursors journal capacity interval told opened now missed s) where
   at_most : (a : ℕ) → a < 64 → part (λ e. e.actor) journal a ≤ part (λ l. l.actor) lines a
   at_most a lt =
       omega (arith, answered_part a journal, numbers_part a lines, ap length (k.done a lt), numbers-take-le a (slice_index cursors a) lines)
 
   pub kept_few : length journal ≤ length lines
-  kept_few = omega (arith, parts_total 64 (λ (e : Entry). e.actor) journal k.known, parts_total 64 (λ (l : Line). l.actor) lines k.servable.actors_known, total-le 64 _ _ at_most)
+  kept_few = omega (
+    arith,
+    parts_total 64 (λ (e : Entry). e.actor) journal k.known,
+    parts_total 64
+        (λ (l : Line). l.actor) lines k.servable.actors_known,
+    total-le 64 _ _ at_most,
+  )
 
   joins : (a : ℕ) → a < 64 → answered_by a journal ++ numbers_of a (drop (slice_index cursors a) lines) ≡ numbers_of a lines
   joins a lt =
       ap (λ (w : List ℕ). w ++ numbers_of a (drop (slice_index cursors a) lines)) (k.done a lt)
-      ∙ sym (numbers-append a (take (slice_index cursors a) lines) (drop (slice_index cursors a) lines)) ∙ ap (numbers_of a) (take-append-drop (slice_index cursors a) lines)
+      ∙ sym (numbers-append a (take (slice_index cursors a) lines) (drop (slice_index cursors a) lines))
+      ∙ ap (numbers_of a) (take-append-drop (slice_index cursors a) lines)
 
   pub kept_projects : Projects lines journal
   kept_projects = record { fronts = λ a lt. (numbers_of a (drop (slice_index cursors a) lines), joins a lt); waits = k.waits }
@@ -175,10 +196,13 @@ module _ (half : Half) (records : List Record) (lines : List Line) (cursors : Li
   pub kept_answered : (at : ℕ) (line : Line) → at < length lines → get_or lines at line ≡ line
       → is_answered journal line.number ≡ nat_lt at (slice_index cursors line.actor)
   kept_answered at line lt is =
-      elim (nat_lt at (slice_index cursors line.actor)) as (λ b. nat_lt at (slice_index cursors line.actor) ≡ b → is_answered journal line.number ≡ b) [
+      elim (nat_lt at (slice_index cursors line.actor)) as
+      (λ b. nat_lt at (slice_index cursors line.actor) ≡ b → is_answered journal line.number ≡ b) [
         | true ↦ λ t.
             let passed : at < slice_index cursors line.actor = grind (arith, nat_tests) in
-            answered_any line.actor line.number journal (ap (list_any (λ m. m == line.number)) (k.done line.actor known_actor) ∙ number_in lines (slice_index cursors line.actor) at line passed lt is)
+            answered_any line.actor line.number journal
+            (ap (list_any (λ m. m == line.number)) (k.done line.actor known_actor)
+            ∙ number_in lines (slice_index cursors line.actor) at line passed lt is)
         | false ↦ λ t. elim (is_answered journal line.number) as (λ b. is_answered journal line.number ≡ b → b ≡ false) [
           | true ↦ λ any. let passed : at < slice_index cursors line.actor = behind any in grind (arith, nat_tests)
           | false ↦ λ none. refl
@@ -191,7 +215,8 @@ module _ (half : Half) (records : List Record) (lines : List Line) (cursors : Li
       behind : is_answered journal line.number ≡ true → at < slice_index cursors line.actor
       behind any =
           let by = any_answered line.number journal k.known any in
-          let w = number_at by.0 line.number (slice_index cursors by.0) lines (sym (ap (list_any (λ m. m == line.number)) (k.done by.0 by.1)) ∙ by.2) in
+          let w = number_at by.0 line.number (slice_index cursors by.0) lines
+          (sym (ap (list_any (λ m. m == line.number)) (k.done by.0 by.1)) ∙ by.2) in
           let place : w.0 ≡ at = same_place lines k.servable.numbers_rise w.0 at w.1 line w.3 lt w.4 is w.6 in
           let line_is : w.1 ≡ line = sym w.4 ∙ (get_or_default lines w.0 w.1 line w.3 ∙ (ap (λ (n : ℕ). get_or lines n line) place ∙ is)) in
           let actor : by.0 ≡ line.actor = sym w.5 ∙ ap (λ (l : Line). l.actor) line_is in
@@ -204,7 +229,8 @@ module _ (half : Half) (records : List Record) (lines : List Line) (cursors : Li
       elim (is_answered journal number) as (λ b. is_answered journal number ≡ b → b ≡ false) [
         | true ↦ λ any.
             let by = any_answered number journal k.known any in
-            let w = number_at by.0 number (slice_index cursors by.0) lines (sym (ap (list_any (λ m. m == number)) (k.done by.0 by.1)) ∙ by.2) in
+            let w = number_at by.0 number (slice_index cursors by.0) lines
+            (sym (ap (list_any (λ m. m == number)) (k.done by.0 by.1)) ∙ by.2) in
             absurd (none w.0 w.1 w.3 (ap (λ (l : Line). l.number) w.4 ∙ w.6))
         | false ↦ λ e. refl
       ] refl
@@ -219,13 +245,20 @@ module _ (half : Half) (records : List Record) (lines : List Line) (cursors : Li
     listed_few = k.listed_few;
     cursor_count = length-set cursors a at ∙ k.cursor_count;
     behind = λ b l. elim (b == a) as (λ t. (b == a) ≡ t → slice_index (set cursors a at) b ≤ length lines) [
-      | true ↦ λ t. let same : b ≡ a = grind (arith, nat_tests) in let n : a < length cursors = omega (arith, k.cursor_count) in rw (same, get_or-set_same) (omega (arith, within))
+      | true ↦ λ t.
+          let same : b ≡ a = grind (arith, nat_tests) in
+          let n : a < length cursors = omega (arith, k.cursor_count) in
+          rw (same, get_or-set_same) (omega (arith, within))
       | false ↦ λ t. let other : b ≢ a = grind (arith, nat_tests) in rw get_or-set_other (k.behind b l)
     ] refl;
-    done = λ b l. elim (b == a) as (λ t. (b == a) ≡ t → answered_by b journal ≡ numbers_of b (take (slice_index (set cursors a at) b) lines)) [
-      | true ↦ λ t. let same : b ≡ a = grind (arith, nat_tests) in let n : a < length cursors = omega (arith, k.cursor_count) in rw (same, get_or-set_same) (k.done a lt ∙ sym none)
-      | false ↦ λ t. let other : b ≢ a = grind (arith, nat_tests) in rw get_or-set_other (k.done b l)
-    ] refl;
+    done = λ b l. elim (b == a) as
+        (λ t. (b == a) ≡ t → answered_by b journal ≡ numbers_of b (take (slice_index (set cursors a at) b) lines)) [
+          | true ↦ λ t.
+              let same : b ≡ a = grind (arith, nat_tests) in
+              let n : a < length cursors = omega (arith, k.cursor_count) in
+              rw (same, get_or-set_same) (k.done a lt ∙ sym none)
+          | false ↦ λ t. let other : b ≢ a = grind (arith, nat_tests) in rw get_or-set_other (k.done b l)
+        ] refl;
     waits = k.waits;
     known = k.known;
     servable = k.servable;
@@ -234,13 +267,29 @@ module _ (half : Half) (records : List Record) (lines : List Line) (cursors : Li
     fault_bound = k.fault_bound;
   }
 
-  module _ (a at : ℕ) (lt : a < 64) (next : IsNext lines (slice_index cursors a) a at) (line : Line) (is : line ≡ get_or lines at line) where
+  module _ (a at : ℕ) (lt : a < 64) (next : IsNext lines (slice_index cursors a) a at) (line : Line)
+      (is : line ≡ get_or lines at line) where
     fewer : part (λ e. e.actor) journal a < part (λ l. l.actor) lines a
-    fewer = omega (arith, answered_part a journal, numbers_part a lines, ap length (k.done a lt), ap length (numbers_next lines _ a at line next is), length-append (numbers_of a (take (slice_index cursors a) lines)) (line.number ∷ []), numbers-take-le a (at + 1) lines)
+    fewer = omega (
+      arith,
+      answered_part a journal,
+      numbers_part a lines,
+      ap length (k.done a lt),
+      ap length
+          (numbers_next lines _ a at line next is),
+      length-append (numbers_of a (take (slice_index cursors a) lines)) (line.number ∷ []),
+      numbers-take-le a (at + 1) lines,
+    )
 
     -- there is room for the entry of a line that is left
     pub kept_less : length journal < length lines
-    kept_less = omega (arith, parts_total 64 (λ (e : Entry). e.actor) journal k.known, parts_total 64 (λ (l : Line). l.actor) lines k.servable.actors_known, total-lt 64 _ _ at_most a lt fewer)
+    kept_less = omega (
+      arith,
+      parts_total 64 (λ (e : Entry). e.actor) journal k.known,
+      parts_total 64
+          (λ (l : Line). l.actor) lines k.servable.actors_known,
+      total-lt 64 _ _ at_most a lt fewer,
+    )
 
     -- it is the actor's next line
     pub kept_next : next_line lines journal a ≡ Some line
@@ -250,7 +299,10 @@ module _ (half : Half) (records : List Record) (lines : List Line) (cursors : Li
     waits_for : (l : Line) → line_of lines line.number ≡ Some l → (line.after ≢ 0 → is_answered journal line.after ≡ true) → l.after ≢ 0
         → Contains [] l.after ⊎ (is_answered journal l.after ≡ true)
     waits_for l found free waits =
-        let same : line ≡ l = same_Some line l (line_there lines at line.number line next.within (λ j d before within. let less = rising 0 lines k.servable.numbers_rise j at d line before next.within in omega (arith, less, ap (λ (x : Line). x.number) is)) is refl ∙ found) in
+        let same : line ≡ l = same_Some line l
+        (line_there lines at line.number line next.within
+        (λ j d before within. let less = rising 0 lines k.servable.numbers_rise j at d line before next.within in omega
+        (arith, less, ap (λ (x : Line). x.number) is)) is refl ∙ found) in
         let P : Line → Type 0 = λ x. x.after ≢ 0 → is_answered journal x.after ≡ true in
         inr (subst P same free waits)
 
@@ -262,23 +314,37 @@ module _ (half : Half) (records : List Record) (lines : List Line) (cursors : Li
     kept_step e s' c now' number actor free step sound few more later cause = record {
       sound = sound;
       listed_few = omega (arith, few, k.listed_few, length-append journal (e ∷ []));
-      run = λ t. run_more half lines (opening_of records interval) s s' journal e (k.run t) (record { place = at; line = line; stands = slice_get_read lines (length lines) at line refl next.within is; number = number; actor = actor ∙ sym (next.actor line is); step = step t });
+      run = λ t. run_more half lines (opening_of records interval) s s' journal e (k.run t)
+          (record {
+            place = at;
+            line = line;
+            stands = slice_get_read lines (length lines) at line refl next.within is;
+            number =
+                number;
+            actor = actor ∙ sym (next.actor line is);
+            step = step t;
+          });
       cursor_count = length-set cursors a (at + 1) ∙ k.cursor_count;
       behind = λ b l. elim (b == a) as (λ t. (b == a) ≡ t → slice_index (set cursors a (at + 1)) b ≤ length lines) [
-        | true ↦ λ t. let same : b ≡ a = grind (arith, nat_tests) in let n : a < length cursors = omega (arith, k.cursor_count) in rw (same, get_or-set_same) (omega (arith, next.within))
-        | false ↦ λ t. let other : b ≢ a = grind (arith, nat_tests) in rw get_or-set_other (k.behind b l)
-      ] refl;
-      done = λ b l. elim (b == a) as (λ t. (b == a) ≡ t → answered_by b (journal ++ e ∷ []) ≡ numbers_of b (take (slice_index (set cursors a (at + 1)) b) lines)) [
         | true ↦ λ t.
             let same : b ≡ a = grind (arith, nat_tests) in
             let n : a < length cursors = omega (arith, k.cursor_count) in
-            rw (same, get_or-set_same) (answered_more a journal e actor ∙ ap (λ (w : List ℕ). w ++ e.line ∷ []) (k.done a lt)
-            ∙ ap (λ (n : ℕ). numbers_of a (take (slice_index cursors a) lines) ++ n ∷ []) number ∙ sym (numbers_next lines _ a at line next is))
-        | false ↦ λ t.
-            let other : b ≢ a = grind (arith, nat_tests) in
-            let apart : (e.actor == b) ≡ false = grind (arith, nat_tests) in
-            rw get_or-set_other (answered_other b journal e apart ∙ k.done b l)
+            rw (same, get_or-set_same) (omega (arith, next.within))
+        | false ↦ λ t. let other : b ≢ a = grind (arith, nat_tests) in rw get_or-set_other (k.behind b l)
       ] refl;
+      done = λ b l. elim (b == a) as
+          (λ t. (b == a) ≡ t → answered_by b (journal ++ e ∷ []) ≡ numbers_of b (take (slice_index (set cursors a (at + 1)) b) lines)) [
+            | true ↦ λ t.
+                let same : b ≡ a = grind (arith, nat_tests) in
+                let n : a < length cursors = omega (arith, k.cursor_count) in
+                rw (same, get_or-set_same) (answered_more a journal e actor ∙ ap (λ (w : List ℕ). w ++ e.line ∷ []) (k.done a lt)
+                ∙ ap (λ (n : ℕ). numbers_of a (take (slice_index cursors a) lines) ++ n ∷ []) number
+                ∙ sym (numbers_next lines _ a at line next is))
+            | false ↦ λ t.
+                let other : b ≢ a = grind (arith, nat_tests) in
+                let apart : (e.actor == b) ≡ false = grind (arith, nat_tests) in
+                rw get_or-set_other (answered_other b journal e apart ∙ k.done b l)
+          ] refl;
       waits = waits_more lines [] journal e k.waits (λ l found. waits_for l (sym (ap (line_of lines) number) ∙ found) free);
       known = All-append (λ (x : Entry). x.actor < 64) journal (e ∷ []) k.known (one e (omega arith));
       servable = k.servable;
@@ -330,7 +396,8 @@ pub kept_end : (a from : ℕ) (lines : List Line) → numbers_of a (drop from li
     → numbers_of a (take (length lines) lines) ≡ numbers_of a (take from lines)
 kept_end a from lines none =
     ap (numbers_of a) (take_all (length lines) lines (omega arith) ∙ sym (take-append-drop from lines))
-    ∙ (numbers-append a (take from lines) (drop from lines) ∙ (ap (λ (w : List ℕ). numbers_of a (take from lines) ++ w) none ∙ append-nil (numbers_of a (take from lines))))
+    ∙ (numbers-append a (take from lines) (drop from lines) ∙
+    (ap (λ (w : List ℕ). numbers_of a (take from lines) ++ w) none ∙ append-nil (numbers_of a (take from lines))))
 
 -- what is found from a place on
 pub next_found : (lines : List Line) (from i a : ℕ) → from + i < length lines → numbers_of a (take i (drop from lines)) ≡ []
@@ -364,15 +431,19 @@ pub read_actor : (lines : List Line) (from i a : ℕ) (d : Line) → from + i < 
     → (get_or (take (length lines - from) (drop from lines)) i d).actor ≡ a → (line : Line) → line ≡ get_or lines (from + i) line
     → line.actor ≡ a
 read_actor lines from i a d lt is line at =
-    ap (λ (l : Line). l.actor) (at ∙ get_or_default lines (from + i) line d lt ∙ sym (get_or-take (length lines - from) (drop from lines) i d (omega arith) ∙ get_or-drop from lines i d)) ∙ is
+    ap (λ (l : Line). l.actor) (at ∙ get_or_default lines (from + i) line d lt
+    ∙ sym (get_or-take (length lines - from) (drop from lines) i d (omega arith) ∙ get_or-drop from lines i d)) ∙ is
 
 -- what a push that worked leaves
 pub pushed : {X E : Type 0} (r : Result X E) (x : X) (old new more : List Entry) → new ≡ cond (is_ok r) more old → r ≡ Ok x → new ≡ more
 pushed r x old new more e is = e ∙ ap (λ (b : Bool). cond b more old) (ap is_ok is)
 
 -- a step that used nothing
-pub used_nothing : (half : Half) (s : State) (actor : ℕ) (c : Command) (r : Reply) (s' : State) (used : List (Arc Node Global)) → used ≡ [] → Step half s actor c r [] s' → Step half s actor c r (map (λ a. held a.value) used) s'
-used_nothing half s actor c r s' used none step = let P : List (Arc Node Global) → Type 0 = λ u. Step half s actor c r (map (λ a. held a.value) u) s' in subst P (sym none) step
+pub used_nothing : (half : Half) (s : State) (actor : ℕ) (c : Command) (r : Reply) (s' : State) (used : List (Arc Node Global))
+    → used ≡ [] → Step half s actor c r [] s' → Step half s actor c r (map (λ a. held a.value) used) s'
+used_nothing half s actor c r s' used none step =
+    let P : List (Arc Node Global) → Type 0 = λ u. Step half s actor c r (map (λ a. held a.value) u) s' in
+    subst P (sym none) step
 
 numbers_none : (a : ℕ) (lines : List Line) (n : ℕ) → n ≡ 0 → numbers_of a (take n lines) ≡ []
 numbers_none a lines n e = ap (λ (k : ℕ). numbers_of a (take k lines)) e
@@ -382,7 +453,8 @@ pub kept_open : (half : Half) (records : List Record) (lines : List Line) (curso
     → journal ≡ [] → length cursors ≡ 64 → ((a : ℕ) → a < 64 → slice_index cursors a ≡ 0) → AreServable lines → AreRecords half records
     → length lines ≤ capacity → opened ≡ now → s.listed ≡ [] → (IsTrue told → s ≡ opening_of records interval)
     → CoreKeeps half records lines cursors journal capacity interval told opened now 0 s
-kept_open half records lines cursors journal capacity interval told opened now s none size start_at servable recorded room same unlisted start =
+kept_open half records lines cursors journal capacity interval told opened now s none size start_at servable recorded room same unlisted
+    start =
     let P : List Entry → Type 0 = λ j. CoreKeeps half records lines cursors j capacity interval told opened now 0 s in
     subst P (sym none) (record {
       run = start;

@@ -23,7 +23,8 @@ use Rattle.ledger_laws.proofs.SoundKeeps.{with_wanted_is}
 insert_few : {X : Type 0} (m : List (Hash × X)) (k : Hash) (x : X) → length (insert_in hash_cmp m k x) ≤ suc (length m)
 insert_few [] k x = omega arith
 insert_few (e ∷ m) k x =
-    elim (hash_cmp k e.0) as (λ o. length (match_ordering o ((k, x) ∷ e ∷ m) ((e.0, x) ∷ m) (e ∷ insert_in hash_cmp m k x)) ≤ suc (suc (length m))) [
+    elim (hash_cmp k e.0) as (λ o. length (match_ordering o ((k, x) ∷ e ∷ m) ((e.0, x) ∷ m) (e ∷ insert_in hash_cmp m k x)) ≤ suc
+    (suc (length m))) [
       | Less ↦ omega arith
       | Equal ↦ omega arith
       | Greater ↦ omega (arith, insert_few m k x)
@@ -58,7 +59,8 @@ check_few s t seq check.NotOpen = omega arith
 
 pub tick_few : (s : State) (t : Hash) (r : TickReply) → ListsFew s (after_tick s t r)
 tick_few s t (tick.Timeout n) =
-    same_few s (with_wanted s t (λ a. record a { ticks = n; asked = [] })) (with_wanted_is s t (λ a. record a { ticks = n; asked = [] })).listed
+    same_few s (with_wanted s t (λ a. record a { ticks = n; asked = [] }))
+    (with_wanted_is s t (λ a. record a { ticks = n; asked = [] })).listed
 tick_few s t (tick.GaveUp n) = omega arith
 tick_few s t tick.NotOpen = omega arith
 

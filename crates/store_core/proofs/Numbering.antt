@@ -1,5 +1,6 @@
 -- The numbers of hashes rise as the hashes do, so fewer and fewer come after.
-use Rattle.std.proofs.Common.{◌≡◌, ℕ, suc, ◌+◌, ◌*◌, ◌<◌, arith, true, false, IsTrue, List, [], ◌∷◌, ◌∙◌, length, Option, None, Some, refl, sym, ap}
+use Rattle.std.proofs.Common.{◌≡◌, ℕ, suc, ◌+◌, ◌*◌, ◌<◌, arith, true, false, IsTrue, List, [], ◌∷◌, ◌∙◌, length, Option, None, Some, refl}
+use Rattle.std.proofs.Common.{sym, ap}
 use Rattle.std.specs.Prelude.{slice_index, nat_lt}
 use Rattle.std.specs.declared.cmp.Ordering.{Ordering}
 use Rattle.std.specs.declared.cmp.Ordering.TheVariants.{Less, Equal, Greater}
@@ -10,7 +11,7 @@ use borrow.Author.Tests.{ltb-true, lt-ltb}
 use Rattle.std.proofs.lemmas.Bool.{and_parts, and_from, false≢true}
 use Rattle.ledger_spec.specs.Bytes.{Bytes, Hash, are_bytes, zero_hash}
 use Rattle.ledger_spec.specs.Maps.{hash_cmp}
-use Rattle.node_table.specs.Order.{IsAfter}
+use Rattle.node_backend.specs.Order.{IsAfter}
 use Rattle.store_core.specs.Dumping.{Follows, IsHashOrNone, number_from, left_after}
 
 pub bytes_from : (bs : List ℕ) → ((k : ℕ) → k < length bs → slice_index bs k < 256) → IsTrue (are_bytes bs)

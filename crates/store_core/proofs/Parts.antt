@@ -26,7 +26,8 @@ use Rattle.ledger_machine.specs.Base.{node_forms, unless_clash, parts_forms}
 use Rattle.ledger_machine.specs.Steps.{Step, Refused}
 use Rattle.ledger_spec.specs.Own.{AreStored}
 use Rattle.ledger_laws.proofs.SoundKeeps.{Keeps}
-use Rattle.ledger_laws.proofs.SoundOffers.{head_stored, parts_cases, after_parts_keeps, after_part_keeps}
+use Rattle.ledger_laws.proofs.SoundOffers.{parts_cases, after_parts_keeps, after_part_keeps}
+use Rattle.ledger_spec.proofs.Storing.{head_stored}
 use Rattle.store_core.specs.Refusals.{Leaves, HasSome, Refuses, IsAsked, refusal_of, search_refusal}
 use Rattle.store_core.proofs.States.{same_shaded, with_forms-append, head_forms_are, part_forms_are, in_nothing, head_nonzero, part_nonzero}
 use Rattle.store_core.proofs.States.{own_form, judged_form, idle_carries, base_open, node_open, refused_nothing}
@@ -124,7 +125,8 @@ module _ (half : Half) (s : State) (t : Hash) (header : Bytes) (state tx : Optio
       → Refuses half (base_outcomes half s t header state tx) all s e s'
   state_refuses h ok m is e s' l =
       state_refuses_at h ok e s'
-      (subst (λ (x : State). Leaves half (part_outcome half (form_in x) t kinds.State state) (node_forms half x t kinds.State [] state) x e s') is l)
+      (subst (λ (x : State). Leaves half (part_outcome half (form_in x) t kinds.State state)
+      (node_forms half x t kinds.State [] state) x e s') is l)
 
   third_is : (s' : State) → s' ≡ with_forms half second F3 → s' ≡ with_forms half s ((F1 ++ F2) ++ F3)
   third_is s' e = e ∙ ap (λ (x : State). with_forms half x F3) second_is ∙ sym (with_forms-append half s (F1 ++ F2) F3)
@@ -153,7 +155,8 @@ module _ (half : Half) (s : State) (t : Hash) (header : Bytes) (state tx : Optio
   parts_nonzero : IsHalf half → IsTrue (is_nonzero t) → (form : Bytes) → Contains all form → IsTrue (is_nonzero (half form))
   parts_nonzero sized nonzero form i =
       ⊎_elim (λ l. head_nonzero half header judged form (λ g. (head_stored half (form_in s) t header nonzero g).nonzero) l)
-      (λ r. ⊎_elim (λ m. part_nonzero half sized first t kinds.State state form m) (λ n. part_nonzero half sized second t kinds.Tx tx form n) r)
+      (λ r. ⊎_elim (λ m. part_nonzero half sized first t kinds.State state form m)
+      (λ n. part_nonzero half sized second t kinds.Tx tx form n) r)
       (parts_cases half s t header state tx form i)
 
   -- so what is stored of it are own forms of the command
@@ -194,7 +197,8 @@ module _ (half : Half) (s : State) (t : Hash) (kind : Kind) (path : List ℕ) (b
   forms = node_forms half s t kind path (Some blob)
 
   pub node_refuses : (p : ℕ) (a : Acquisition) (e : OfferFault) (s' : State) → get_in hash_cmp s.wanted t ≡ Some a → is_present p a ≡ true
-      → Leaves half (node_outcome half (form_in s) t kind path blob) forms s e s' → Refuses half (node_reply half s p t kind path blob) forms s e s'
+      → Leaves half (node_outcome half (form_in s) t kind path blob) forms s e s'
+      → Refuses half (node_reply half s p t kind path blob) forms s e s'
   node_refuses p a (fault.Clash h old new) s' at present l =
       (node_open half s p t kind path blob a at present ∙ ap one_reply l.0, none_of half forms s s' l.1)
   node_refuses p a fault.Fault s' at present (inl e) = none_of half forms s s' e
@@ -203,7 +207,7 @@ module _ (half : Half) (s : State) (t : Hash) (kind : Kind) (path : List ℕ) (b
   node_refuses p a fault.Memory s' at present (inr e) = some_of half forms forms s s' (λ form i. i) e
 
   node_nonzero : IsHalf half → (form : Bytes) → Contains forms form → IsTrue (is_nonzero (half form))
-  node_nonzero sized form i = (Rattle.ledger_laws.proofs.SoundOffers.node_stored half sized (form_in s) t kind path blob form i).nonzero
+  node_nonzero sized form i = (Rattle.ledger_spec.proofs.Storing.node_stored half sized (form_in s) t kind path blob form i).nonzero
 
   some_node_refused : IsHalf half → (s' : State) (actor p : ℕ) → IsAsked s p t → HasSome half forms s s'
       → Refused half s actor (command.Node p t kind path blob) s'
@@ -232,13 +236,16 @@ step_unsearched half s s' actor t search.Memory idle same =
     record { outcome = (tt, refused_nothing half s s' actor (command.Check t) same); uses = refl; carries = idle_carries s s' _ idle }
 
 -- where a part has no outcome, so has the reply of a peer that is present
-pub node_asked : (half : Half) (s : State) (t : Hash) (kind : Kind) (path : List ℕ) (blob : Bytes) (p : ℕ) (a : Acquisition) (s' : State) (e : OfferFault)
+pub node_asked : (half : Half) (s : State) (t : Hash) (kind : Kind) (path : List ℕ) (blob : Bytes) (p : ℕ) (a : Acquisition) (s' : State)
+    (e : OfferFault)
     {X : Type 0} (r : Result X OfferFault) → get_in hash_cmp s.wanted t ≡ Some a → is_present p a ≡ true
-    → Leaves half (node_outcome half (form_in s) t kind path blob) (node_forms half s t kind path (Some blob)) s e s' → IsErrAnd r (λ y. y ≡ e)
+    → Leaves half (node_outcome half (form_in s) t kind path blob) (node_forms half s t kind path (Some blob)) s e s'
+    → IsErrAnd r (λ y. y ≡ e)
     → IfErr r (λ f. IsAsked s p t × Refuses half (node_reply half s p t kind path blob) (node_forms half s t kind path (Some blob)) s f s')
 node_asked half s t kind path blob p a s' e (Ok x) at present l is = tt
 node_asked half s t kind path blob p a s' e (Err y) at present l is =
-    subst (λ (f : OfferFault). IsAsked s p t × Refuses half (node_reply half s p t kind path blob) (node_forms half s t kind path (Some blob)) s f s')
+    subst (λ (f : OfferFault). IsAsked s p t × Refuses half (node_reply half s p t kind path blob)
+    (node_forms half s t kind path (Some blob)) s f s')
     (sym is) (asked_at s p t a at present, node_refuses half s t kind path blob p a e s' at present l)
 
 pub base_asked : (half : Half) (s : State) (t : Hash) (header : Bytes) (state tx : Option Bytes) (p : ℕ) (a : Acquisition) (s' : State)

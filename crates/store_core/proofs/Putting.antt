@@ -46,7 +46,8 @@ module _ (records : List Record) (i : ℕ) (r : Record) (lt : i < length records
   -- the next record isn't there
   pub next_absent : (told : Bool) (st : Store) → ArePut told records i st → IsTrue told → map.get (nodes_of st) r.hash ≡ None
   next_absent told st put t =
-      put.absent t r.hash (subst (λ (x : List Record). Contains (hashes_of x) r.hash) (sym rest_is) (in_head r.hash (hashes_of (drop (i + 1) records))))
+      put.absent t r.hash (subst (λ (x : List Record). Contains (hashes_of x) r.hash) (sym rest_is)
+      (in_head r.hash (hashes_of (drop (i + 1) records))))
 
   -- one record more
   pub one_put : (told : Bool) (st st' : Store) → AreDistinct (hashes_of records) → ArePut told records i st
@@ -57,7 +58,8 @@ module _ (records : List Record) (i : ℕ) (r : Record) (lt : i < length records
         ap (λ (x : Store). with_records x.writable (drop (i + 1) records)) (stored t)
         ∙ ap (with_records st.writable) (sym rest_is) ∙ put.writable t;
     absent = λ t h c.
-        ap (λ (x : Store). map.get (nodes_of x) h) (stored t) ∙ ap (λ (n : Nodes). map.get n h) (merged-insert st.writable st.archive r.hash r.form)
+        ap (λ (x : Store). map.get (nodes_of x) h) (stored t)
+        ∙ ap (λ (n : Nodes). map.get n h) (merged-insert st.writable st.archive r.hash r.form)
         ∙ none_if _ (λ now e. ⊎_elim
         (λ old. other h c now old t)
         (λ new. (subst (λ (x : List Record). AreDistinct (hashes_of x)) rest_is (distinct_drop records i distinct)).0
@@ -68,7 +70,8 @@ module _ (records : List Record) (i : ℕ) (r : Record) (lt : i < length records
       none_some : {A : Type 0} {x : A} → None ≡ Some x → ⊥
       none_some e = cc
 
-      other : (h : Hash) → Contains (hashes_of (drop (i + 1) records)) h → (now : Bytes) → map.get (nodes_of st) h ≡ Some now → IsTrue told → ⊥
+      other : (h : Hash) → Contains (hashes_of (drop (i + 1) records)) h → (now : Bytes) → map.get (nodes_of st) h ≡ Some now
+          → IsTrue told → ⊥
       other h c now old t =
           none_some (sym (put.absent t h (subst (λ (x : List Record). Contains (hashes_of x) h) (sym rest_is)
           (in_tail r.hash h (hashes_of (drop (i + 1) records)) c))) ∙ old)

@@ -1,8 +1,8 @@
 -- Changes of states, and the steps that they are.
 use Rattle.std.proofs.Common.{◌≡◌, ◌≢◌, ◌<◌, IsTrue, Contains, ℕ, zero, suc, List, [], ◌∷◌, ◌++◌, Option, Some, None}
-use Rattle.std.proofs.Common.{Result, Ok, Err, IsSomeAnd, Bool, true, false, cond, refl, sym, ◌∙◌, ap, subst, arith}
+use Rattle.std.proofs.Common.{Result, Ok, Err, IsErrAnd, IsSomeAnd, Bool, true, false, cond, refl, sym, ◌∙◌, ap, subst, arith}
 use Rattle.std.specs.Map.{lookup, set_value}
-use Rattle.std.specs.Result.{OnErr, IfOk}
+use Rattle.std.specs.Result.{OnErr, IfOk, IfErr}
 use Rattle.ledger_spec.specs.Bytes.{Bytes, Hash, Half, is_nonzero, IsHalf}
 use Rattle.ledger_spec.specs.Maps.{ForHash, hash_cmp, get_in, set_in}
 use Rattle.ledger_spec.specs.declared.Place.{Place}
@@ -18,7 +18,7 @@ use Rattle.ledger_spec.specs.declared.outcomes.Offered.{Offered}
 use Rattle.ledger_spec.specs.Forms.{header_prefix}
 use Rattle.ledger_spec.specs.declared.outcomes.HeadOffered.{HeadOffered}
 use Rattle.ledger_spec.specs.declared.outcomes.HeadOffered.TheVariants as head
-use Rattle.ledger_laws.proofs.SoundOffers.{node_stored}
+use Rattle.ledger_spec.proofs.Storing.{node_stored}
 use Rattle.ledger_machine.specs.Offers.{after_head}
 use Rattle.ledger_spec.specs.Offers.{Clash, node_outcome}
 use Rattle.ledger_machine.specs.Base.{is_present, base_outcomes, base_reply, node_reply, one_reply, after_part}
@@ -58,6 +58,11 @@ desk_with d m = record { state = record d.state { wanted = m }; faults = d.fault
 
 pub same_desk : (d0 d : Desk) → d0 ≡ d → (n : ForHash Acquisition) → n ≡ d0.state.wanted → desk_with d0 n ≡ d
 same_desk d0 d e n h = ap (desk_with d0) h ∙ e
+
+-- an error handed on
+pub handed_on : {T E : Type 0} (P : E → Type 0) (r : Result T E) (x : E) → IsErrAnd r (λ e. e ≡ x) → P x → IfErr r P
+handed_on P (Ok y) x is p = tt
+handed_on P (Err e) x is p = subst P (sym is) p
 
 -- a fact that holds at either result
 pub on_err : {X E : Type 0} (r : Result X E) {P : Type 0} → P → OnErr r P
@@ -111,7 +116,8 @@ pub asked_after : (s : State) (t : Hash) (a : Acquisition) (seq : ℕ) (places :
     → get_in hash_cmp s.wanted t ≡ Some a → places ≢ [] → r ≡ asked_reply (get_in hash_cmp s.wanted t) places
     → with_wanted s t (after_ask r) ≡ after_check s t seq r
 asked_after s t a seq places r at some is =
-    after_asks s t a seq r at (subst IsAsk (sym (is ∙ ap (λ (o : Option Acquisition). asked_reply o places) at)) (missing_asks a places some))
+    after_asks s t a seq r at (subst IsAsk (sym (is ∙ ap (λ (o : Option Acquisition). asked_reply o places) at))
+    (missing_asks a places some))
 
 -- steps without a rotation
 pub idle_carries : (s s' : State) (P : Type 0) → s.turning ≡ None → WhileTurning s.turning s'.turning P
@@ -121,19 +127,33 @@ pub step_want : (half : Half) (s s' : State) (actor : ℕ) (t : Hash) (seq : ℕ
     → s' ≡ after_want s t seq r
     → Step half s actor (command.Want t seq) (says.Want r) [] s'
 step_want half s s' actor t seq r idle e after =
-    record { outcome = record { says = ap says.Want e; after = same_shaded s' _ (after ∙ ap (after_want s t seq) e) }; uses = refl; carries = idle_carries s s' _ idle }
+    record {
+      outcome = record { says = ap says.Want e; after = same_shaded s' _ (after ∙ ap (after_want s t seq) e) };
+      uses =
+          refl;
+      carries = idle_carries s s' _ idle;
+    }
 
 pub step_peer : (half : Half) (s s' : State) (actor p : ℕ) (t : Hash) (r : PeerReply) → s.turning ≡ None → r ≡ peer_reply s p t
     → s' ≡ after_peer s p t r
     → Step half s actor (command.Peer p t) (says.Peer r) [] s'
 step_peer half s s' actor p t r idle e after =
-    record { outcome = record { says = ap says.Peer e; after = same_shaded s' _ (after ∙ ap (after_peer s p t) e) }; uses = refl; carries = idle_carries s s' _ idle }
+    record {
+      outcome = record { says = ap says.Peer e; after = same_shaded s' _ (after ∙ ap (after_peer s p t) e) };
+      uses =
+          refl;
+      carries = idle_carries s s' _ idle;
+    }
 
 pub step_check : (half : Half) (s s' : State) (actor : ℕ) (t : Hash) (r : CheckReply) → s.turning ≡ None → r ≡ check_reply half s t
     → s' ≡ after_check s t (stored_seq s t) r
     → Step half s actor (command.Check t) (says.Check r) [] s'
 step_check half s s' actor t r idle e after =
-    record { outcome = record { says = ap says.Check e; after = same_shaded s' _ (after ∙ ap (after_check s t (stored_seq s t)) e) }; uses = refl; carries = idle_carries s s' _ idle }
+    record {
+      outcome = record { says = ap says.Check e; after = same_shaded s' _ (after ∙ ap (after_check s t (stored_seq s t)) e) };
+      uses = refl;
+      carries = idle_carries s s' _ idle;
+    }
 
 nothing_own : (half : Half) (s : State) (actor : ℕ) (c : Command) (form : Bytes) → Contains [] form
     → Contains (own_forms half s actor c) form × IsTrue (is_nonzero (half form))
@@ -217,14 +237,16 @@ not_clash : (r : BaseReply) (c : Clash) → says.Base r ≡ says.Clash c.hash c.
 not_clash r c e = cc
 
 -- the reply to a base reply whose parts were judged says them
-parts_after : (half : Half) (s : State) (p : ℕ) (t : Hash) (header : Bytes) (state tx : Option Bytes) (x : Result HeadOffered Clash) (y z : Result (Option Offered) Clash) (r : BaseReply)
+parts_after : (half : Half) (s : State) (p : ℕ) (t : Hash) (header : Bytes) (state tx : Option Bytes) (x : Result HeadOffered Clash)
+    (y z : Result (Option Offered) Clash) (r : BaseReply)
     → says.Base r ≡ all_parts x y z → after_parts half s t header state tx ≡ after_base half s p t header state tx (says.Base r)
 parts_after half s p t header state tx (Ok h) (Ok a) (Ok b) r e = ap (after_base half s p t header state tx) (sym e)
 parts_after half s p t header state tx (Err c) y z r e = absurd (not_clash r c e)
 parts_after half s p t header state tx (Ok h) (Err c) z r e = absurd (not_clash r c e)
 parts_after half s p t header state tx (Ok h) (Ok a) (Err c) r e = absurd (not_clash r c e)
 
-pub base_after : (half : Half) (s s' : State) (p : ℕ) (t : Hash) (header : Bytes) (state tx : Option Bytes) (r : Result BaseReply OfferFault)
+pub base_after : (half : Half) (s s' : State) (p : ℕ) (t : Hash) (header : Bytes) (state tx : Option Bytes)
+    (r : Result BaseReply OfferFault)
     → IfOk r (λ x. says.Base x ≡ base_outcomes half s t header state tx) → IfOk r (λ x. s' ≡ after_parts half s t header state tx)
     → IfOk r (λ x. s' ≡ after_base half s p t header state tx (says.Base x))
 base_after half s s' p t header state tx (Err e) reply after = tt

@@ -84,14 +84,16 @@ head_outcome_over half st s t bytes (Err e) is outcome = tt
 
 pub head_after_over : (half : Half) (st st' : Store) (s : State) (t : Hash) (bytes : Bytes) (r : Result HeadOffered OfferFault)
     → IsOver st s
-    → IfOk r (λ o. head_outcome half (map.get (nodes_of st)) t bytes ≡ Ok o) → IfOk r (λ o. store.HasForms half (head_forms (Ok o) bytes) st st')
+    → IfOk r (λ o. head_outcome half (map.get (nodes_of st)) t bytes ≡ Ok o)
+    → IfOk r (λ o. store.HasForms half (head_forms (Ok o) bytes) st st')
     → OnOk r (over st' s ≡ after_head half s bytes (head_outcome half (form_in s) t bytes))
 head_after_over half st st' s t bytes (Ok o) is outcome stored =
     stored_over half st st' s (head_forms (Ok o) bytes) is stored ∙ sym (head_stores half s bytes o)
     ∙ ap (after_head half s bytes) (sym (head_outcome_over half st s t bytes (Ok o) is outcome))
 head_after_over half st st' s t bytes (Err e) is outcome stored = tt
 
-pub node_outcome_over : (half : Half) (st : Store) (s : State) (t : Hash) (kind : Kind) (path : List ℕ) (blob : Bytes) (r : Result Offered OfferFault)
+pub node_outcome_over : (half : Half) (st : Store) (s : State) (t : Hash) (kind : Kind) (path : List ℕ) (blob : Bytes)
+    (r : Result Offered OfferFault)
     → IsOver st s → IfOk r (λ o. node_outcome half (map.get (nodes_of st)) t kind path blob ≡ Ok o)
     → IfOk r (λ o. node_outcome half (form_in s) t kind path blob ≡ Ok o)
 node_outcome_over half st s t kind path blob (Ok o) is outcome =
@@ -119,11 +121,14 @@ leaves_over half st st' s o forms fault.Memory is (inr stored) = inr (stored_ove
 
 pub head_leaves_over : (half : Half) (st st' : Store) (s : State) (t : Hash) (bytes : Bytes) (r : Result HeadOffered OfferFault)
     → IsOver st s
-    → IfErr r (λ e. store.Refuses half (head_outcome half (map.get (nodes_of st)) t bytes) (head_forms (head_outcome half (map.get (nodes_of st)) t bytes) bytes) st e st')
-    → IfErr r (λ e. Leaves half (head_outcome half (form_in s) t bytes) (head_forms (head_outcome half (form_in s) t bytes) bytes) s e (over st' s))
+    → IfErr r (λ e. store.Refuses half (head_outcome half (map.get (nodes_of st)) t bytes)
+    (head_forms (head_outcome half (map.get (nodes_of st)) t bytes) bytes) st e st')
+    → IfErr r (λ e. Leaves half (head_outcome half (form_in s) t bytes) (head_forms (head_outcome half (form_in s) t bytes) bytes) s e
+    (over st' s))
 head_leaves_over half st st' s t bytes (Ok o) is left = tt
 head_leaves_over half st st' s t bytes (Err e) is left =
-    subst (λ (n : Nodes). Leaves half (head_outcome half (map.get n) t bytes) (head_forms (head_outcome half (map.get n) t bytes) bytes) s e (over st' s))
+    subst (λ (n : Nodes). Leaves half (head_outcome half (map.get n) t bytes)
+    (head_forms (head_outcome half (map.get n) t bytes) bytes) s e (over st' s))
     (sym is.nodes)
     (leaves_over {X = HeadOffered} half st st' s (head_outcome half (map.get (nodes_of st)) t bytes)
     (head_forms (head_outcome half (map.get (nodes_of st)) t bytes) bytes) e is left)

@@ -26,7 +26,8 @@ any_keyed : {X : Type 0} (key num : X → ℕ) (a n : ℕ) (xs : List X)
     → list_any (λ m. m == n) (map num (filter (λ x. key x == a) xs)) ≡ list_any (λ x. (key x == a) && (num x == n)) xs
 any_keyed key num a n [] = refl
 any_keyed key num a n (x ∷ xs) =
-    elim (key x == a) as (λ b. list_any (λ m. m == n) (map num (cond b (x ∷ filter (λ y. key y == a) xs) (filter (λ y. key y == a) xs))) ≡ ((b && (num x == n)) || list_any (λ y. (key y == a) && (num y == n)) xs)) [
+    elim (key x == a) as (λ b. list_any (λ m. m == n) (map num (cond b (x ∷ filter (λ y. key y == a) xs) (filter (λ y. key y == a) xs))) ≡
+    ((b && (num x == n)) || list_any (λ y. (key y == a) && (num y == n)) xs)) [
       | true ↦ ap (λ (b : Bool). (num x == n) || b) (any_keyed key num a n xs)
       | false ↦ any_keyed key num a n xs
     ]
@@ -43,7 +44,8 @@ at_keyed : {X : Type 0} (key num : X → ℕ) (xs : List X) (k : ℕ) (x : X) �
     → list_any (λ m. m == num x) (map num (filter (λ y. key y == key x) xs)) ≡ true
 at_keyed key num xs k x lt is =
     any_keyed key num (key x) (num x) xs
-    ∙ list_any_at (λ y. (key y == key x) && (num y == num x)) xs k x lt (ap (λ y. (key y == key x) && (num y == num x)) is ∙ both (key x) (num x))
+    ∙ list_any_at (λ y. (key y == key x) && (num y == num x)) xs k x lt
+    (ap (λ y. (key y == key x) && (num y == num x)) is ∙ both (key x) (num x))
   where
     both : (m n : ℕ) → ((m == m) && (n == n)) ≡ true
     both m n =
@@ -65,8 +67,12 @@ any_answered n es known h =
     let w = Any-from_list_any (λ (e : Entry). e.line == n) es h in
     let same : w.1.line ≡ n = let t = w.4 in grind (arith, nat_tests) in
     let P : Entry → Type 0 = λ e. e.actor < 64 in
-    let Q : ℕ → Type 0 = λ m. list_any (λ k. k == m) (answered_by w.1.actor es) ≡ true in
-    (w.1.actor, subst P w.3 (known w.0 w.1 w.2), subst Q same (at_keyed (λ (e : Entry). e.actor) (λ (e : Entry). e.line) es w.0 w.1 w.2 w.3))
+    let Q : ℕ → Type 0 = λ m. list_any (λ k. k == m) (answered_by w.1.actor es) ≡ true in (
+      w.1.actor,
+      subst P w.3 (known w.0 w.1 w.2),
+      subst Q same
+          (at_keyed (λ (e : Entry). e.actor) (λ (e : Entry). e.line) es w.0 w.1 w.2 w.3),
+    )
 
 -- an actor's line of the number stands among the first c
 pub number_at : (a n c : ℕ) (lines : List Line) → list_any (λ m. m == n) (numbers_of a (take c lines)) ≡ true
@@ -79,16 +85,34 @@ number_at a n c lines h =
 pub number_in : (lines : List Line) (c j : ℕ) (l : Line) → j < c → j < length lines → get_or lines j l ≡ l
     → list_any (λ m. m == l.number) (numbers_of l.actor (take c lines)) ≡ true
 number_in lines c j l before within is =
-    at_keyed (λ (x : Line). x.actor) (λ (x : Line). x.number) (take c lines) j l (omega (arith, before, within, length-take c lines)) (get_or-take c lines j l before ∙ is)
+    at_keyed (λ (x : Line). x.actor) (λ (x : Line). x.number) (take c lines) j l (omega (arith, before, within, length-take c lines))
+    (get_or-take c lines j l before ∙ is)
 
 -- two lines of one number are one line
 pub same_place : (lines : List Line) → Rises 0 lines → (j k : ℕ) (l m : Line) → j < length lines → k < length lines → get_or lines j l ≡ l
     → get_or lines k m ≡ m → l.number ≡ m.number → j ≡ k
 same_place lines rise j k l m lj lk at_j at_k same =
     elim (nat_lt j k) as (λ b. nat_lt j k ≡ b → j ≡ k) [
-      | true ↦ λ h. let before : j < k = grind (arith, nat_tests) in absurd (omega (arith, rising 0 lines rise j k l m before lk, ap (λ (x : Line). x.number) at_j, ap (λ (x : Line). x.number) at_k, same))
+      | true ↦ λ h.
+          let before : j < k = grind (arith, nat_tests) in
+          absurd (omega (
+            arith,
+            rising 0 lines rise j k l m before lk,
+            ap (λ (x : Line). x.number) at_j,
+            ap (λ (x : Line). x.number) at_k,
+            same,
+          ))
       | false ↦ λ h. elim (nat_lt k j) as (λ b. nat_lt k j ≡ b → j ≡ k) [
-        | true ↦ λ t. let before : k < j = grind (arith, nat_tests) in absurd (omega (arith, rising 0 lines rise k j m l before lj, ap (λ (x : Line). x.number) at_j, ap (λ (x : Line). x.number) at_k, same))
+        | true ↦ λ t.
+            let before : k < j = grind (arith, nat_tests) in
+            absurd (omega (
+              arith,
+              rising 0 lines rise k j m l before lj,
+              ap (λ (x : Line). x.number) at_j,
+              ap
+                  (λ (x : Line). x.number) at_k,
+              same,
+            ))
         | false ↦ λ t. grind (arith, nat_tests)
       ] refl
     ] refl
@@ -101,10 +125,13 @@ none_there lines rise at number l lt below is more other j d within same =
     elim (nat_lt j at) as (λ b. nat_lt j at ≡ b → ⊥) [
       | true ↦ λ h. let before : j < at = grind (arith, nat_tests) in omega (arith, below j d before within, same)
       | false ↦ λ h. elim (nat_lt at j) as (λ b. nat_lt at j ≡ b → ⊥) [
-        | true ↦ λ t. let after : at < j = grind (arith, nat_tests) in omega (arith, rising 0 lines rise at j l d after within, ap (λ (x : Line). x.number) is, more, same)
+        | true ↦ λ t.
+            let after : at < j = grind (arith, nat_tests) in
+            omega (arith, rising 0 lines rise at j l d after within, ap (λ (x : Line). x.number) is, more, same)
         | false ↦ λ t.
             let here : j ≡ at = grind (arith, nat_tests) in
-            other (ap (λ (x : Line). x.number) (is ∙ (ap (λ (n : ℕ). get_or lines n l) (sym here) ∙ get_or_default lines j l d within)) ∙ same)
+            other (ap (λ (x : Line). x.number) (is ∙ (ap (λ (n : ℕ). get_or lines n l) (sym here) ∙ get_or_default lines j l d within))
+            ∙ same)
       ] refl
     ] refl
 
@@ -125,7 +152,8 @@ waits_more lines done (x ∷ es) e w before = (
     here : (x : Entry) (es : List Entry) (done : List ℕ) (n : ℕ) → is_answered (x ∷ es) n ≡ true
         → Contains (x.line ∷ done) n ⊎ (is_answered es n ≡ true)
     here x es done n any =
-        elim (x.line == n) as (λ b. (x.line == n) ≡ b → (b || is_answered es n) ≡ true → Contains (x.line ∷ done) n ⊎ (is_answered es n ≡ true)) [
+        elim (x.line == n) as (λ b. (x.line == n) ≡ b → (b || is_answered es n) ≡ true
+        → Contains (x.line ∷ done) n ⊎ (is_answered es n ≡ true)) [
           | true ↦ λ t h. inl (0, omega arith, grind (arith, nat_tests))
           | false ↦ λ t h. inr h
         ] refl any
@@ -133,11 +161,14 @@ waits_more lines done (x ∷ es) e w before = (
 -- an actor that is done has no next line
 pub done_none : (lines : List Line) (journal : List Entry) (a : ℕ) → IsDone lines journal a → next_line lines journal a ≡ None
 done_none lines journal a done =
-    slice_get_past (filter (λ (l : Line). l.actor == a) lines) (length (answered_by a journal)) (omega (arith, ap length done, length-map (filter (λ (l : Line). l.actor == a) lines) (λ (l : Line). l.number)))
+    slice_get_past (filter (λ (l : Line). l.actor == a) lines) (length (answered_by a journal))
+    (omega (arith, ap length done, length-map (filter (λ (l : Line). l.actor == a) lines) (λ (l : Line). l.number)))
 
 -- so it isn't blocked
 pub done_free : (lines : List Line) (journal : List Entry) (a : ℕ) → IsDone lines journal a → IsBlocked lines journal a → ⊥
-done_free lines journal a done blocked = let P : Option Line → Type 0 = λ o. IsSomeAnd o (λ l. (l.after ≢ 0) × (is_answered journal l.after ≡ false)) in subst P (done_none lines journal a done) blocked
+done_free lines journal a done blocked =
+    let P : Option Line → Type 0 = λ o. IsSomeAnd o (λ l. (l.after ≢ 0) × (is_answered journal l.after ≡ false)) in
+    subst P (done_none lines journal a done) blocked
 
 -- an actor with a next line isn't done
 pub next_left : (lines : List Line) (journal : List Entry) (a : ℕ) (l : Line) → next_line lines journal a ≡ Some l → IsDone lines journal a
@@ -147,7 +178,9 @@ next_left lines journal a l next done = none-some l (sym (done_none lines journa
 -- whether it is blocked is said by that line
 pub blocked_by : (lines : List Line) (journal : List Entry) (a : ℕ) (l : Line) → next_line lines journal a ≡ Some l → l.after ≢ 0
     → is_answered journal l.after ≡ false → IsBlocked lines journal a
-blocked_by lines journal a l next waits none = let P : Option Line → Type 0 = λ o. IsSomeAnd o (λ x. (x.after ≢ 0) × (is_answered journal x.after ≡ false)) in subst P (sym next) (waits, none)
+blocked_by lines journal a l next waits none =
+    let P : Option Line → Type 0 = λ o. IsSomeAnd o (λ x. (x.after ≢ 0) × (is_answered journal x.after ≡ false)) in
+    subst P (sym next) (waits, none)
 
 pub blocked_at : (lines : List Line) (journal : List Entry) (a : ℕ) (l : Line) → next_line lines journal a ≡ Some l
     → IsBlocked lines journal a → (l.after ≢ 0) × (is_answered journal l.after ≡ false)
@@ -175,9 +208,12 @@ pub next_at : (lines : List Line) (journal : List Entry) (a at : ℕ) (line : Li
     → line.actor ≡ a → answered_by a journal ≡ numbers_of a (take at lines) → next_line lines journal a ≡ Some line
 next_at lines journal a at line lt is actor done =
     let yes : (line.actor == a) ≡ true = grind (arith, nat_tests) in
-    let front : length (answered_by a journal) ≡ length (filter (λ (l : Line). l.actor == a) (take at lines)) = ap length done ∙ length-map (filter (λ (l : Line). l.actor == a) (take at lines)) (λ (l : Line). l.number) in
-    let whole : filter (λ (l : Line). l.actor == a) lines ≡ filter (λ (l : Line). l.actor == a) (take at lines) ++ line ∷ filter (λ (l : Line). l.actor == a) (drop (at + 1) lines) =
-    ap (filter (λ (l : Line). l.actor == a)) (sym (take-append-drop at lines) ∙ ap (λ (w : List Line). take at lines ++ w) (drop_at lines at line lt is))
+    let front : length (answered_by a journal) ≡ length (filter (λ (l : Line). l.actor == a) (take at lines)) = ap length done
+    ∙ length-map (filter (λ (l : Line). l.actor == a) (take at lines)) (λ (l : Line). l.number) in
+    let whole : filter (λ (l : Line). l.actor == a) lines ≡ filter (λ (l : Line). l.actor == a) (take at lines) ++ line ∷ filter
+    (λ (l : Line). l.actor == a) (drop (at + 1) lines) =
+    ap (filter (λ (l : Line). l.actor == a))
+    (sym (take-append-drop at lines) ∙ ap (λ (w : List Line). take at lines ++ w) (drop_at lines at line lt is))
     ∙ (filter-append (λ (l : Line). l.actor == a) (take at lines) (line ∷ drop (at + 1) lines) ∙ rw yes refl) in
     ap (slice_get (filter (λ (l : Line). l.actor == a) lines)) front
     ∙ (ap (λ (w : List Line). slice_get w (length (filter (λ (l : Line). l.actor == a) (take at lines)))) whole

@@ -3,7 +3,7 @@ use Rattle.std.specs.Prelude.{◌≡◌, ◌≤◌, ℕ, Result, Err, ◌+◌, �
 use Rattle.std.specs.List.{filter}
 use Rattle.std.specs.Ordering.{is_lt}
 use Rattle.std.specs.FinMap as finite
-use Rattle.node_table.specs.Order.{IsAfter}
+use Rattle.node_backend.specs.Order.{IsAfter}
 use Rattle.ledger_spec.specs.Bytes.{Bytes, Hash, Nodes, are_bytes, zero_hash}
 use Rattle.ledger_spec.specs.Maps.{hash_cmp}
 use Rattle.ledger_machine.specs.declared.commands.Record.{Record}

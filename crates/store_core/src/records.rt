@@ -2,13 +2,13 @@
 ghost use Rattle.std.specs.Prelude.{◌≡◌, IsTrue, None, length, OnOk, IfErr, IfOk, IfSome};
 ghost use Rattle.std.specs.Option.{option_copied};
 ghost use Rattle.std.specs.FinMap as map;
-ghost use Rattle.ledger_spec.specs.Bytes.{are_bytes};
+ghost use Rattle.ledger_spec.specs.Bytes.{Half, are_bytes};
 ghost use Rattle.ledger_spec.specs.Own.{IsStoredAt, AreStored};
 ghost use Rattle.ledger_machine.specs.Records.{AreRecords, with_records};
 ghost use Rattle.run_io.specs.Bytes.{Rose};
 ghost use Rattle.rotating_store.specs.Stores.{nodes_of, Counted, with_pair};
 ghost use Rattle.own_forms.specs.Reading.{IsLater, WasRead};
-ghost use Rattle.node_table.specs.Order.{IsNext};
+ghost use Rattle.node_backend.specs.Order.{IsNext};
 ghost use Rattle.store_core.specs.Dumping.{IsNextRecord, Follows, GivenAfter};
 
 use half_hash::{Hash32, NodeHash};
@@ -68,7 +68,7 @@ pub(crate) fn next_record<H: NodeHash, Sh: Shelf>(
     requires { IsTrue Sh.B.tells → AreStored H.half (map.get (nodes_of store.old)) }
     ensures next { IsTrue Sh.B.tells → IfOk result (IsNextRecord (nodes_of store.old) (option_copied after.entry)) }
     ensures follows { IfOk result (λ r. IfSome r (λ r. Follows (option_copied after.entry) r.hash)) }
-    ensures read { WasRead Sh.B.tells store.old store.new }
+    ensures read { WasRead Sh.B.tells H.half store.old store.new }
     ensures fault { IfErr result (λ e. e ≡ BackFault.Fault → Rose store.old.faults store.new.faults) }
 {
     if let Some(h) = after {
@@ -92,7 +92,7 @@ fn next_hash<Sh: Shelf>(
 ) -> Result<Option<Hash32>, BackFault>
     ensures next { IsTrue Sh.B.tells → IfOk result (IsNext (nodes_of store.old) (option_copied after.entry)) }
     ensures follows { IfOk result (λ h. IfSome h (Follows (option_copied after.entry))) }
-    ensures read { WasRead Sh.B.tells store.old store.new }
+    ensures read { (half : Half) → WasRead Sh.B.tells half store.old store.new }
     ensures fault { IfErr result (λ e. e ≡ BackFault.Fault → Rose store.old.faults store.new.faults) }
 {
     match store.next(alloc, after) {

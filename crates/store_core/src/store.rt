@@ -1,5 +1,6 @@
 //! The core: a script, the journal of what was answered, and the state after it.
-ghost use Rattle.std.specs.Prelude.{◌≡◌, ◌≢◌, ◌↔◌, ◌<◌, ◌≤◌, ◌^◌, [], ℕ, true, IsTrue, IfOk, length, count_by, IfErr, IfSome, MatchOption, drop, take};
+ghost use Rattle.std.specs.Prelude.{◌≡◌, ◌≢◌, ◌↔◌, ◌<◌, ◌≤◌, ◌^◌, [], ℕ, true, IsTrue, IfOk, length, count_by, IfErr, IfSome, MatchOption};
+ghost use Rattle.std.specs.Prelude.{drop, take};
 ghost use Rattle.std.specs.Option.{option_copied};
 ghost use Rattle.ledger_machine.specs.State.{default_interval};
 ghost use Rattle.ledger_machine.specs.Scripts.{Rises, line_of, numbers_of};

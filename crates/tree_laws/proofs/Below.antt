@@ -30,7 +30,8 @@ below_zero half nodes kind zero parent path h e = none_met (is_zero h) _ e
 below_zero half nodes kind (suc left) parent path h e = none_met (is_zero h) _ e
 
 -- where nothing lies below what is seen
-pub below_end : (half : Half) (nodes : Lookup) (kind : Kind) (left : ℕ) (parent : Option (List Hash)) (path : List ℕ) (h : Hash) (sight : Sight)
+pub below_end : (half : Half) (nodes : Lookup) (kind : Kind) (left : ℕ) (parent : Option (List Hash)) (path : List ℕ) (h : Hash)
+    (sight : Sight)
     → is_zero h ≡ false → sight ≡ at_place half nodes kind parent path h
     → ((each : List Hash → List Met) → branches_of sight each ≡ [])
     → found_below half nodes kind left parent path h ≡ cons_option (finding_at (Node kind path) sight) []
@@ -46,12 +47,15 @@ filter_map-flat_map g [] = refl
 filter_map-flat_map g (b ∷ bs) =
     filter_map-append finding_of (g b) (flat_map g bs) ∙ ap (λ l. filter_map finding_of (g b) ++ l) (filter_map-flat_map g bs)
 
-pub below_inner : (half : Half) (nodes : Lookup) (kind : Kind) (left : ℕ) (parent : Option (List Hash)) (path : List ℕ) (h : Hash) (hashes : List Hash)
+pub below_inner : (half : Half) (nodes : Lookup) (kind : Kind) (left : ℕ) (parent : Option (List Hash)) (path : List ℕ) (h : Hash)
+    (hashes : List Hash)
     → is_zero h ≡ false → sound (inner hashes) ≡ at_place half nodes kind parent path h
     → found_below half nodes kind (suc left) parent path h ≡ found_in half nodes kind left hashes path 16
 unfolding walk found_below found_in
 below_inner half nodes kind left parent path h hashes z e =
-    first_met (is_zero h) _ _ z ∙ rw (← e) (filter_map-flat_map (λ b. walk half nodes kind left (Some hashes) (path ++ b ∷ []) (slice_index_or hashes b zero_hash)) branches)
+    first_met (is_zero h) _ _ z
+    ∙ rw (← e) (filter_map-flat_map
+    (λ b. walk half nodes kind left (Some hashes) (path ++ b ∷ []) (slice_index_or hashes b zero_hash)) branches)
 
 range_more : (a n : ℕ) → range_with_len a (suc n) ≡ range_with_len a n ++ (a + n) ∷ []
 range_more a zero = let e : a ≡ a + 0 = omega arith in ap (λ x. x ∷ []) e
@@ -59,11 +63,13 @@ range_more a (suc n) =
     let e : a + 1 + n ≡ a + suc n = omega arith in ap (λ l. a ∷ l) (range_more (a + 1) n ∙ ap (λ x. range_with_len (a + 1) n ++ x ∷ []) e)
 
 pub in_more : (half : Half) (nodes : Lookup) (kind : Kind) (left : ℕ) (hashes : List Hash) (path : List ℕ) (n m : ℕ) → m ≡ suc n
-    → found_in half nodes kind left hashes path m ≡ found_in half nodes kind left hashes path n ++ found_below half nodes kind left (Some hashes) (path ++ n ∷ []) (slice_index_or hashes n zero_hash)
+    → found_in half nodes kind left hashes path m ≡ found_in half nodes kind left hashes path n ++ found_below half nodes kind left
+    (Some hashes) (path ++ n ∷ []) (slice_index_or hashes n zero_hash)
 unfolding found_in
 in_more half nodes kind left hashes path n m e =
     let g : ℕ → List Finding = λ b. found_below half nodes kind left (Some hashes) (path ++ b ∷ []) (slice_index_or hashes b zero_hash) in
-    ap (λ k. flat_map g (range_with_len 0 k)) e ∙ ap (flat_map g) (range_more 0 n) ∙ ap (λ x. flat_map g (range_with_len 0 n ++ x ∷ [])) (zero-add n)
+    ap (λ k. flat_map g (range_with_len 0 k)) e ∙ ap (flat_map g) (range_more 0 n)
+    ∙ ap (λ x. flat_map g (range_with_len 0 n ++ x ∷ [])) (zero-add n)
     ∙ sym (flat_map_more g [] (range_with_len 0 n) n)
 
 pub in_none : (half : Half) (nodes : Lookup) (kind : Kind) (left : ℕ) (hashes : List Hash) (path : List ℕ)
@@ -73,7 +79,8 @@ in_none half nodes kind left hashes path = refl
 
 -- what is found at an inner node and below it doesn't depend on what is above it, nor do the items there
 any_above : {F : Type 0} (find : Met → Option F) → ((m n : Met) → m.place ≡ n.place → m.sight ≡ n.sight → find m ≡ find n)
-    → (half : Half) (nodes : Lookup) (kind : Kind) (left : ℕ) (parent other : Option (List Hash)) (path : List ℕ) (h : Hash) (form : Bytes) (hashes : List Hash)
+    → (half : Half) (nodes : Lookup) (kind : Kind) (left : ℕ) (parent other : Option (List Hash)) (path : List ℕ) (h : Hash)
+    (form : Bytes) (hashes : List Hash)
     → nodes h ≡ Some form → held_of half form ≡ Some (inner hashes)
     → filter_map find (walk half nodes kind left parent path h) ≡ filter_map find (walk half nodes kind left other path h)
 any_above find reads half nodes kind left parent other path h form hashes is holds = by left (is_zero h) refl
@@ -96,13 +103,16 @@ any_above find reads half nodes kind left parent other path h form hashes is hol
         ∙ (λ i. cons_option (found_here i) (filter_map find (branches_of (seen i) (walks_below half nodes kind left path))))
         ∙ sym (ap (filter_map find) (walk_step half nodes kind left other path h z))
 
-pub found_any : (half : Half) (nodes : Lookup) (kind : Kind) (left : ℕ) (parent other : Option (List Hash)) (path : List ℕ) (h : Hash) (form : Bytes) (hashes : List Hash)
+pub found_any : (half : Half) (nodes : Lookup) (kind : Kind) (left : ℕ) (parent other : Option (List Hash)) (path : List ℕ) (h : Hash)
+    (form : Bytes) (hashes : List Hash)
     → nodes h ≡ Some form → held_of half form ≡ Some (inner hashes)
     → found_below half nodes kind left parent path h ≡ found_below half nodes kind left other path h
 unfolding found_below
 found_any = any_above finding_of (λ m n place sight. λ i. finding_at (place i) (sight i))
 
-pub items_any : (half : Half) (nodes : Lookup) (kind : Kind) (left : ℕ) (parent other : Option (List Hash)) (path : List ℕ) (h : Hash) (form : Bytes) (hashes : List Hash)
+pub items_any : (half : Half) (nodes : Lookup) (kind : Kind) (left : ℕ) (parent other : Option (List Hash)) (path : List ℕ) (h : Hash)
+    (form : Bytes) (hashes : List Hash)
     → nodes h ≡ Some form → held_of half form ≡ Some (inner hashes)
-    → filter_map (λ m. item_at m.sight) (walk half nodes kind left parent path h) ≡ filter_map (λ m. item_at m.sight) (walk half nodes kind left other path h)
+    → filter_map (λ m. item_at m.sight) (walk half nodes kind left parent path h) ≡ filter_map (λ m. item_at m.sight)
+    (walk half nodes kind left other path h)
 items_any = any_above (λ m. item_at m.sight) (λ m n place sight. ap item_at sight)

@@ -43,7 +43,8 @@ keys_of_items half kind [] each bytes = tt
 keys_of_items half kind (e ∷ items) each bytes =
     (is_key e.0 (key_size half kind e.0 e.1 each.0) bytes.0.0, keys_of_items half kind items each.1 bytes.1)
 
-module _ (half : Half) (sized : Sized half) (nodes : Lookup) (forms : AreByteForms nodes) (kind : Kind) (halves : (bytes : Bytes) → IsTrue (are_bytes (half bytes))) where
+module _ (half : Half) (sized : Sized half) (nodes : Lookup) (forms : AreByteForms nodes) (kind : Kind)
+    (halves : (bytes : Bytes) → IsTrue (are_bytes (half bytes))) where
   abbrev entries : List Met → Items
   entries walked = filter_map (λ m. item_at m.sight) walked
 
@@ -57,8 +58,11 @@ module _ (half : Half) (sized : Sized half) (nodes : Lookup) (forms : AreByteFor
   leaf_bytes : (k : Kind) (key bytes form : Bytes) → IsHeld half (leaf k key bytes) → form ≡ leaf_form k key bytes → IsTrue (are_bytes form)
       → IsByteEntry (key, bytes)
   leaf_bytes State key bytes form is e all =
-      let whole : IsTrue (are_bytes (leaf_prefix State ++ bytes ++ key)) = subst (λ b. IsTrue (are_bytes b)) e all in
-      (bytes_end (leaf_prefix State ++ bytes) key whole, bytes_end (leaf_prefix State) bytes (bytes_front (leaf_prefix State ++ bytes) key whole))
+      let whole : IsTrue (are_bytes (leaf_prefix State ++ bytes ++ key)) = subst (λ b. IsTrue (are_bytes b)) e all in (
+        bytes_end (leaf_prefix State ++ bytes) key whole,
+        bytes_end (leaf_prefix State) bytes
+            (bytes_front (leaf_prefix State ++ bytes) key whole),
+      )
   leaf_bytes Tx key bytes form is e all =
       let whole : IsTrue (are_bytes (leaf_prefix Tx ++ bytes ++ key)) = subst (λ b. IsTrue (are_bytes b)) e all in
       (bytes_end (leaf_prefix Tx ++ bytes) key whole, bytes_end (leaf_prefix Tx) bytes (bytes_front (leaf_prefix Tx ++ bytes) key whole))
@@ -69,7 +73,8 @@ module _ (half : Half) (sized : Sized half) (nodes : Lookup) (forms : AreByteFor
   leaf_entry : (p : Option (List Hash)) (path : List ℕ) (h : Hash) (k : Kind) (key bytes : Bytes)
       → seen_at p path h ≡ sound (leaf k key bytes) → IsByteEntry (key, bytes)
   leaf_entry p path h k key bytes is =
-      let sees : Sees half (λ n. fault_of n p kind path) (nodes h) (leaf k key bytes) = sees_sound half (λ n. fault_of n p kind path) (nodes h) (leaf k key bytes) is in
+      let sees : Sees half (λ n. fault_of n p kind path) (nodes h) (leaf k key bytes) =
+      sees_sound half (λ n. fault_of n p kind path) (nodes h) (leaf k key bytes) is in
       let form : Form half (leaf k key bytes) sees.form = holds half sized (leaf k key bytes) sees.form sees.holds in
       leaf_bytes k key bytes sees.form form.0 form.1 (forms h sees.form sees.stored)
 
@@ -105,12 +110,18 @@ module _ (half : Half) (sized : Sized half) (nodes : Lookup) (forms : AreByteFor
       by_zero false = at_bottom p path h (seen_at p path h) refl
   walk_bytes (suc l) p path h =
       by_zero (is_zero h)
-      (λ hashes. joined (λ b. walk half nodes kind l (Some hashes) (path ++ b ∷ []) (slice_index_or hashes b zero_hash)) (λ b. walk_bytes l (Some hashes) (path ++ b ∷ []) (slice_index_or hashes b zero_hash)) branches)
+      (λ hashes. joined (λ b. walk half nodes kind l (Some hashes) (path ++ b ∷ []) (slice_index_or hashes b zero_hash))
+      (λ b. walk_bytes l (Some hashes) (path ++ b ∷ []) (slice_index_or hashes b zero_hash)) branches)
     where
-      by_zero : (t : Bool) → ((hashes : List Hash) → AreBytes (entries (flat_map (λ b. walk half nodes kind l (Some hashes) (path ++ b ∷ []) (slice_index_or hashes b zero_hash)) branches)))
-          → AreBytes (entries (if t then [] else met (Node kind path) h p (seen_at p path h) ∷ branches_of (seen_at p path h) (λ hashes. flat_map (λ b. walk half nodes kind l (Some hashes) (path ++ b ∷ []) (slice_index_or hashes b zero_hash)) branches)))
+      by_zero : (t : Bool) → ((hashes : List Hash) → AreBytes
+          (entries (flat_map (λ b. walk half nodes kind l (Some hashes) (path ++ b ∷ []) (slice_index_or hashes b zero_hash)) branches)))
+          → AreBytes (entries (if t then [] else met (Node kind path) h p (seen_at p path h) ∷ branches_of (seen_at p path h)
+          (λ hashes. flat_map (λ b. walk half nodes kind l (Some hashes) (path ++ b ∷ []) (slice_index_or hashes b zero_hash))
+          branches)))
       by_zero true each = tt
-      by_zero false each = by_sight p path h (seen_at p path h) (λ hashes. flat_map (λ b. walk half nodes kind l (Some hashes) (path ++ b ∷ []) (slice_index_or hashes b zero_hash)) branches) refl each
+      by_zero false each = by_sight p path h (seen_at p path h)
+          (λ hashes. flat_map (λ b. walk half nodes kind l (Some hashes) (path ++ b ∷ []) (slice_index_or hashes b zero_hash)) branches)
+          refl each
 
   pub byte_items : (root : Hash) → AreBytes (items_of half nodes kind root)
   unfolding walk_map

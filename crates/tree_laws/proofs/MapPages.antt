@@ -78,7 +78,8 @@ same_entries : (f g : ℕ → Items) (a n : ℕ) → ((b : ℕ) → a ≤ b → 
     → flat_map f (range_with_len a n) ≡ flat_map g (range_with_len a n)
 same_entries f g a zero same = refl
 same_entries f g a (suc n) same =
-    ap (λ l. l ++ flat_map f (range_with_len (a + 1) n)) (same a (omega arith)) ∙ ap (λ l. g a ++ l) (same_entries f g (a + 1) n (λ b from. same b (omega arith)))
+    ap (λ l. l ++ flat_map f (range_with_len (a + 1) n)) (same a (omega arith))
+    ∙ ap (λ l. g a ++ l) (same_entries f g (a + 1) n (λ b from. same b (omega arith)))
 
 first_entry : (f g : ℕ → Items) (e : Entry) (c a n : ℕ) → a ≤ c → c < a + n → f c ≡ e ∷ g c → ((b : ℕ) → (b ≡ c → ⊥) → f b ≡ g b)
     → ((b : ℕ) → b < c → g b ≡ [])
@@ -88,7 +89,8 @@ first_entry f g e c a (suc n) from upto at others before =
     ⊎_elim
     (λ (here : a ≡ c).
     let own : f a ≡ e ∷ g a = ap f here ∙ at ∙ ap (λ b. e ∷ g b) (sym here) in
-    ap (λ l. l ++ flat_map f (range_with_len (a + 1) n)) own ∙ ap (λ l. e ∷ (g a ++ l)) (same_entries f g (a + 1) n (λ b after. others b (λ same. omega arith))))
+    ap (λ l. l ++ flat_map f (range_with_len (a + 1) n)) own ∙ ap (λ l. e ∷ (g a ++ l))
+    (same_entries f g (a + 1) n (λ b after. others b (λ same. omega arith))))
     (λ (away : a ≡ c → ⊥).
     let none : g a ≡ [] = before a (omega arith) in
     ap (λ l. l ++ flat_map f (range_with_len (a + 1) n)) (others a away ∙ none)
@@ -130,10 +132,13 @@ part_branches path (e ∷ items) up sorted keys = by_test (lies_under path e.0) 
         each (f ∷ m) all = (apart f all.0 (lies_under (path ++ b ∷ []) f.0) refl, each m all.1)
 
     by_test : (t : Bool) → lies_under path e.0 ≡ t → part items path ≡ flat_map (λ b. part items (path ++ b ∷ [])) branches
-        → cond t (e ∷ part items path) (part items path) ≡ flat_map (λ b. cond (lies_under (path ++ b ∷ []) e.0) (e ∷ part items (path ++ b ∷ [])) (part items (path ++ b ∷ []))) branches
+        → cond t (e ∷ part items path) (part items path) ≡ flat_map
+        (λ b. cond (lies_under (path ++ b ∷ []) e.0) (e ∷ part items (path ++ b ∷ [])) (part items (path ++ b ∷ []))) branches
     by_test false is tail =
         tail
-        ∙ sym (ap (λ (f : ℕ → Items). flat_map f branches) (λ i b. cond-false (lies_under (path ++ b ∷ []) e.0) (e ∷ part items (path ++ b ∷ [])) (part items (path ++ b ∷ [])) (outside b (lies_under (path ++ b ∷ []) e.0) refl) i))
+        ∙ sym (ap (λ (f : ℕ → Items). flat_map f branches)
+        (λ i b. cond-false (lies_under (path ++ b ∷ []) e.0) (e ∷ part items (path ++ b ∷ [])) (part items (path ++ b ∷ []))
+        (outside b (lies_under (path ++ b ∷ []) e.0) refl) i))
       where
         outside : (b : ℕ) (t : Bool) → lies_under (path ++ b ∷ []) e.0 ≡ t → lies_under (path ++ b ∷ []) e.0 ≡ false
         outside b false e' = e'
@@ -141,20 +146,26 @@ part_branches path (e ∷ items) up sorted keys = by_test (lies_under path e.0) 
     by_test true is tail =
         let long : length (nibbles e.0) ≡ 64 = omega (arith, length-nibbles e.0, keys.0.size) in
         let c : ℕ = nibble_of e.0 (length path) in
-        let more : take (length path + 1) (nibbles e.0) ≡ take (length path) (nibbles e.0) ++ nibble_of e.0 (length path) ∷ [] = take_more (nibbles e.0) (length path) 0 (omega arith) in
-        let sizes : length (path ++ nibble_of e.0 (length path) ∷ []) ≡ length path + 1 = length-append path (nibble_of e.0 (length path) ∷ []) in
+        let more : take (length path + 1) (nibbles e.0) ≡ take (length path) (nibbles e.0) ++ nibble_of e.0 (length path) ∷ [] =
+        take_more (nibbles e.0) (length path) 0 (omega arith) in
+        let sizes : length (path ++ nibble_of e.0 (length path) ∷ []) ≡ length path + 1 =
+        length-append path (nibble_of e.0 (length path) ∷ []) in
         let under : lies_under (path ++ nibble_of e.0 (length path) ∷ []) e.0 ≡ true =
         under_from (path ++ nibble_of e.0 (length path) ∷ []) e.0
-        (ap (λ (p : List ℕ). p ++ nibble_of e.0 (length path) ∷ []) (under_begins path e.0 is) ∙ sym more ∙ ap (λ n. take n (nibbles e.0)) (sym sizes))
+        (ap (λ (p : List ℕ). p ++ nibble_of e.0 (length path) ∷ []) (under_begins path e.0 is) ∙ sym more
+        ∙ ap (λ n. take n (nibbles e.0)) (sym sizes))
         in
         let low : nibble_of e.0 (length path) < 16 = below_at (nibbles e.0) (length path) keys.0.path.nibbles_below (omega arith) in
         ap (λ l. e ∷ l) tail
-        ∙ sym (first_entry (λ b. cond (lies_under (path ++ b ∷ []) e.0) (e ∷ part items (path ++ b ∷ [])) (part items (path ++ b ∷ []))) (λ b. part items (path ++ b ∷ [])) e
+        ∙ sym (first_entry (λ b. cond (lies_under (path ++ b ∷ []) e.0) (e ∷ part items (path ++ b ∷ [])) (part items (path ++ b ∷ [])))
+        (λ b. part items (path ++ b ∷ [])) e
         (nibble_of e.0 (length path)) 0 16 (omega arith) (omega arith) (cond-true _ _ _ under)
-        (λ b away. cond-false (lies_under (path ++ b ∷ []) e.0) _ _ (under_other path (nibble_of e.0 (length path)) b e.0 (λ same. away (sym same)) under))
+        (λ b away. cond-false (lies_under (path ++ b ∷ []) e.0) _ _
+        (under_other path (nibble_of e.0 (length path)) b e.0 (λ same. away (sym same)) under))
         (λ b less. before_none (nibble_of e.0 (length path)) b items under less sorted.0))
 
-module _ (half : Half) (sized : Sized half) (kind : Kind) (root after : Hash) (is_key : IsKey after) (used : List Held) (held : AreNodes half kind used) (items : Items) (are : AreItems half kind items) where
+module _ (half : Half) (sized : Sized half) (kind : Kind) (root after : Hash) (is_key : IsKey after) (used : List Held)
+    (held : AreNodes half kind used) (items : Items) (are : AreItems half kind items) where
   abbrev On : List ℕ → Hash → Type 0
   On path h = Here half sized kind root used held items are path h
 
@@ -174,7 +185,9 @@ module _ (half : Half) (sized : Sized half) (kind : Kind) (root after : Hash) (i
       let kept : KeepsLeaf kind k key path = keeps_leaf kind k key bytes p path fits in
       ⊎_elim
       (λ same.
-      let there : Leaf half sized kind root used held items are path key bytes = leaf_at half sized kind root used held items are path (omega (arith, at.0)) k key bytes (held (leaf k key bytes) among kept.kinds) same in
+      let there : Leaf half sized kind root used held items are path key bytes =
+      leaf_at half sized kind root used held items are path (omega (arith, at.0)) k key bytes
+      (held (leaf k key bytes) among kept.kinds) same in
       inl (there.there ∙ one there))
       inr (node_at half sized kind root used held items are path h at.1 (leaf k key bytes) among is)
     where
@@ -183,7 +196,9 @@ module _ (half : Half) (sized : Sized half) (kind : Kind) (root after : Hash) (i
           let none : there.others ≡ [] =
           ⊎_elim (λ e. e)
           (λ deep.
-          one_at_bottom path there.e there.others deep (subst (λ (l : Items). IsMap hash_cmp l) there.there (map_kept (λ (x : Entry). lies_under path x.0) items are.rising)) there.sizes
+          one_at_bottom path there.e there.others deep
+          (subst (λ (l : Items). IsMap hash_cmp l) there.there (map_kept (λ (x : Entry). lies_under path x.0) items are.rising))
+          there.sizes
           (subst (AllByRecursion (λ (x : Entry). lies_under path x.0 ≡ true)) there.there (all_under path items)))
           there.alone
           in
@@ -192,13 +207,17 @@ module _ (half : Half) (sized : Sized half) (kind : Kind) (root after : Hash) (i
   inner_part : (l : ℕ) (p : Option (List Hash)) (path : List ℕ) (h : Hash) (hashes : List Hash) → At (suc l) p path h → is_zero h ≡ false
       → Among (inner hashes) → hash_of half (inner hashes) ≡ h
       → fault_of (inner hashes) p kind path ≡ None
-      → ((part items path ≡ flat_map (λ b. part items (path ++ b ∷ [])) branches) × ((b : ℕ) → b < 16 → At l (Some hashes) (path ++ b ∷ []) (slice_index_or hashes b zero_hash))) ⊎ Collides
+      → ((part items path ≡ flat_map (λ b. part items (path ++ b ∷ [])) branches)
+      × ((b : ℕ) → b < 16 → At l (Some hashes) (path ++ b ∷ []) (slice_index_or hashes b zero_hash))) ⊎ Collides
   inner_part l p path h hashes at some among is fits =
       ⊎_elim
       (λ same.
       inl (
         part_branches path items (omega (arith, at.0)) are.rising (keys_of_items half kind items are.each are.bytes),
-        λ b low. (omega (arith, at.0, length-append path (b ∷ [])), step half sized kind root used held items are path h hashes p b low at.1 among is fits same),
+        λ b low. (
+          omega (arith, at.0, length-append path (b ∷ [])),
+          step half sized kind root used held items are path h hashes p b low at.1 among is fits same,
+        ),
       ))
       inr (node_at half sized kind root used held items are path h at.1 (inner hashes) among is)
 
@@ -212,7 +231,8 @@ module _ (half : Half) (sized : Sized half) (kind : Kind) (root after : Hash) (i
   unfolding heard_from
   page_of_map is n page says =
       by_said (page_from half kind after 64 None [] root n used) says
-      (page_says half kind after (omega (arith, length-nibbles after, is_key.size)) Among Collides At (λ l p path h. part items path) (λ l p path h at. at.0) (λ l p path h at. all_under path items)
+      (page_says half kind after (omega (arith, length-nibbles after, is_key.size)) Among Collides At (λ l p path h. part items path)
+      (λ l p path h at. at.0) (λ l p path h at. all_under path items)
       (λ l p path h at none. empty_at half sized kind root used held items are path h at.1 none) leaf_part inner_part 64 None [] root n used
       (refl, at_root half sized kind root used held items are is) (all_among used (λ m there. there)))
     where
@@ -223,8 +243,11 @@ module _ (half : Half) (sized : Sized half) (kind : Kind) (root after : Hash) (i
           every [] = tt
           every (x ∷ l) = (refl, every l)
 
-      by_said : (o : Heard) → o ≡ said page [] → Rattle.tree_laws.proofs.PageLaw.Says half kind after (omega (arith, length-nibbles after, is_key.size)) Among Collides At (λ l p path h. part items path) (λ l p path h at. at.0)
-          (λ l p path h at. all_under path items) (λ l p path h at none. empty_at half sized kind root used held items are path h at.1 none) leaf_part inner_part (part items []) n o
+      by_said : (o : Heard) → o ≡ said page [] → Rattle.tree_laws.proofs.PageLaw.Says half kind after
+          (omega (arith, length-nibbles after, is_key.size)) Among Collides At (λ l p path h. part items path) (λ l p path h at. at.0)
+          (λ l p path h at. all_under path items)
+          (λ l p path h at none. empty_at half sized kind root used held items are path h at.1 none) leaf_part inner_part
+          (part items []) n o
           → (page ≡ after_key after n items) ⊎ Collides
       by_said (wants p path h) e says' = let no : wants p path h ≡ said page [] = e in cc
       by_said wrong e says' = let no : wrong ≡ said page [] = e in cc

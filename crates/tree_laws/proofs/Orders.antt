@@ -64,7 +64,8 @@ nibbles_cmp [] [] = refl
 nibbles_cmp [] (y ∷ b) = refl
 nibbles_cmp (x ∷ a) [] = refl
 nibbles_cmp (x ∷ a) (y ∷ b) =
-    ap (λ o. ordering_then (nat_cmp (x / 16) (y / 16)) (ordering_then (nat_cmp (x % 16) (y % 16)) o)) (nibbles_cmp a b) ∙ byte_cmp x y (slice_cmp nat_cmp a b)
+    ap (λ o. ordering_then (nat_cmp (x / 16) (y / 16)) (ordering_then (nat_cmp (x % 16) (y % 16)) o)) (nibbles_cmp a b)
+    ∙ byte_cmp x y (slice_cmp nat_cmp a b)
 
 -- a front in common doesn't count
 front_cmp : (p xs ys : List ℕ) → slice_cmp nat_cmp (p ++ xs) (p ++ ys) ≡ slice_cmp nat_cmp xs ys
@@ -75,12 +76,16 @@ front_cmp (x ∷ p) xs ys = ap (λ o. ordering_then o (slice_cmp nat_cmp (p ++ x
 pub branch_less : (path : List ℕ) (b c : ℕ) (k l : Hash) → b < c → lies_under (path ++ b ∷ []) k ≡ true
     → lies_under (path ++ c ∷ []) l ≡ true → hash_cmp k l ≡ Less
 branch_less path b c k l lt under_b under_c =
-    let split : (d : ℕ) (m : Hash) → lies_under (path ++ d ∷ []) m ≡ true → nibbles m ≡ path ++ (d ∷ drop (length (path ++ d ∷ [])) (nibbles m)) = λ d m under.
-    sym (take-append-drop (length (path ++ d ∷ [])) (nibbles m)) ∙ ap (λ (t : List ℕ). t ++ drop (length (path ++ d ∷ [])) (nibbles m)) (sym (under_begins (path ++ d ∷ []) m under))
+    let split : (d : ℕ) (m : Hash) → lies_under (path ++ d ∷ []) m ≡ true
+    → nibbles m ≡ path ++ (d ∷ drop (length (path ++ d ∷ [])) (nibbles m)) = λ d m under.
+    sym (take-append-drop (length (path ++ d ∷ [])) (nibbles m))
+    ∙ ap (λ (t : List ℕ). t ++ drop (length (path ++ d ∷ [])) (nibbles m)) (sym (under_begins (path ++ d ∷ []) m under))
     ∙ append_assoc path (d ∷ []) (drop (length (path ++ d ∷ [])) (nibbles m))
     in
-    sym (nibbles_cmp k l) ∙ ap (λ t. slice_cmp nat_cmp t (nibbles l)) (split b k under_b) ∙ ap (slice_cmp nat_cmp (path ++ (b ∷ drop (length (path ++ b ∷ [])) (nibbles k)))) (split c l under_c)
-    ∙ front_cmp path _ _ ∙ ap (λ o. ordering_then o (slice_cmp nat_cmp (drop (length (path ++ b ∷ [])) (nibbles k)) (drop (length (path ++ c ∷ [])) (nibbles l)))) (less b c lt)
+    sym (nibbles_cmp k l) ∙ ap (λ t. slice_cmp nat_cmp t (nibbles l)) (split b k under_b)
+    ∙ ap (slice_cmp nat_cmp (path ++ (b ∷ drop (length (path ++ b ∷ [])) (nibbles k)))) (split c l under_c)
+    ∙ front_cmp path _ _ ∙ ap (λ o. ordering_then o
+    (slice_cmp nat_cmp (drop (length (path ++ b ∷ [])) (nibbles k)) (drop (length (path ++ c ∷ [])) (nibbles l)))) (less b c lt)
 
 -- a fact of each of two lists is one of their join
 pub all_append : {X : Type 0} (P : X → Type 0) (xs ys : List X) → AllByRecursion P xs → AllByRecursion P ys → AllByRecursion P (xs ++ ys)
@@ -117,7 +122,8 @@ under_branches path g under a zero = tt
 under_branches path g under a (suc n) =
     all_append (UnderFrom path a) (g a) (flat_map g (range_with_len (a + 1) n))
     (all_weaker (λ (e : Entry). lies_under (path ++ a ∷ []) e.0 ≡ true) (UnderFrom path a) (λ e u. (a, omega (arith), u)) (g a) (under a))
-    (all_weaker (UnderFrom path (a + 1)) (UnderFrom path a) (λ e u. (u.0, omega (arith, u.1), u.2)) (flat_map g (range_with_len (a + 1) n)) (under_branches path g under (a + 1) n))
+    (all_weaker (UnderFrom path (a + 1)) (UnderFrom path a) (λ e u. (u.0, omega (arith, u.1), u.2))
+    (flat_map g (range_with_len (a + 1) n)) (under_branches path g under (a + 1) n))
 
 -- the maps under the branches, joined, are a map
 pub map_branches : (path : List ℕ) (g : ℕ → Items) → ((b : ℕ) → IsMap hash_cmp (g b))
@@ -129,6 +135,7 @@ map_branches path g sorted under a (suc n) =
     map_append (g a) (flat_map g (range_with_len (a + 1) n)) (sorted a) (map_branches path g sorted under (a + 1) n)
     (all_weaker (λ (e : Entry). lies_under (path ++ a ∷ []) e.0 ≡ true) _
     (λ e u.
-    all_weaker (UnderFrom path (a + 1)) (λ (f : Entry). hash_cmp e.0 f.0 ≡ Less) (λ f v. branch_less path a v.0 e.0 f.0 (omega (arith, v.1)) u v.2)
+    all_weaker (UnderFrom path (a + 1)) (λ (f : Entry). hash_cmp e.0 f.0 ≡ Less)
+    (λ f v. branch_less path a v.0 e.0 f.0 (omega (arith, v.1)) u v.2)
     (flat_map g (range_with_len (a + 1) n)) (under_branches path g under (a + 1) n))
     (g a) (under a))

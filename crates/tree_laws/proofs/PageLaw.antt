@@ -61,12 +61,15 @@ passed_under : (after : Hash) (path : List ℕ) (e : Entry) → length path ≤ 
     → lies_under path e.0 ≡ true → is_behind after e ≡ false
 passed_under after path e within is under =
     let front : nibbles e.0 ≡ path ++ drop (length path) (nibbles e.0) =
-    sym (take-append-drop (length path) (nibbles e.0)) ∙ ap (λ (t : List ℕ). t ++ drop (length path) (nibbles e.0)) (sym (under_begins path e.0 under))
+    sym (take-append-drop (length path) (nibbles e.0)) ∙ ap (λ (t : List ℕ). t ++ drop (length path) (nibbles e.0))
+    (sym (under_begins path e.0 under))
     in
-    let other : nibbles after ≡ take (length path) (nibbles after) ++ drop (length path) (nibbles after) = sym (take-append-drop (length path) (nibbles after)) in
+    let other : nibbles after ≡ take (length path) (nibbles after) ++ drop (length path) (nibbles after) =
+    sym (take-append-drop (length path) (nibbles after)) in
     let sizes : length path ≡ length (take (length path) (nibbles after)) = omega (arith, length-take (length path) (nibbles after)) in
     let less : hash_cmp e.0 after ≡ Less =
-    sym (nibbles_cmp e.0 after) ∙ ap (λ t. slice_cmp nat_cmp t (nibbles after)) front ∙ ap (slice_cmp nat_cmp (path ++ drop (length path) (nibbles e.0))) other
+    sym (nibbles_cmp e.0 after) ∙ ap (λ t. slice_cmp nat_cmp t (nibbles after)) front
+    ∙ ap (slice_cmp nat_cmp (path ++ drop (length path) (nibbles e.0))) other
     ∙ front_less path (take (length path) (nibbles after)) _ _ sizes (less_is (hash_cmp path (take (length path) (nibbles after))) is)
     in
     ap is_gt less
@@ -74,7 +77,9 @@ passed_under after path e within is under =
 none_behind : (after : Hash) (path : List ℕ) (items : Items) → length path ≤ length (nibbles after) → is_passed after path ≡ true
     → AllByRecursion (λ (e : Entry). lies_under path e.0 ≡ true) items
     → filter (is_behind after) items ≡ []
-none_behind after path items within is under = filter_none (is_behind after) items (Rattle.tree_laws.proofs.Orders.all_weaker (λ (e : Entry). lies_under path e.0 ≡ true) (λ e. is_behind after e ≡ false) (λ e u. passed_under after path e within is u) items under)
+none_behind after path items within is under = filter_none (is_behind after) items
+    (Rattle.tree_laws.proofs.Orders.all_weaker (λ (e : Entry). lies_under path e.0 ≡ true) (λ e. is_behind after e ≡ false)
+    (λ e u. passed_under after path e within is u) items under)
 
 take_nothing : (n : ℕ) (xs : Items) → xs ≡ [] → take n xs ≡ []
 take_nothing zero xs e = refl
@@ -95,11 +100,15 @@ leaf_page after n key bytes = by_test (is_behind after (key, bytes))
 module _ (half : Half) (kind : Kind) (after : Hash) (whole : length (nibbles after) ≡ 64) (Among : Held → Type 0) (Out : Type 0)
     (At : ℕ → Option (List Hash) → List ℕ → Hash → Type 0) (items_at : ℕ → Option (List Hash) → List ℕ → Hash → Items)
     (level : (l : ℕ) (p : Option (List Hash)) (path : List ℕ) (h : Hash) → At l p path h → l + length path ≡ 64)
-    (under : (l : ℕ) (p : Option (List Hash)) (path : List ℕ) (h : Hash) → At l p path h → AllByRecursion (λ (e : Entry). lies_under path e.0 ≡ true) (items_at l p path h))
-    (at_zero : (l : ℕ) (p : Option (List Hash)) (path : List ℕ) (h : Hash) → At l p path h → is_zero h ≡ true → (items_at l p path h ≡ []) ⊎ Out)
-    (at_leaf : (l : ℕ) (p : Option (List Hash)) (path : List ℕ) (h : Hash) (k : Kind) (key bytes : Bytes) → At l p path h → is_zero h ≡ false → Among (leaf k key bytes) → hash_of half (leaf k key bytes) ≡ h
+    (under : (l : ℕ) (p : Option (List Hash)) (path : List ℕ) (h : Hash) → At l p path h
+    → AllByRecursion (λ (e : Entry). lies_under path e.0 ≡ true) (items_at l p path h))
+    (at_zero : (l : ℕ) (p : Option (List Hash)) (path : List ℕ) (h : Hash) → At l p path h → is_zero h ≡ true
+    → (items_at l p path h ≡ []) ⊎ Out)
+    (at_leaf : (l : ℕ) (p : Option (List Hash)) (path : List ℕ) (h : Hash) (k : Kind) (key bytes : Bytes) → At l p path h
+    → is_zero h ≡ false → Among (leaf k key bytes) → hash_of half (leaf k key bytes) ≡ h
     → fault_of (leaf k key bytes) p kind path ≡ None → (items_at l p path h ≡ (key, bytes) ∷ []) ⊎ Out)
-    (at_inner : (l : ℕ) (p : Option (List Hash)) (path : List ℕ) (h : Hash) (hashes : List Hash) → At (suc l) p path h → is_zero h ≡ false → Among (inner hashes) → hash_of half (inner hashes) ≡ h
+    (at_inner : (l : ℕ) (p : Option (List Hash)) (path : List ℕ) (h : Hash) (hashes : List Hash) → At (suc l) p path h → is_zero h ≡ false
+    → Among (inner hashes) → hash_of half (inner hashes) ≡ h
     → fault_of (inner hashes) p kind path ≡ None
     → ((items_at (suc l) p path h ≡ flat_map (λ b. items_at l (Some hashes) (path ++ b ∷ []) (slice_index_or hashes b zero_hash)) branches)
     × ((b : ℕ) → b < 16 → At l (Some hashes) (path ++ b ∷ []) (slice_index_or hashes b zero_hash))) ⊎ Out) where
@@ -120,7 +129,8 @@ module _ (half : Half) (kind : Kind) (after : Hash) (whole : length (nibbles aft
   says_then g b bs n read (wants parent path h) says go = tt
   says_then g b bs n read wrong says go = tt
   says_then g b bs n read (said items rest) says go =
-      ⊎_elim (λ both. by_rest (read (n - length items) rest) both.0 (go (n - length items) rest both.1)) (λ out. spread (read (n - length items) rest) out) says
+      ⊎_elim (λ both. by_rest (read (n - length items) rest) both.0 (go (n - length items) rest both.1))
+      (λ out. spread (read (n - length items) rest) out) says
     where
       spread : (o : Heard) → Out → Says (g b ++ flat_map g bs) n (followed_by items o)
       spread (wants parent path h) out = tt
@@ -135,17 +145,20 @@ module _ (half : Half) (kind : Kind) (after : Hash) (whole : length (nibbles aft
           ⊎_elim
           (λ both.
           inl (
-            ap (λ l. items ++ l) both.0 ∙ ap (λ l. l ++ after_key after (n - length l) (flat_map g bs)) is ∙ sym (after_join after n (g b) (flat_map g bs)),
+            ap (λ l. items ++ l) both.0 ∙ ap (λ l. l ++ after_key after (n - length l) (flat_map g bs)) is
+                ∙ sym (after_join after n (g b) (flat_map g bs)),
             both.1,
           ))
           inr says
 
   in_turn_says : (g : ℕ → Items) (read : ℕ → Reading)
       → ((b m : ℕ) (rest : List Held) → b < 16 → AllByRecursion Among rest → Says (g b) m (read b m rest))
-      → (a count : ℕ) → a + count ≤ 16 → (n : ℕ) (used : List Held) → AllByRecursion Among used → Says (flat_map g (range_with_len a count)) n (in_turn read (range_with_len a count) n used)
+      → (a count : ℕ) → a + count ≤ 16 → (n : ℕ) (used : List Held) → AllByRecursion Among used
+      → Says (flat_map g (range_with_len a count)) n (in_turn read (range_with_len a count) n used)
   in_turn_says g read each a zero within n used among = inl (sym (take_nothing n [] refl), among)
   in_turn_says g read each a (suc count) within n used among =
-      says_then g a (range_with_len (a + 1) count) n (in_turn read (range_with_len (a + 1) count)) (read a n used) (each a n used (omega arith) among)
+      says_then g a (range_with_len (a + 1) count) n (in_turn read (range_with_len (a + 1) count)) (read a n used)
+      (each a n used (omega arith) among)
       (λ m rest among'. in_turn_says g read each (a + 1) count (omega arith) m rest among')
 
   -- what is skipped has no entry that is wanted
@@ -156,24 +169,32 @@ module _ (half : Half) (kind : Kind) (after : Hash) (whole : length (nibbles aft
       ⊎_elim (λ none. inl (sym (ap (λ m. after_key after m (items_at l p path h)) (eqb-true n 0 none)), among))
       (λ rest.
       ⊎_elim
-      (λ zero_h. ⊎_elim (λ none. inl (sym (ap (after_key after n) none ∙ take_nothing n [] refl), among)) inr (at_zero l p path h at zero_h))
-      (λ gone. inl (sym (take_nothing n _ (none_behind after path (items_at l p path h) (omega (arith, whole, level l p path h at)) gone (under l p path h at))), among))
+      (λ zero_h. ⊎_elim (λ none. inl (sym (ap (after_key after n) none ∙ take_nothing n [] refl), among)) inr
+      (at_zero l p path h at zero_h))
+      (λ gone. inl (
+        sym (take_nothing n _
+            (none_behind after path (items_at l p path h) (omega (arith, whole, level l p path h at)) gone (under l p path h at))),
+        among,
+      ))
       (or_cases (is_zero h) (is_passed after path) rest))
       (or_cases (n == 0) (is_zero h || is_passed after path) is)
 
   -- a node at its place
   node_says : (l : ℕ) (p : Option (List Hash)) (path : List ℕ) (h : Hash) (below : List Hash → Reading) (n : ℕ) (used : List Held)
       → At l p path h → is_zero h ≡ false → AllByRecursion Among used
-      → ((hashes : List Hash) (rest : List Held) → Among (inner hashes) → hash_of half (inner hashes) ≡ h → fault_of (inner hashes) p kind path ≡ None → AllByRecursion Among rest
+      → ((hashes : List Hash) (rest : List Held) → Among (inner hashes) → hash_of half (inner hashes) ≡ h
+      → fault_of (inner hashes) p kind path ≡ None → AllByRecursion Among rest
       → Says (items_at l p path h) (suc n) (below hashes (suc n) rest))
       → Says (items_at l p path h) (suc n) (said_at half kind after p path h below (suc n) used)
   node_says l p path h below n [] at some among go = tt
-  node_says l p path h below n (x ∷ rest) at some among go = by_test (same_bytes (hash_of half x) h && is_none (fault_of x p kind path)) refl
+  node_says l p path h below n (x ∷ rest) at some among go = by_test
+      (same_bytes (hash_of half x) h && is_none (fault_of x p kind path)) refl
     where
       by_node : (y : Held) → Among y → hash_of half y ≡ h → fault_of y p kind path ≡ None
           → Says (items_at l p path h) (suc n) (said_by after below y (suc n) rest)
       by_node (leaf k key bytes) first same fits =
-          ⊎_elim (λ is. inl (leaf_page after n key bytes ∙ sym (ap (after_key after (suc n)) is), among.1)) inr (at_leaf l p path h k key bytes at some first same fits)
+          ⊎_elim (λ is. inl (leaf_page after n key bytes ∙ sym (ap (after_key after (suc n)) is), among.1)) inr
+          (at_leaf l p path h k key bytes at some first same fits)
       by_node (inner hashes) first same fits = go hashes rest first same fits among.1
       by_node (header bytes) first same fits = tt
 
@@ -193,7 +214,8 @@ module _ (half : Half) (kind : Kind) (after : Hash) (whole : length (nibbles aft
 
   says_at_level : (l : ℕ) (p : Option (List Hash)) (path : List ℕ) (h : Hash) (below : List Hash → Reading) (n : ℕ) (used : List Held)
       → At l p path h → AllByRecursion Among used
-      → ((m : ℕ) (hashes : List Hash) (rest : List Held) → is_zero h ≡ false → Among (inner hashes) → hash_of half (inner hashes) ≡ h → fault_of (inner hashes) p kind path ≡ None → AllByRecursion Among rest
+      → ((m : ℕ) (hashes : List Hash) (rest : List Held) → is_zero h ≡ false → Among (inner hashes) → hash_of half (inner hashes) ≡ h
+      → fault_of (inner hashes) p kind path ≡ None → AllByRecursion Among rest
       → Says (items_at l p path h) (suc m) (below hashes (suc m) rest))
       → Says (items_at l p path h) n (if is_skipped after path h n then said [] used else said_at half kind after p path h below n used)
   says_at_level l p path h below n used at among go = by_test (is_skipped after path h n) refl
@@ -219,10 +241,12 @@ module _ (half : Half) (kind : Kind) (after : Hash) (whole : length (nibbles aft
       (λ m hashes rest nonzero first same fits among'.
       ⊎_elim
       (λ (is, kids).
-      says_same (flat_map (λ b. items_at l (Some hashes) (path ++ b ∷ []) (slice_index_or hashes b zero_hash)) branches) (items_at (suc l) p path h) (suc m) _ (sym is)
+      says_same (flat_map (λ b. items_at l (Some hashes) (path ++ b ∷ []) (slice_index_or hashes b zero_hash)) branches)
+      (items_at (suc l) p path h) (suc m) _ (sym is)
       (in_turn_says (λ b. items_at l (Some hashes) (path ++ b ∷ []) (slice_index_or hashes b zero_hash))
       (λ b. page_from half kind after l (Some hashes) (path ++ b ∷ []) (slice_index_or hashes b zero_hash))
-      (λ b k left below among''. page_says l (Some hashes) (path ++ b ∷ []) (slice_index_or hashes b zero_hash) k left (kids b below) among'')
+      (λ b k left below among''. page_says l (Some hashes) (path ++ b ∷ []) (slice_index_or hashes b zero_hash) k left
+      (kids b below) among'')
       0 16 (omega arith) (suc m) rest among'))
       (λ out. spread m _ out)
       (at_inner l p path h hashes at nonzero first same fits))

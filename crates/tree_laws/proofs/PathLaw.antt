@@ -31,7 +31,8 @@ none_under items path key under none = sym (get_in_part items path key under) �
 -- a key that lies where one leaf is has that leaf's data, or is another
 leaf_under : (items : Items) (path : List ℕ) (key own bytes : Bytes) (e : Entry) (others : List Entry) → lies_under path key ≡ true
     → part items path ≡ e ∷ others
-    → e.0 ≡ own → e.1 ≡ bytes → (others ≡ []) ⊎ (key ≡ e.0) → (if same_bytes own key then value bytes else nothing) ≡ answer_of (get_in hash_cmp items key)
+    → e.0 ≡ own → e.1 ≡ bytes → (others ≡ []) ⊎ (key ≡ e.0) → (if same_bytes own key then value bytes else nothing) ≡ answer_of
+    (get_in hash_cmp items key)
 leaf_under items path key own bytes e others under is same_own same_bytes' one = by_test (same_bytes own key) refl
   where
     found : get_in hash_cmp items key ≡ get_in hash_cmp (e ∷ others) key
@@ -53,7 +54,8 @@ leaf_under items path key own bytes e others under is same_own same_bytes' one =
         by_alone false at none differ =
             ap answer_of (sym (found ∙ lookup_tail (is_at (hash_cmp key)) e others at ∙ ap (λ l. get_in hash_cmp l key) none))
 
-module _ (half : Half) (sized : Sized half) (kind : Kind) (root key : Hash) (is_key : IsKey key) (used : List Held) (held : AreNodes half kind used) (items : Items) (are : AreItems half kind items) where
+module _ (half : Half) (sized : Sized half) (kind : Kind) (root key : Hash) (is_key : IsKey key) (used : List Held)
+    (held : AreNodes half kind used) (items : Items) (are : AreItems half kind items) where
   -- where the key leads at a depth
   abbrev at : ℕ → List ℕ
   at depth = take depth (nibbles key)
@@ -74,11 +76,13 @@ module _ (half : Half) (sized : Sized half) (kind : Kind) (root key : Hash) (is_
       → form_at half kind items (at depth) ≡ Some (form_of (leaf k own bytes))
       → (if same_bytes own key then value bytes else nothing) ≡ answer_of (get_in hash_cmp items key)
   leaf_ends depth within k own bytes is_leaf same =
-      let l : Leaf half sized kind root used held items are (at depth) own bytes = leaf_at half sized kind root used held items are (at depth) (omega (arith, length_at depth within)) k own bytes is_leaf same in
+      let l : Leaf half sized kind root used held items are (at depth) own bytes =
+      leaf_at half sized kind root used held items are (at depth) (omega (arith, length_at depth within)) k own bytes is_leaf same in
       let under : lies_under (at depth) key ≡ true = under_own depth key within is_key.size in
       leaf_under items (at depth) key own bytes l.e l.others under l.there l.key_is l.data_is
       (⊎_elim inl
-      (λ bottom. inr (under_whole (at depth) key l.e.0 bottom is_key.size l.sizes.0 under (first_passes (λ x. lies_under (at depth) x.0) items l.others l.e l.there)))
+      (λ bottom. inr (under_whole (at depth) key l.e.0 bottom is_key.size l.sizes.0 under
+      (first_passes (λ x. lies_under (at depth) x.0) items l.others l.e l.there)))
       l.alone)
 
   -- the way goes on
@@ -94,27 +98,32 @@ module _ (half : Half) (sized : Sized half) (kind : Kind) (root key : Hash) (is_
       let path : at (depth + 1) ≡ at depth ++ nibble_of key depth ∷ [] = take_more (nibbles key) depth 0 more in (
         lower,
         subst (λ p. Here half sized kind root used held items are p (slice_index_or hashes (nibble_of key depth) zero_hash)) (sym path)
-            (step half sized kind root used held items are (at depth) h hashes parent (nibble_of key depth) (below_at (nibbles key) depth is_key.path.nibbles_below more) here among is fits same),
+            (step half sized kind root used held items are (at depth) h hashes parent (nibble_of key depth)
+            (below_at (nibbles key) depth is_key.path.nibbles_below more) here among is fits same),
       )
 
   -- nothing where the branch is empty
   empty_answer : (depth : ℕ) (h : Hash) → depth ≤ 64 → On depth h → is_zero h ≡ true → Answer nothing
   empty_answer depth h within here none =
-      ⊎_elim (λ gone. inl (ap answer_of (sym (none_under items (at depth) key (under_own depth key within is_key.size) gone)))) inr (empty_at half sized kind root used held items are (at depth) h here none)
+      ⊎_elim (λ gone. inl (ap answer_of (sym (none_under items (at depth) key (under_own depth key within is_key.size) gone)))) inr
+      (empty_at half sized kind root used held items are (at depth) h here none)
 
   -- the last node answers, or a collision shows
   ends : (depth : ℕ) (h : Hash) (n : Held) (parent : Option (List Hash)) (outcome : Outcome) → depth ≤ 64 → On depth h → Contains used n
       → hash_of half n ≡ h
-      → fault_of n parent kind (at depth) ≡ None → form_at half kind items (at depth) ≡ Some (form_of n) → ends_at key depth n ≡ Some outcome → Answer outcome
+      → fault_of n parent kind (at depth) ≡ None → form_at half kind items (at depth) ≡ Some (form_of n)
+      → ends_at key depth n ≡ Some outcome → Answer outcome
   ends depth h (leaf k own bytes) parent outcome within here among is fits same says =
       let outcome_is : (if same_bytes own key then value bytes else nothing) ≡ outcome = cc in
       let kept : KeepsLeaf kind k own (at depth) = keeps_leaf kind k own bytes parent (at depth) fits in
       inl (sym outcome_is ∙ leaf_ends depth within k own bytes (held (leaf k own bytes) among kept.kinds) same)
   ends depth h (inner hashes) parent outcome within here among is fits same says =
-      let t : (is_zero (slice_index_or hashes (nibble_of key depth) zero_hash) ≡ true) × (Some nothing ≡ Some outcome) = passed _ (Some nothing) outcome says in
+      let t : (is_zero (slice_index_or hashes (nibble_of key depth) zero_hash) ≡ true) × (Some nothing ≡ Some outcome) =
+      passed _ (Some nothing) outcome says in
       let outcome_is : nothing ≡ outcome = cc (t.1) in
       let on = deeper depth h hashes parent within here among is fits same in
-      subst Answer outcome_is (empty_answer (depth + 1) (slice_index_or hashes (nibble_of key depth) zero_hash) (omega (arith, on.0)) on.1 t.0)
+      subst Answer outcome_is (empty_answer (depth + 1) (slice_index_or hashes (nibble_of key depth) zero_hash)
+      (omega (arith, on.0)) on.1 t.0)
   ends depth h (header bytes) parent outcome within here among is fits same says =
       let no : Some Rattle.ledger_spec.specs.declared.ShapeFault.TheVariants.Foreign ≡ None = fits in cc
 
@@ -135,24 +144,30 @@ module _ (half : Half) (sized : Sized half) (kind : Kind) (root key : Hash) (is_
       let t = passed (same_bytes (hash_of half n) h && is_none (fault_of n parent kind (at depth))) (ends_at key depth n) outcome says in
       let fits = here_of h n parent (at depth) t.0 in
       let first : Contains used n = among n (0, omega (arith), refl) in
-      ⊎_elim (λ same. ends depth h n parent outcome within here first fits.0 fits.1 same t.1) inr (node_at half sized kind root used held items are (at depth) h here n first fits.0)
+      ⊎_elim (λ same. ends depth h n parent outcome within here first fits.0 fits.1 same t.1) inr
+      (node_at half sized kind root used held items are (at depth) h here n first fits.0)
   from (n ∷ m ∷ rest) among depth h parent outcome within here says =
-      let go = λ (hashes : List Hash). follow_from half kind key (depth + 1) (Some hashes) (slice_index_or hashes (nibble_of key depth) zero_hash) (m ∷ rest) in
-      let t = passed (same_bytes (hash_of half n) h && is_none (fault_of n parent kind (at depth))) (option_and_then go (inner_hashes n)) outcome says in
+      let go = λ (hashes : List Hash). follow_from half kind key (depth + 1) (Some hashes)
+      (slice_index_or hashes (nibble_of key depth) zero_hash) (m ∷ rest) in
+      let t = passed (same_bytes (hash_of half n) h && is_none (fault_of n parent kind (at depth)))
+      (option_and_then go (inner_hashes n)) outcome says in
       let fits = here_of h n parent (at depth) t.0 in
       let first : Contains used n = among n (0, omega (arith), refl) in
       ⊎_elim
       (λ same. further n first fits.0 fits.1 same
       (λ hashes on said.
-      from (m ∷ rest) (λ x there. among x (suc there.0, omega (arith, there.1), there.2)) (depth + 1) (slice_index_or hashes (nibble_of key depth) zero_hash) (Some hashes) outcome (omega (arith, on.0)) on.1 said)
+      from (m ∷ rest) (λ x there. among x (suc there.0, omega (arith, there.1), there.2)) (depth + 1)
+      (slice_index_or hashes (nibble_of key depth) zero_hash) (Some hashes) outcome (omega (arith, on.0)) on.1 said)
       t.1)
       inr (node_at half sized kind root used held items are (at depth) h here n first fits.0)
     where
       further : (n : Held) → Contains used n → hash_of half n ≡ h → fault_of n parent kind (at depth) ≡ None
           → form_at half kind items (at depth) ≡ Some (form_of n)
           → ((hashes : List Hash) → (depth < 64) × On (depth + 1) (slice_index_or hashes (nibble_of key depth) zero_hash)
-          → follow_from half kind key (depth + 1) (Some hashes) (slice_index_or hashes (nibble_of key depth) zero_hash) (m ∷ rest) ≡ Some outcome → Answer outcome)
-          → option_and_then (λ hashes. follow_from half kind key (depth + 1) (Some hashes) (slice_index_or hashes (nibble_of key depth) zero_hash) (m ∷ rest)) (inner_hashes n) ≡ Some outcome → Answer outcome
+          → follow_from half kind key (depth + 1) (Some hashes) (slice_index_or hashes (nibble_of key depth) zero_hash)
+          (m ∷ rest) ≡ Some outcome → Answer outcome)
+          → option_and_then (λ hashes. follow_from half kind key (depth + 1) (Some hashes)
+          (slice_index_or hashes (nibble_of key depth) zero_hash) (m ∷ rest)) (inner_hashes n) ≡ Some outcome → Answer outcome
       further (inner hashes) first is fits same go said = go hashes (deeper depth h hashes parent within here first is fits same) said
       further (leaf k own bytes) first is fits same go said = let no : None ≡ Some outcome = said in cc
       further (header bytes) first is fits same go said = let no : None ≡ Some outcome = said in cc
@@ -169,7 +184,8 @@ module _ (half : Half) (sized : Sized half) (kind : Kind) (root key : Hash) (is_
         where
           by_zero : (t : Bool) → (if t then None else follow_from half kind key 0 None root (n ∷ rest)) ≡ Some outcome → Answer outcome
           by_zero true says' = let no : None ≡ Some outcome = says' in cc
-          by_zero false says' = from (n ∷ rest) (λ x there. subst (λ l. Contains l x) (sym e) there) 0 root None outcome (omega arith) (at_root half sized kind root used held items are is) says'
+          by_zero false says' = from (n ∷ rest) (λ x there. subst (λ l. Contains l x) (sym e) there) 0 root None outcome (omega arith)
+              (at_root half sized kind root used held items are is) says'
 
 -- the law
 pub answers_or_shows : (half : Half) → Sized half → (kind : Kind) (root key : Hash) (used : List Held) (outcome : Outcome) → IsKey key

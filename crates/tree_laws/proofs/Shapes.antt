@@ -61,7 +61,8 @@ not_is false e = cc
 pub keeps_leaf : (kind own : Kind) (key bytes : Bytes) (parent : Option (List Hash)) (path : List ℕ)
     → fault_of (leaf own key bytes) parent kind path ≡ None → KeepsLeaf kind own key path
 keeps_leaf kind own key bytes parent path e =
-    let t = leaf_tests (not (same_kind own kind)) (length path == 0) (not (lies_under path key)) (is_lone parent path) WrongKind LeafAtRoot (LeafElsewhere key) LoneLeaf e in
+    let t = leaf_tests (not (same_kind own kind)) (length path == 0) (not (lies_under path key))
+    (is_lone parent path) WrongKind LeafAtRoot (LeafElsewhere key) LoneLeaf e in
     let some : (length path ≡ 0) → ⊥ = eqb-false (length path) 0 t.1 in
     record { kinds = kinds_same own kind (not_is (same_kind own kind) t.0); below = omega arith; under = not_is (lies_under path key) t.2 }
 
@@ -121,13 +122,16 @@ pub branch_below : (half : Half) → Sized half → (kind : Kind) (items : Items
     → form_at half kind items path ≡ Some (form_of (inner hashes)) → Below half kind items path b (slice_index_or hashes b zero_hash)
 unfolding form_at
 branch_below half sized kind items path b hashes held above below is =
-    node_cases half kind items (64 - length path) path (part items path) (λ o. o ≡ Some (form_of (inner hashes)) → Below half kind items path b (slice_index_or hashes b zero_hash))
+    node_cases half kind items (64 - length path) path (part items path)
+    (λ o. o ≡ Some (form_of (inner hashes)) → Below half kind items path b (slice_index_or hashes b zero_hash))
     (λ none e. let no : None ≡ Some (form_of (inner hashes)) = e in cc)
-    (λ e others there one same. let form : leaf_form kind e.0 e.1 ≡ inner_prefix ++ concat hashes = cc in absurd (leaf_no_inner kind e.0 e.1 (concat hashes) form))
+    (λ e others there one same. let form : leaf_form kind e.0 e.1 ≡ inner_prefix ++ concat hashes =
+    cc in absurd (leaf_no_inner kind e.0 e.1 (concat hashes) form))
     (λ e others n there level many same.
     let form : inner_prefix ++ flat_map (kid_hash half kind items n path) branches ≡ inner_prefix ++ concat hashes = cc in
     let pieces : concat hashes ≡ flat_map (kid_hash half kind items n path) branches = sym (append_cancel_left inner_prefix _ _ form) in
-    let are : hashes ≡ map (kid_hash half kind items n path) branches = hashes_are (kid_hash half kind items n path) hashes (λ c. size_or_zero half sized _) held.count held.sizes pieces in
+    let are : hashes ≡ map (kid_hash half kind items n path) branches =
+    hashes_are (kid_hash half kind items n path) hashes (λ c. size_or_zero half sized _) held.count held.sizes pieces in
     let levels : 64 - length (path ++ b ∷ []) ≡ n = omega (arith, length-append path (b ∷ [])) in
     record {
       kid =
@@ -143,4 +147,5 @@ unfolding form_at
 empty_part half kind items path none =
     node_cases half kind items (64 - length path) path (part items path) (λ o. o ≡ None → part items path ≡ [])
     (λ is e. is) (λ e others there one same. let no : Some (leaf_form kind e.0 e.1) ≡ None = same in cc)
-    (λ e others n there level many same. let no : Some (inner_prefix ++ flat_map (kid_hash half kind items n path) branches) ≡ None = same in cc) none
+    (λ e others n there level many same. let no : Some (inner_prefix ++ flat_map (kid_hash half kind items n path) branches) ≡ None =
+    same in cc) none

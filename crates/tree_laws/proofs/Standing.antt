@@ -21,7 +21,8 @@ list_all_push p [] b all one = and_from (p b) true one refl
 list_all_push p (x ∷ l) b all one =
     let both = and_parts (p x) (list_all p l) all in and_from (p x) _ both.0 (list_all_push p l b both.1 one)
 
-module _ (half : Half) (sized : Sized half) (kind : Kind) (root : Hash) (used : List Held) (held : AreNodes half kind used) (items : Items) (are : AreItems half kind items) where
+module _ (half : Half) (sized : Sized half) (kind : Kind) (root : Hash) (used : List Held) (held : AreNodes half kind used)
+    (items : Items) (are : AreItems half kind items) where
   -- the hash at a path is that of the map's node, and stands there through the nodes
   pub record Here (path : List ℕ) (h : Hash) : Type 0 where
     pub is_path : IsPath path
@@ -47,7 +48,8 @@ module _ (half : Half) (sized : Sized half) (kind : Kind) (root : Hash) (used : 
   pub node_at : (path : List ℕ) (h : Hash) → Here path h → (n : Held) → Contains used n → hash_of half n ≡ h
       → (form_at half kind items path ≡ Some (form_of n)) ⊎ Shows half kind items root used
   node_at path h here n among is =
-      ⊎_elim inl (λ differ. inr (shows path h here (Some (form_of n)) (n, among, refl, is) is differ)) (same_or_not (form_at half kind items path) (form_of n))
+      ⊎_elim inl (λ differ. inr (shows path h here (Some (form_of n)) (n, among, refl, is) is differ))
+      (same_or_not (form_at half kind items path) (form_of n))
 
   -- nothing is below a zero hash, or a collision shows
   pub empty_at : (path : List ℕ) (h : Hash) → Here path h → is_zero h ≡ true → (part items path ≡ []) ⊎ Shows half kind items root used
@@ -74,14 +76,17 @@ module _ (half : Half) (sized : Sized half) (kind : Kind) (root : Hash) (used : 
       → form_at half kind items path ≡ Some (form_of (leaf k key bytes)) → Leaf path key bytes
   unfolding form_at
   leaf_at path within k key bytes is_leaf same =
-      node_cases half kind items (64 - length path) path (part items path) (λ o. o ≡ Some (form_of (leaf k key bytes)) → Leaf path key bytes)
+      node_cases half kind items (64 - length path) path (part items path)
+      (λ o. o ≡ Some (form_of (leaf k key bytes)) → Leaf path key bytes)
       (λ none e. let no : None ≡ Some (form_of (leaf k key bytes)) = e in cc)
       (λ e others there one e'.
       let form : leaf_form kind e.0 e.1 ≡ leaf_form k key bytes = cc in
       let kept : AllByRecursion (λ x. IsHeld half (leaf kind x.0 x.1)) (e ∷ others) =
-      subst (AllByRecursion (λ (x : Entry). IsHeld half (leaf kind x.0 x.1))) there (each_in_part (λ x. IsHeld half (leaf kind x.0 x.1)) _ items are.each)
+      subst (AllByRecursion (λ (x : Entry). IsHeld half (leaf kind x.0 x.1))) there
+      (each_in_part (λ x. IsHeld half (leaf kind x.0 x.1)) _ items are.each)
       in
-      let one_leaf : leaf kind e.0 e.1 ≡ leaf k key bytes = same_reading half (leaf kind e.0 e.1) (leaf k key bytes) (leaf_form kind e.0 e.1) (kept.0, refl) (is_leaf, form) in
+      let one_leaf : leaf kind e.0 e.1 ≡ leaf k key bytes = same_reading half (leaf kind e.0 e.1) (leaf k key bytes)
+      (leaf_form kind e.0 e.1) (kept.0, refl) (is_leaf, form) in
       let same_key : e.0 ≡ key = cc in
       let same_data : e.1 ≡ bytes = cc in
       record {
@@ -106,27 +111,42 @@ module _ (half : Half) (sized : Sized half) (kind : Kind) (root : Hash) (used : 
   -- the map has this inner node, so each branch stands below it
   pub step : (path : List ℕ) (h : Hash) (hashes : List Hash) (parent : Option (List Hash)) (b : ℕ) → b < 16 → Here path h
       → Contains used (inner hashes) → hash_of half (inner hashes) ≡ h
-      → fault_of (inner hashes) parent kind path ≡ None → form_at half kind items path ≡ Some (form_of (inner hashes)) → Here (path ++ b ∷ []) (slice_index_or hashes b zero_hash)
+      → fault_of (inner hashes) parent kind path ≡ None → form_at half kind items path ≡ Some (form_of (inner hashes))
+      → Here (path ++ b ∷ []) (slice_index_or hashes b zero_hash)
   step path h hashes parent b low here among is fits same =
       let up : length path < 64 = above_bottom kind hashes parent path here.is_path.short fits in
-      let below : Below half kind items path b (slice_index_or hashes b zero_hash) = branch_below half sized kind items path b hashes (held (inner hashes) among) up low same in
+      let below : Below half kind items path b (slice_index_or hashes b zero_hash) =
+      branch_below half sized kind items path b hashes (held (inner hashes) among) up low same in
       let sizes : length (path ++ b ∷ []) ≡ length path + 1 = length-append path (b ∷ []) in
       record {
-        is_path = record { short = omega (arith, sizes); nibbles_below = list_all_push (λ n. nat_lt n 16) path b here.is_path.nibbles_below (lt-ltb b 16 low) };
-        down = λ q form stands. subst (λ p. Stands half used root p form) (sym (append_assoc path (b ∷ []) q)) (here.down (b ∷ q) form (hashes, among, is, stands));
+        is_path = record {
+          short = omega (arith, sizes);
+          nibbles_below =
+              list_all_push (λ n. nat_lt n 16) path b here.is_path.nibbles_below (lt-ltb b 16 low);
+        };
+        down = λ q form stands. subst (λ p. Stands half used root p form) (sym (append_assoc path (b ∷ []) q))
+            (here.down (b ∷ q) form (hashes, among, is, stands));
         hash = below.kid;
         above = λ k some less.
             ⊎_elim
             (λ (last : k ≡ length path).
             let whole : take k (path ++ b ∷ []) ≡ path = ap (λ n. take n (path ++ b ∷ [])) last ∙ take-append_seam path (b ∷ []) in
-            λ (one : length (part items (take k (path ++ b ∷ []))) ≡ 1). below.crowded (omega arith) (ap (λ p. length (part items p)) (sym whole) ∙ one))
+            λ (one : length (part items (take k (path ++ b ∷ []))) ≡ 1). below.crowded (omega arith)
+            (ap (λ p. length (part items p)) (sym whole) ∙ one))
             (λ (other : k ≡ length path → ⊥).
             let lower : k < length path = omega (arith, sizes, less) in
             let front : take k (path ++ b ∷ []) ≡ take k path = take-append-le k path (b ∷ []) (omega arith) in
-            λ (one : length (part items (take k (path ++ b ∷ []))) ≡ 1). here.above k some lower (ap (λ p. length (part items p)) (sym front) ∙ one))
+            λ (one : length (part items (take k (path ++ b ∷ []))) ≡ 1). here.above k some lower
+            (ap (λ p. length (part items p)) (sym front) ∙ one))
             (cases_eq k (length path));
       }
 
   -- at the root
   pub at_root : root_of half kind items ≡ root → Here [] root
-  at_root is = record { is_path = record { short = omega arith; nibbles_below = refl }; down = λ q form stands. stands; hash = is; above = λ k some less. absurd (omega arith) }
+  at_root is = record {
+    is_path = record { short = omega arith; nibbles_below = refl };
+    down = λ q form stands. stands;
+    hash = is;
+    above =
+        λ k some less. absurd (omega arith);
+  }

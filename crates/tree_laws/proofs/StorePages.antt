@@ -43,7 +43,9 @@ module _ (half : Half) (nodes : Lookup) (kind : Kind) where
   by_sight p path h missing below is each = tt
   by_sight p path h (broken fault) below is each = tt
   by_sight p path h (sound (leaf k key bytes)) below is each =
-      let kept : KeepsLeaf kind k key path = keeps_leaf kind k key bytes p path (sees_sound half (λ n. fault_of n p kind path) (nodes h) (leaf k key bytes) is).fits in (kept.under, tt)
+      let kept : KeepsLeaf kind k key path = keeps_leaf kind k key bytes p path
+      (sees_sound half (λ n. fault_of n p kind path) (nodes h) (leaf k key bytes) is).fits in
+      (kept.under, tt)
   by_sight p path h (sound (inner hashes)) below is each = each hashes
   by_sight p path h (sound (header bytes)) below is each = tt
 
@@ -52,7 +54,9 @@ module _ (half : Half) (nodes : Lookup) (kind : Kind) where
   bottom_under p path h missing is = tt
   bottom_under p path h (broken fault) is = tt
   bottom_under p path h (sound (leaf k key bytes)) is =
-      let kept : KeepsLeaf kind k key path = keeps_leaf kind k key bytes p path (sees_sound half (λ n. fault_of n p kind path) (nodes h) (leaf k key bytes) is).fits in (kept.under, tt)
+      let kept : KeepsLeaf kind k key path = keeps_leaf kind k key bytes p path
+      (sees_sound half (λ n. fault_of n p kind path) (nodes h) (leaf k key bytes) is).fits in
+      (kept.under, tt)
   bottom_under p path h (sound (inner hashes)) is = tt
   bottom_under p path h (sound (header bytes)) is = tt
 
@@ -60,9 +64,11 @@ module _ (half : Half) (nodes : Lookup) (kind : Kind) where
       → Under path (entries (flat_map walked xs))
   under_join path walked each [] = tt
   under_join path walked each (b ∷ xs) =
-      subst (Under path) (sym (Rattle.std.proofs.lemmas.List.Elements.filter_map-append (λ (m : Met). item_at m.sight) (walked b) (flat_map walked xs)))
+      subst (Under path) (sym (Rattle.std.proofs.lemmas.List.Elements.filter_map-append (λ (m : Met). item_at m.sight) (walked b)
+      (flat_map walked xs)))
       (all_append _ (entries (walked b)) (entries (flat_map walked xs))
-      (all_weaker (λ (e : Entry). lies_under (path ++ b ∷ []) e.0 ≡ true) (λ e. lies_under path e.0 ≡ true) (λ e u. under_up path b e.0 u) (entries (walked b)) (each b)) (under_join path walked each xs))
+      (all_weaker (λ (e : Entry). lies_under (path ++ b ∷ []) e.0 ≡ true) (λ e. lies_under path e.0 ≡ true) (λ e u. under_up path b e.0 u)
+      (entries (walked b)) (each b)) (under_join path walked each xs))
 
   walk_under : (l : ℕ) (p : Option (List Hash)) (path : List ℕ) (h : Hash) → Under path (entries (Walked l p path h))
   unfolding walk
@@ -73,18 +79,24 @@ module _ (half : Half) (nodes : Lookup) (kind : Kind) where
       by_zero false = bottom_under p path h (seen_at p path h) refl
   walk_under (suc l) p path h =
       by_zero (is_zero h)
-      (λ hashes. under_join path (λ b. Walked l (Some hashes) (path ++ b ∷ []) (slice_index_or hashes b zero_hash)) (λ b. walk_under l (Some hashes) (path ++ b ∷ []) (slice_index_or hashes b zero_hash)) branches)
+      (λ hashes. under_join path (λ b. Walked l (Some hashes) (path ++ b ∷ []) (slice_index_or hashes b zero_hash))
+      (λ b. walk_under l (Some hashes) (path ++ b ∷ []) (slice_index_or hashes b zero_hash)) branches)
     where
-      by_zero : (t : Bool) → ((hashes : List Hash) → Under path (entries (flat_map (λ b. Walked l (Some hashes) (path ++ b ∷ []) (slice_index_or hashes b zero_hash)) branches)))
-          → Under path (entries (if t then [] else met (Node kind path) h p (seen_at p path h) ∷ branches_of (seen_at p path h) (λ hashes. flat_map (λ b. Walked l (Some hashes) (path ++ b ∷ []) (slice_index_or hashes b zero_hash)) branches)))
+      by_zero : (t : Bool) → ((hashes : List Hash) → Under path
+          (entries (flat_map (λ b. Walked l (Some hashes) (path ++ b ∷ []) (slice_index_or hashes b zero_hash)) branches)))
+          → Under path (entries
+          (if t then [] else met (Node kind path) h p (seen_at p path h) ∷ branches_of (seen_at p path h)
+          (λ hashes. flat_map (λ b. Walked l (Some hashes) (path ++ b ∷ []) (slice_index_or hashes b zero_hash)) branches)))
       by_zero true each = tt
-      by_zero false each = by_sight p path h (seen_at p path h) (λ hashes. flat_map (λ b. Walked l (Some hashes) (path ++ b ∷ []) (slice_index_or hashes b zero_hash)) branches) refl each
+      by_zero false each = by_sight p path h (seen_at p path h)
+          (λ hashes. flat_map (λ b. Walked l (Some hashes) (path ++ b ∷ []) (slice_index_or hashes b zero_hash)) branches) refl each
 
   -- a stored node that breaks no rule is seen
   sees_stored : (p : Option (List Hash)) (path : List ℕ) (h : Hash) (n : Held) → IsStoredNode half nodes n → hash_of half n ≡ h
       → fault_of n p kind path ≡ None → seen_at p path h ≡ sound n
   sees_stored p path h n stored is fits =
-      ap (λ g. seen_at p path g) (sym is) ∙ ap (sight_of half (λ m. fault_of m p kind path)) stored.stored ∙ ap (judged (λ m. fault_of m p kind path)) (sees half n (form_of n) (stored.held, refl)) ∙ ap (seen_as n) fits
+      ap (λ g. seen_at p path g) (sym is) ∙ ap (sight_of half (λ m. fault_of m p kind path)) stored.stored
+      ∙ ap (judged (λ m. fault_of m p kind path)) (sees half n (form_of n) (stored.held, refl)) ∙ ap (seen_as n) fits
 
   no_entries : (l : ℕ) (p : Option (List Hash)) (path : List ℕ) (h : Hash) → is_zero h ≡ true → entries (Walked l p path h) ≡ []
   unfolding walk
@@ -98,16 +110,20 @@ module _ (half : Half) (nodes : Lookup) (kind : Kind) where
       ap entries (cond-false (is_zero h) _ _ some) ∙ ap (λ x. entries (met (Node kind path) h p x ∷ [])) seen
   leaf_entry (suc l) p path h k key bytes some seen =
       ap entries (cond-false (is_zero h) _ _ some)
-      ∙ ap (λ x. entries (met (Node kind path) h p x ∷ branches_of x (λ hashes. flat_map (λ b. Walked l (Some hashes) (path ++ b ∷ []) (slice_index_or hashes b zero_hash)) branches))) seen
+      ∙ ap (λ x. entries (met (Node kind path) h p x ∷ branches_of x
+      (λ hashes. flat_map (λ b. Walked l (Some hashes) (path ++ b ∷ []) (slice_index_or hashes b zero_hash)) branches))) seen
 
   inner_entries : (l : ℕ) (p : Option (List Hash)) (path : List ℕ) (h : Hash) (hashes : List Hash) → is_zero h ≡ false
       → seen_at p path h ≡ sound (inner hashes)
-      → entries (Walked (suc l) p path h) ≡ flat_map (λ b. entries (Walked l (Some hashes) (path ++ b ∷ []) (slice_index_or hashes b zero_hash))) branches
+      → entries (Walked (suc l) p path h) ≡ flat_map
+      (λ b. entries (Walked l (Some hashes) (path ++ b ∷ []) (slice_index_or hashes b zero_hash))) branches
   unfolding walk
   inner_entries l p path h hashes some seen =
       ap entries (cond-false (is_zero h) _ _ some)
-      ∙ ap (λ x. entries (met (Node kind path) h p x ∷ branches_of x (λ hs. flat_map (λ b. Walked l (Some hs) (path ++ b ∷ []) (slice_index_or hs b zero_hash)) branches))) seen
-      ∙ found_join (λ (m : Met). item_at m.sight) (λ b. Walked l (Some hashes) (path ++ b ∷ []) (slice_index_or hashes b zero_hash)) branches
+      ∙ ap (λ x. entries (met (Node kind path) h p x ∷ branches_of x
+      (λ hs. flat_map (λ b. Walked l (Some hs) (path ++ b ∷ []) (slice_index_or hs b zero_hash)) branches))) seen
+      ∙ found_join (λ (m : Met). item_at m.sight) (λ b. Walked l (Some hashes) (path ++ b ∷ []) (slice_index_or hashes b zero_hash))
+      branches
 
   abbrev At : ℕ → Option (List Hash) → List ℕ → Hash → Type 0
   At l p path h = l + length path ≡ 64
@@ -118,7 +134,8 @@ module _ (half : Half) (nodes : Lookup) (kind : Kind) where
   unfolding heard_from walk_map
   page_of_store root after is_key n used page stored says =
       by_said (page_from half kind after 64 None [] root n used) says
-      (page_says half kind after (omega (arith, length-nibbles after, is_key.size)) (IsStoredNode half nodes) ⊥ At (λ l p path h. entries (Walked l p path h)) (λ l p path h at. at) (λ l p path h at. walk_under l p path h)
+      (page_says half kind after (omega (arith, length-nibbles after, is_key.size)) (IsStoredNode half nodes) ⊥ At
+      (λ l p path h. entries (Walked l p path h)) (λ l p path h at. at) (λ l p path h at. walk_under l p path h)
       (λ l p path h at none. inl (no_entries l p path h none)) at_leaf at_inner 64 None [] root n used refl stored)
     where
       at_leaf : (l : ℕ) (p : Option (List Hash)) (path : List ℕ) (h : Hash) (k : Kind) (key bytes : Bytes) → At l p path h
@@ -130,12 +147,19 @@ module _ (half : Half) (nodes : Lookup) (kind : Kind) where
       at_inner : (l : ℕ) (p : Option (List Hash)) (path : List ℕ) (h : Hash) (hashes : List Hash) → At (suc l) p path h → is_zero h ≡ false
           → IsStoredNode half nodes (inner hashes) → hash_of half (inner hashes) ≡ h
           → fault_of (inner hashes) p kind path ≡ None
-          → ((entries (Walked (suc l) p path h) ≡ flat_map (λ b. entries (Walked l (Some hashes) (path ++ b ∷ []) (slice_index_or hashes b zero_hash))) branches)
+          → ((entries (Walked (suc l) p path h) ≡ flat_map
+          (λ b. entries (Walked l (Some hashes) (path ++ b ∷ []) (slice_index_or hashes b zero_hash))) branches)
           × ((b : ℕ) → b < 16 → At l (Some hashes) (path ++ b ∷ []) (slice_index_or hashes b zero_hash))) ⊎ ⊥
-      at_inner l p path h hashes at some first is fits = inl (inner_entries l p path h hashes some (sees_stored p path h (inner hashes) first is fits), λ b low. omega (arith, at, length-append path (b ∷ [])))
+      at_inner l p path h hashes at some first is fits =
+          inl (
+            inner_entries l p path h hashes some (sees_stored p path h (inner hashes) first is fits),
+            λ b low. omega
+                (arith, at, length-append path (b ∷ [])),
+          )
 
       by_said : (o : Heard) → o ≡ said page []
-          → Says half kind after (omega (arith, length-nibbles after, is_key.size)) (IsStoredNode half nodes) ⊥ At (λ l p path h. entries (Walked l p path h)) (λ l p path h at. at) (λ l p path h at. walk_under l p path h)
+          → Says half kind after (omega (arith, length-nibbles after, is_key.size)) (IsStoredNode half nodes) ⊥ At
+          (λ l p path h. entries (Walked l p path h)) (λ l p path h at. at) (λ l p path h at. walk_under l p path h)
           (λ l p path h at none. inl (no_entries l p path h none)) at_leaf at_inner (entries (Walked 64 None [] root)) n o
           → page ≡ after_key after n (entries (Walked 64 None [] root))
       by_said (wants p path h) e says' = let no : wants p path h ≡ said page [] = e in cc

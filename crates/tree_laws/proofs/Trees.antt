@@ -57,7 +57,8 @@ under_whole path a b whole size_a size_b under_a under_b =
 pub get_in_part : (items : Items) (path key : List ℕ) → lies_under path key ≡ true
     → get_in hash_cmp (part items path) key ≡ get_in hash_cmp items key
 get_in_part items path key under =
-    lookup-filter-keys (is_at (hash_cmp key)) (lies_under path) true (λ k e. subst (λ q. lies_under path q ≡ true) (same_key key k e) under) items
+    lookup-filter-keys (is_at (hash_cmp key)) (lies_under path) true
+    (λ k e. subst (λ q. lies_under path q ≡ true) (same_key key k e) under) items
 
 -- what is true of each entry is true of what lies under a path
 pub each_in_part : (P : Entry → Type 0) (test : Entry → Bool) (items : Items) → AllByRecursion P items
@@ -71,7 +72,8 @@ each_in_part P test (e ∷ items) all = kept (test e) (filter test items) (each_
 
 -- each entry that is kept passes
 pub first_passes : (test : Entry → Bool) (items others : List Entry) (e : Entry) → filter test items ≡ e ∷ others → test e ≡ true
-first_passes test items others e is = All-head (λ x. test x ≡ true) e others (subst (λ l. (k : ℕ) (d : Entry) → k < length l → test (slice_index_or l k d) ≡ true) is (filter_passes test items))
+first_passes test items others e is = All-head (λ x. test x ≡ true) e others
+    (subst (λ l. (k : ℕ) (d : Entry) → k < length l → test (slice_index_or l k d) ≡ true) is (filter_passes test items))
 
 -- no other entry below the root
 pub alone_nil : (path : List ℕ) (others : List Entry) → is_alone path others ≡ true → others ≡ []
@@ -92,7 +94,8 @@ kid_hash half kind items left path b = hash_or_zero half (form_of_part half kind
 pub node_cases : (half : Half) (kind : Kind) (items : Items) (left : ℕ) (path : List ℕ) (there : List Entry) (P : Option Bytes → Type 0)
     → (there ≡ [] → P None)
     → ((e : Entry) (others : List Entry) → there ≡ e ∷ others → (others ≡ []) ⊎ (left ≡ 0) → P (Some (leaf_form kind e.0 e.1)))
-    → ((e : Entry) (others : List Entry) (n : ℕ) → there ≡ e ∷ others → left ≡ suc n → is_alone path others ≡ false → P (Some (inner_prefix ++ flat_map (kid_hash half kind items n path) branches)))
+    → ((e : Entry) (others : List Entry) (n : ℕ) → there ≡ e ∷ others → left ≡ suc n → is_alone path others ≡ false
+    → P (Some (inner_prefix ++ flat_map (kid_hash half kind items n path) branches)))
     → P (form_of_part half kind items left path there)
 unfolding form_of_part
 node_cases half kind items left path [] P nothing at_leaf at_inner = nothing refl

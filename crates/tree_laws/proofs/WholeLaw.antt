@@ -41,7 +41,8 @@ pub clean_each : {A B F : Type 0} (find : B → Option F) (f : A → List B) (xs
     → AllByRecursion (λ x. filter_map find (f x) ≡ []) xs
 clean_each find f [] clean = tt
 clean_each find f (x ∷ xs) clean =
-    let both : (filter_map find (f x) ≡ []) × (filter_map find (flat_map f xs) ≡ []) = both_nil _ _ (sym (filter_map-append find (f x) (flat_map f xs)) ∙ clean) in
+    let both : (filter_map find (f x) ≡ []) × (filter_map find (flat_map f xs) ≡ []) =
+    both_nil _ _ (sym (filter_map-append find (f x) (flat_map f xs)) ∙ clean) in
     (both.0, clean_each find f xs both.1)
 
 pub found_join : {A B F : Type 0} (find : B → Option F) (f : A → List B) (xs : List A)
@@ -65,24 +66,29 @@ size_at (h ∷ hashes) (suc b) sizes = size_at hashes b (and_parts (length h == 
 -- sixteen hashes are those at the branches
 pub hashes_at_branches : (hashes : List Hash) → length hashes ≡ 16 → hashes ≡ map (λ b. slice_index_or hashes b zero_hash) branches
 hashes_at_branches hashes count =
-    same_lists hashes (map (λ b. slice_index_or hashes b zero_hash) branches) (count ∙ sym (length-map branches (λ b. slice_index_or hashes b zero_hash) ∙ length-range_with_len 0 16))
+    same_lists hashes (map (λ b. slice_index_or hashes b zero_hash) branches)
+    (count ∙ sym (length-map branches (λ b. slice_index_or hashes b zero_hash) ∙ length-range_with_len 0 16))
     (λ k d below.
     let same : get_or hashes k d ≡ get_or hashes k zero_hash = Rattle.std.proofs.lemmas.List.get_or_default hashes k d zero_hash below in
     same ∙ sym (get_or-map-range_with_len (λ b. slice_index_or hashes b zero_hash) 0 16 k k d (omega arith) (omega arith)))
 
 -- the entries of the maps under the branches that lie under one of them
-module _ (path : List ℕ) (b : ℕ) (g : ℕ → Items) (under : (c : ℕ) → AllByRecursion (λ (e : Entry). lies_under (path ++ c ∷ []) e.0 ≡ true) (g c)) where
+module _ (path : List ℕ) (b : ℕ) (g : ℕ → Items)
+    (under : (c : ℕ) → AllByRecursion (λ (e : Entry). lies_under (path ++ c ∷ []) e.0 ≡ true) (g c)) where
   abbrev under_b : Entry → Bool
   under_b e = lies_under (path ++ b ∷ []) e.0
 
   others_skipped : (c : ℕ) → (c ≡ b → ⊥) → filter under_b (g c) ≡ []
-  others_skipped c differ = filter_none under_b (g c) (all_weaker (λ (e : Entry). lies_under (path ++ c ∷ []) e.0 ≡ true) (λ e. under_b e ≡ false) (λ e u. under_other path c b e.0 differ u) (g c) (under c))
+  others_skipped c differ = filter_none under_b (g c)
+      (all_weaker (λ (e : Entry). lies_under (path ++ c ∷ []) e.0 ≡ true) (λ e. under_b e ≡ false)
+      (λ e u. under_other path c b e.0 differ u) (g c) (under c))
 
   skip_range : (a n : ℕ) → (b < a) ⊎ (a + n ≤ b) → filter under_b (flat_map g (range_with_len a n)) ≡ []
   skip_range a zero away = refl
   skip_range a (suc n) away =
       let differ : a ≡ b → ⊥ = λ e. ⊎_elim (λ l. omega arith) (λ l. omega arith) away in
-      filter-append under_b (g a) (flat_map g (range_with_len (a + 1) n)) ∙ ap (λ l. l ++ filter under_b (flat_map g (range_with_len (a + 1) n))) (others_skipped a differ)
+      filter-append under_b (g a) (flat_map g (range_with_len (a + 1) n))
+      ∙ ap (λ l. l ++ filter under_b (flat_map g (range_with_len (a + 1) n))) (others_skipped a differ)
       ∙ skip_range (a + 1) n (⊎_elim (λ l. inl (omega arith)) (λ l. inr (omega arith)) away)
 
   pick_range : (a n : ℕ) → a ≤ b → b < a + n → filter under_b (flat_map g (range_with_len a n)) ≡ g b
@@ -91,13 +97,16 @@ module _ (path : List ℕ) (b : ℕ) (g : ℕ → Items) (under : (c : ℕ) → 
       filter-append under_b (g a) (flat_map g (range_with_len (a + 1) n))
       ∙ ⊎_elim
       (λ (same : a ≡ b).
-      ap (λ l. filter under_b (g a) ++ l) (skip_range (a + 1) n (inl (omega arith))) ∙ append-nil (filter under_b (g a)) ∙ ap (λ c. filter under_b (g c)) same ∙ filter_all under_b (g b) (under b))
+      ap (λ l. filter under_b (g a) ++ l) (skip_range (a + 1) n (inl (omega arith))) ∙ append-nil (filter under_b (g a))
+      ∙ ap (λ c. filter under_b (g c)) same ∙ filter_all under_b (g b) (under b))
       (λ (differ : a ≡ b → ⊥).
-      ap (λ l. l ++ filter under_b (flat_map g (range_with_len (a + 1) n))) (others_skipped a differ) ∙ pick_range (a + 1) n (omega arith) (omega arith))
+      ap (λ l. l ++ filter under_b (flat_map g (range_with_len (a + 1) n))) (others_skipped a differ)
+      ∙ pick_range (a + 1) n (omega arith) (omega arith))
       (cases_eq a b)
 
   pub pick : (16 ≤ b → g b ≡ []) → filter under_b (flat_map g branches) ≡ g b
-  pick past = ⊎_elim (λ (below : b < 16). pick_range 0 16 (omega arith) (omega arith)) (λ (above : 16 ≤ b). skip_range 0 16 (inr (omega arith)) ∙ sym (past above)) (Rattle.std.proofs.lemmas.Bool.cases_lt b 16)
+  pick past = ⊎_elim (λ (below : b < 16). pick_range 0 16 (omega arith) (omega arith))
+      (λ (above : 16 ≤ b). skip_range 0 16 (inr (omega arith)) ∙ sym (past above)) (Rattle.std.proofs.lemmas.Bool.cases_lt b 16)
 
 -- each branch that isn't empty has some entries
 pub enough_below : (k : ℕ) (hash : ℕ → Hash) (g : ℕ → Items) → ((b : ℕ) → is_zero (hash b) ≡ false → k ≤ length (g b)) → (xs : List ℕ)
@@ -106,11 +115,13 @@ enough_below k hash g each [] = omega arith
 enough_below k hash g each (x ∷ xs) = by_test (is_zero (hash x)) refl (enough_below k hash g each xs)
   where
     by_test : (t : Bool) → is_zero (hash x) ≡ t → k * length (filter is_nonzero (map hash xs)) ≤ length (flat_map g xs)
-        → k * length (cond (not t) (hash x ∷ filter is_nonzero (map hash xs)) (filter is_nonzero (map hash xs))) ≤ length (g x ++ flat_map g xs)
+        → k * length (cond (not t) (hash x ∷ filter is_nonzero (map hash xs)) (filter is_nonzero (map hash xs))) ≤ length
+        (g x ++ flat_map g xs)
     by_test true is rest = omega (arith, length-append (g x) (flat_map g xs), rest)
     by_test false is rest =
         let more : k ≤ length (g x) = each x is in
-        let times : k * suc (length (filter is_nonzero (map hash xs))) ≡ k + k * length (filter is_nonzero (map hash xs)) = Rattle.std.proofs.Common.mul-suc k (length (filter is_nonzero (map hash xs))) ∙ Rattle.std.proofs.Common.add_comm _ _ in
+        let times : k * suc (length (filter is_nonzero (map hash xs))) ≡ k + k * length (filter is_nonzero (map hash xs)) =
+        Rattle.std.proofs.Common.mul-suc k (length (filter is_nonzero (map hash xs))) ∙ Rattle.std.proofs.Common.add_comm _ _ in
         omega (arith, length-append (g x) (flat_map g xs), rest, more, times)
 
 -- how many entries a place has at least that isn't empty: two where a leaf would stand alone
@@ -133,8 +144,11 @@ five_tests false false false false w r e l h = refl
 pub not_lone : (kind own : Kind) (key bytes : Bytes) (parent : Option (List Hash)) (path : List ℕ)
     → fault_of (leaf own key bytes) parent kind path ≡ None → is_lone parent path ≡ false
 not_lone kind own key bytes parent path e =
-    five_tests (not (Rattle.ledger_spec.specs.Rules.same_kind own kind)) (length path == 0) (not (lies_under path key)) (is_lone parent path) Rattle.ledger_spec.specs.declared.ShapeFault.TheVariants.WrongKind
-    Rattle.ledger_spec.specs.declared.ShapeFault.TheVariants.LeafAtRoot (Rattle.ledger_spec.specs.declared.ShapeFault.TheVariants.LeafElsewhere key) Rattle.ledger_spec.specs.declared.ShapeFault.TheVariants.LoneLeaf e
+    five_tests (not (Rattle.ledger_spec.specs.Rules.same_kind own kind)) (length path == 0) (not (lies_under path key))
+    (is_lone parent path) Rattle.ledger_spec.specs.declared.ShapeFault.TheVariants.WrongKind
+    Rattle.ledger_spec.specs.declared.ShapeFault.TheVariants.LeafAtRoot
+    (Rattle.ledger_spec.specs.declared.ShapeFault.TheVariants.LeafElsewhere key)
+    Rattle.ledger_spec.specs.declared.ShapeFault.TheVariants.LoneLeaf e
 
 -- some hash that isn't zero is counted
 some_counted : (hashes : List Hash) → IsTrue (list_any is_nonzero hashes) → 1 ≤ length (filter is_nonzero hashes)
@@ -152,7 +166,8 @@ two_at_least : (k count size : ℕ) → 1 ≤ count → (count ≡ 1 → k ≡ 2
 two_at_least k count size some alone one fits =
     ⊎_elim
     (λ (e : count ≡ 1). let two : k ≡ 2 = alone e in let twice : k * count ≡ 2 = ap (λ m. m * count) two ∙ ap (λ m. 2 * m) e in omega arith)
-    (λ (other : count ≡ 1 → ⊥). let enough : 2 ≤ count = omega arith in let times : 1 * count ≤ k * count = Rattle.std.proofs.Common.mul-le-mul_right count one in omega arith)
+    (λ (other : count ≡ 1 → ⊥). let enough : 2 ≤ count = omega arith in let times : 1 * count ≤ k * count =
+    Rattle.std.proofs.Common.mul-le-mul_right count one in omega arith)
     (cases_eq count 1)
 
 one_at_least : (k count size : ℕ) → 1 ≤ count → 1 ≤ k → k * count ≤ size → 1 ≤ size
@@ -177,7 +192,8 @@ inner_form half kind all left [] (e ∷ others) some many = refl
 inner_form half kind all left (n ∷ path) (e ∷ []) some many = absurd (omega (arith, many (omega arith)))
 inner_form half kind all left (n ∷ path) (e ∷ f ∷ others) some many = refl
 
-module _ (half : Half) (sized : Sized half) (nodes : Lookup) (own : (h : Hash) (form : Bytes) → nodes h ≡ Some form → half form ≡ h) (kind : Kind) where
+module _ (half : Half) (sized : Sized half) (nodes : Lookup) (own : (h : Hash) (form : Bytes) → nodes h ≡ Some form → half form ≡ h)
+    (kind : Kind) where
   -- the entries that a walk meets
   abbrev entries : List Met → Items
   entries walked = filter_map (λ m. item_at m.sight) walked
@@ -213,7 +229,8 @@ module _ (half : Half) (sized : Sized half) (nodes : Lookup) (own : (h : Hash) (
     rising = no_rise;
     each = tt;
     under = tt;
-    root = λ all is. ap (λ p. hash_or_zero half (form_of_part half kind all left path p)) is ∙ ap (hash_or_zero half) (empty_form all left path) ∙ sym (zero_is h size none);
+    root = λ all is. ap (λ p. hash_or_zero half (form_of_part half kind all left path p)) is
+        ∙ ap (hash_or_zero half) (empty_form all left path) ∙ sym (zero_is h size none);
     enough = λ some. absurd (false≢true (sym some ∙ none));
   }
 
@@ -230,7 +247,8 @@ module _ (half : Half) (sized : Sized half) (nodes : Lookup) (own : (h : Hash) (
         each = (subst (λ q. IsHeld half (leaf q key bytes)) kept.kinds is.0, tt);
         under = (kept.under, tt);
         root = λ all there.
-            ap (λ p. hash_or_zero half (form_of_part half kind all left path p)) there ∙ ap (hash_or_zero half) (single_form half kind all left path (key, bytes) kept.below)
+            ap (λ p. hash_or_zero half (form_of_part half kind all left path p)) there
+            ∙ ap (hash_or_zero half) (single_form half kind all left path (key, bytes) kept.below)
             ∙ ap half (sym form) ∙ own h sees.form sees.stored;
         enough = λ some.
             let single : weight parent path ≡ 1 = ap (λ (t : Bool). if t then 2 else 1) (not_lone kind k key bytes parent path sees.fits) in
@@ -246,7 +264,9 @@ module _ (half : Half) (sized : Sized half) (nodes : Lookup) (own : (h : Hash) (
 
   kid_weight_alone : (hashes : List Hash) (path : List ℕ) → 0 < length path → count_by is_nonzero hashes ≡ 1 → least hashes path ≡ 2
   kid_weight_alone hashes path below alone =
-      cond-true (nat_le 2 (length path + 1) && (count_by is_nonzero hashes == 1)) 2 1 (and_from (nat_le 2 (length path + 1)) (count_by is_nonzero hashes == 1) (le-leb 2 (length path + 1) (omega arith)) (eq-eqb (count_by is_nonzero hashes) 1 alone))
+      cond-true (nat_le 2 (length path + 1) && (count_by is_nonzero hashes == 1)) 2 1
+      (and_from (nat_le 2 (length path + 1)) (count_by is_nonzero hashes == 1) (le-leb 2 (length path + 1) (omega arith))
+      (eq-eqb (count_by is_nonzero hashes) 1 alone))
 
   weight_some : (t : Bool) → 1 ≤ (if t then 2 else 1)
   weight_some true = omega arith
@@ -255,7 +275,8 @@ module _ (half : Half) (sized : Sized half) (nodes : Lookup) (own : (h : Hash) (
   -- an inner node with what is below it
   made_inner : (left : ℕ) (parent : Option (List Hash)) (path : List ℕ) (h : Hash) (hashes : List Hash)
       → Sees half (λ n. fault_of n parent kind path) (nodes h) (inner hashes)
-      → (g : ℕ → Items) → ((b : ℕ) → Made left (Some hashes) (path ++ b ∷ []) (slice_index_or hashes b zero_hash) (g b)) → ((b : ℕ) → 16 ≤ b → g b ≡ [])
+      → (g : ℕ → Items) → ((b : ℕ) → Made left (Some hashes) (path ++ b ∷ []) (slice_index_or hashes b zero_hash) (g b))
+      → ((b : ℕ) → 16 ≤ b → g b ≡ [])
       → Made (suc left) parent path h (flat_map g branches)
   made_inner left parent path h hashes sees g kids past =
       let is : Form half (inner hashes) sees.form = holds half sized (inner hashes) sees.form sees.holds in
@@ -265,17 +286,23 @@ module _ (half : Half) (sized : Sized half) (nodes : Lookup) (own : (h : Hash) (
       let all_of : k * length (filter is_nonzero (map hash branches)) ≤ length (flat_map g branches) =
       enough_below k hash g (λ b some. subst (λ n. n ≤ length (g b)) (kid_weight hashes path b) ((kids b).enough some)) branches
       in
-      let counted : length (filter is_nonzero (map hash branches)) ≡ count_by is_nonzero hashes = ap (λ l. length (filter is_nonzero l)) (sym at) ∙ length-filter is_nonzero hashes in
+      let counted : length (filter is_nonzero (map hash branches)) ≡ count_by is_nonzero hashes =
+      ap (λ l. length (filter is_nonzero l)) (sym at) ∙ length-filter is_nonzero hashes in
       let some : 1 ≤ count_by is_nonzero hashes = subst (λ n. 1 ≤ n) (length-filter is_nonzero hashes) (some_counted hashes is.0.some) in
-      let fits : k * count_by is_nonzero hashes ≤ length (flat_map g branches) = subst (λ n. k * n ≤ length (flat_map g branches)) counted all_of in
-      let one : 1 ≤ length (flat_map g branches) = one_at_least k (count_by is_nonzero hashes) (length (flat_map g branches)) some (weight_some _) fits in
+      let fits : k * count_by is_nonzero hashes ≤ length (flat_map g branches) =
+      subst (λ n. k * n ≤ length (flat_map g branches)) counted all_of in
+      let one : 1 ≤ length (flat_map g branches) = one_at_least k (count_by is_nonzero hashes) (length (flat_map g branches)) some
+      (weight_some _) fits in
       let many : 0 < length path → 2 ≤ length (flat_map g branches) = λ below.
-      two_at_least k (count_by is_nonzero hashes) (length (flat_map g branches)) some (kid_weight_alone hashes path below) (weight_some _) fits
+      two_at_least k (count_by is_nonzero hashes) (length (flat_map g branches)) some (kid_weight_alone hashes path below)
+      (weight_some _) fits
       in
       record {
         rising = map_branches path g (λ b. (kids b).rising) (λ b. (kids b).under) 0 16;
         each = join_all (λ e. IsHeld half (leaf kind e.0 e.1)) (λ b. (kids b).each) branches;
-        under = join_all (λ e. lies_under path e.0 ≡ true) (λ b. all_weaker (λ (e : Entry). lies_under (path ++ b ∷ []) e.0 ≡ true) (λ e. lies_under path e.0 ≡ true) (λ e u. under_up path b e.0 u) (g b) ((kids b).under)) branches;
+        under = join_all (λ e. lies_under path e.0 ≡ true)
+            (λ b. all_weaker (λ (e : Entry). lies_under (path ++ b ∷ []) e.0 ≡ true) (λ e. lies_under path e.0 ≡ true)
+            (λ e u. under_up path b e.0 u) (g b) ((kids b).under)) branches;
         root = λ all there.
             let each_kid : (b : ℕ) → kid_hash half kind all left path b ≡ hash b = λ b.
             (kids b).root all
@@ -285,7 +312,8 @@ module _ (half : Half) (sized : Sized half) (nodes : Lookup) (own : (h : Hash) (
             let pieces : flat_map (kid_hash half kind all left path) branches ≡ concat hashes =
             ap (λ (f : ℕ → Hash). flat_map f branches) (λ i b. each_kid b i) ∙ sym (concat_map hash branches) ∙ ap concat (sym at)
             in
-            ap (λ p. hash_or_zero half (form_of_part half kind all (suc left) path p)) there ∙ ap (hash_or_zero half) (inner_form half kind all left path (flat_map g branches) one many)
+            ap (λ p. hash_or_zero half (form_of_part half kind all (suc left) path p)) there
+            ∙ ap (hash_or_zero half) (inner_form half kind all left path (flat_map g branches) one many)
             ∙ ap (λ p. half (inner_prefix ++ p)) pieces ∙ ap half (sym is.1) ∙ own h sees.form sees.stored;
         enough = λ nonzero. enough_here (flat_map g branches) one many;
       }
@@ -303,7 +331,10 @@ module _ (half : Half) (sized : Sized half) (nodes : Lookup) (own : (h : Hash) (
             where
               by_test : (t : Bool) → (nat_le 2 (length path) && (count_by is_nonzero above == 1)) ≡ t → (if t then 2 else 1) ≤ length items
               by_test false is = one
-              by_test true is = let deep : 2 ≤ length path = leb-true 2 (length path) (and_parts (nat_le 2 (length path)) (count_by is_nonzero above == 1) is).0 in many (omega arith)
+              by_test true is =
+                  let deep : 2 ≤ length path = leb-true 2 (length path)
+                  (and_parts (nat_le 2 (length path)) (count_by is_nonzero above == 1) is).0 in
+                  many (omega arith)
 
   -- nothing is found in what is walked
   abbrev Clean : List Met → Type 0
@@ -312,8 +343,10 @@ module _ (half : Half) (sized : Sized half) (nodes : Lookup) (own : (h : Hash) (
   -- what is seen at a place, where nothing is found, and what is below it
   by_sight : (left : ℕ) (parent : Option (List Hash)) (path : List ℕ) (h : Hash) (x : Sight) (below : List Hash → List Met)
       → seen_at parent path h ≡ x → is_zero h ≡ false
-      → ((hashes : List Hash) → Sees half (λ n. fault_of n parent kind path) (nodes h) (inner hashes) → Clean (below hashes) → Made left parent path h (entries (below hashes)))
-      → Clean (met (Node kind path) h parent x ∷ branches_of x below) → Made left parent path h (entries (met (Node kind path) h parent x ∷ branches_of x below))
+      → ((hashes : List Hash) → Sees half (λ n. fault_of n parent kind path) (nodes h) (inner hashes) → Clean (below hashes)
+      → Made left parent path h (entries (below hashes)))
+      → Clean (met (Node kind path) h parent x ∷ branches_of x below)
+      → Made left parent path h (entries (met (Node kind path) h parent x ∷ branches_of x below))
   by_sight left parent path h missing below is some go clean = absurd (no_cons clean)
   by_sight left parent path h (broken fault) below is some go clean = absurd (no_cons clean)
   by_sight left parent path h (sound (leaf k key bytes)) below is some go clean =
@@ -332,7 +365,8 @@ module _ (half : Half) (sized : Sized half) (nodes : Lookup) (own : (h : Hash) (
   bottom parent path h (sound (leaf k key bytes)) deep is some clean =
       made_leaf 0 parent path h k key bytes (sees_sound half _ (nodes h) (leaf k key bytes) is)
   bottom parent path h (sound (inner hashes)) deep is some clean =
-      let above : length path < 64 = above_bottom kind hashes parent path (omega arith) (sees_sound half (λ n. fault_of n parent kind path) (nodes h) (inner hashes) is).fits in
+      let above : length path < 64 = above_bottom kind hashes parent path (omega arith)
+      (sees_sound half (λ n. fault_of n parent kind path) (nodes h) (inner hashes) is).fits in
       absurd (omega arith)
   bottom parent path h (sound (header bytes)) deep is some clean =
       let foreign : Some Foreign ≡ None = (sees_sound half (λ n. fault_of n parent kind path) (nodes h) (header bytes) is).fits in cc
@@ -361,7 +395,8 @@ module _ (half : Half) (sized : Sized half) (nodes : Lookup) (own : (h : Hash) (
   kid_clean : (left : ℕ) (path : List ℕ) (hashes : List Hash) → length hashes ≡ 16 → Clean (below left path hashes) → (b : ℕ)
       → Clean (kid left path hashes b)
   kid_clean left path hashes count clean b =
-      ⊎_elim (λ (low : b < 16). at_branch (λ c. Clean (kid left path hashes c)) (clean_each found (kid left path hashes) branches clean) b low)
+      ⊎_elim (λ (low : b < 16). at_branch (λ c. Clean (kid left path hashes c))
+      (clean_each found (kid left path hashes) branches clean) b low)
       (λ (past : 16 ≤ b). ap (filter_map found) (past_end left path hashes b count past))
       (Rattle.std.proofs.lemmas.Bool.cases_lt b 16)
 
@@ -376,7 +411,8 @@ module _ (half : Half) (sized : Sized half) (nodes : Lookup) (own : (h : Hash) (
   made_below left parent path h each hashes sees clean =
       let is : Form half (inner hashes) sees.form = holds half sized (inner hashes) sees.form sees.holds in
       subst (Made (suc left) parent path h) (sym (found_join (λ (m : Met). item_at m.sight) (kid left path hashes) branches))
-      (made_inner left parent path h hashes sees (λ b. entries (kid left path hashes b)) (λ b. each hashes b is.0.sizes (kid_clean left path hashes is.0.count clean b))
+      (made_inner left parent path h hashes sees (λ b. entries (kid left path hashes b))
+      (λ b. each hashes b is.0.sizes (kid_clean left path hashes is.0.count clean b))
       (λ b past. ap entries (past_end left path hashes b is.0.count past)))
 
   -- the walk below a place where nothing is found
@@ -391,12 +427,16 @@ module _ (half : Half) (sized : Sized half) (nodes : Lookup) (own : (h : Hash) (
       by_zero false is clean = bottom parent path h (seen_at parent path h) (omega arith) refl is clean
   made (suc left) parent path h level size clean =
       by_zero (is_zero h) refl
-      (λ hashes b sizes clean_b. made left (Some hashes) (path ++ b ∷ []) (slice_index_or hashes b zero_hash) (omega (arith, length-append path (b ∷ []))) (size_at hashes b sizes) clean_b)
+      (λ hashes b sizes clean_b. made left (Some hashes) (path ++ b ∷ []) (slice_index_or hashes b zero_hash)
+      (omega (arith, length-append path (b ∷ []))) (size_at hashes b sizes) clean_b)
       clean
     where
       by_zero : (t : Bool) → is_zero h ≡ t → EachMade left path
-          → Clean (if t then [] else met (Node kind path) h parent (seen_at parent path h) ∷ branches_of (seen_at parent path h) (below left path))
-          → Made (suc left) parent path h (entries (if t then [] else met (Node kind path) h parent (seen_at parent path h) ∷ branches_of (seen_at parent path h) (below left path)))
+          → Clean (if t then [] else met (Node kind path) h parent (seen_at parent path h) ∷ branches_of (seen_at parent path h)
+          (below left path))
+          → Made (suc left) parent path h
+          (entries (if t then [] else met (Node kind path) h parent (seen_at parent path h) ∷ branches_of (seen_at parent path h)
+          (below left path)))
       by_zero true is each clean = made_zero (suc left) parent path h size is
       by_zero false is each clean =
           by_sight (suc left) parent path h (seen_at parent path h) (below left path) refl is (made_below left parent path h each) clean
@@ -410,7 +450,8 @@ map_commits half is_half nodes own forms kind root size whole =
     let is : Made half sized nodes (λ h form e. sym (own h form e)) kind 64 None [] root (items_of half nodes kind root) =
     made half sized nodes (λ h form e. sym (own h form e)) kind 64 None [] root refl size whole
     in
-    let all : part (items_of half nodes kind root) [] ≡ items_of half nodes kind root = filter_all (λ (e : Entry). lies_under [] e.0) (items_of half nodes kind root) is.under in
+    let all : part (items_of half nodes kind root) [] ≡ items_of half nodes kind root =
+    filter_all (λ (e : Entry). lies_under [] e.0) (items_of half nodes kind root) is.under in
     record {
       are = record { rising = is.rising; each = is.each; bytes = byte_items half sized nodes forms kind is_half.bytes root };
       root_is = is.root (items_of half nodes kind root) all;
@@ -435,10 +476,13 @@ ledger_commits half is_half nodes own forms target bytes stored whole = at (node
         let same : b ≡ bytes = cc in
         let size : length bytes ≡ 118 = (holds_header half form bytes (is ∙ e)).0 in
         let both : IsWholeMap half nodes State (state_root_of b) × IsWholeMap half nodes Tx (tx_root_of b) =
-        both_nil _ _ (sym (filter_map-append found (walk_map half nodes State (state_root_of b)) (walk_map half nodes Tx (tx_root_of b))) ∙ clean)
+        both_nil _ _ (sym (filter_map-append found (walk_map half nodes State (state_root_of b)) (walk_map half nodes Tx (tx_root_of b)))
+        ∙ clean)
         in (
-          map_commits half is_half nodes own forms State (state_root_of bytes) (root_size bytes 76 size (lit≤ tt)) (subst (λ x. IsWholeMap half nodes State (state_root_of x)) same both.0),
-          map_commits half is_half nodes own forms Tx (tx_root_of bytes) (root_size bytes 44 size (lit≤ tt)) (subst (λ x. IsWholeMap half nodes Tx (tx_root_of x)) same both.1),
+          map_commits half is_half nodes own forms State (state_root_of bytes) (root_size bytes 76 size (lit≤ tt))
+              (subst (λ x. IsWholeMap half nodes State (state_root_of x)) same both.0),
+          map_commits half is_half nodes own forms Tx (tx_root_of bytes) (root_size bytes 44 size (lit≤ tt))
+              (subst (λ x. IsWholeMap half nodes Tx (tx_root_of x)) same both.1),
         )
 
     at : (o : Option Bytes) → option_and_then header_of o ≡ Some bytes

@@ -6,4 +6,5 @@ use Rattle.missing_walk.proofs.whole.Goals as goal
 
 pub returns-clause-found : goal.returns-clause-found
 returns-clause-found g c tells =
-    finds g.H.NodeHash.half (own_forms g.H.NodeHash.half (map.get (nodes_of c.args.store.now))) c.args.target.now c.walk_ledger.new.found (c.in_ok-walk_ledger.ensures.header tells) (c.in_ok-walk_ledger.ensures.found tells)
+    finds g.H.NodeHash.half (own_forms g.H.NodeHash.half (map.get (nodes_of c.args.store.now))) c.args.target.now c.walk_ledger.new.found
+    (c.in_ok-walk_ledger.ensures.header tells) (c.in_ok-walk_ledger.ensures.found tells)

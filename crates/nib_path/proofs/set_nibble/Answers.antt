@@ -13,5 +13,6 @@ returns c =
           rw w.id-is (nibbles-set_high c.args.id.now (c.args.i / 2) c.args.n ∙ ap (λ k. slice_set (nibbles c.args.id.now) k c.args.n) e)
       | else-i-eq0 w ↦
           let e : suc (2 * (c.args.i / 2)) ≡ c.args.i = omega (arith, w.if-i-eq0) in
-          rw w.id-is (nibbles-set_low c.args.id.now (c.args.i / 2) c.args.n c.requires.small ∙ ap (λ k. slice_set (nibbles c.args.id.now) k c.args.n) e)
+          rw w.id-is (nibbles-set_low c.args.id.now (c.args.i / 2) c.args.n c.requires.small
+          ∙ ap (λ k. slice_set (nibbles c.args.id.now) k c.args.n) e)
     ]

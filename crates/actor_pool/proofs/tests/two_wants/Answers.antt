@@ -25,4 +25,6 @@ returns c =
     let a = c.want.ensures in
     let b = c.want-2.ensures in
     let v = c.in_ok-lines.ensures in
-    subst AreServable (sym v.items) (two_servable c.want.result c.want-2.result (omega (arith, a.actor)) (omega (arith, b.actor)) a.number b.number a.after b.after a.served b.served a.in_range b.in_range)
+    subst AreServable (sym v.items)
+    (two_servable c.want.result c.want-2.result (omega (arith, a.actor))
+    (omega (arith, b.actor)) a.number b.number a.after b.after a.served b.served a.in_range b.in_range)

@@ -4,8 +4,12 @@ use Rattle.half_hash.proofs.Digits.{why_not, first_bad_at, odd_or_never}
 use Rattle.half_hash.proofs.hash32.cause_of.Goals as goal
 
 pub unreachable-requires : goal.unreachable-requires
-unreachable-requires c = odd_or_never c.args.text.now c.args.fault c.requires.digits c.in_default.not-InvalidHexCharacter (why_not c.args.text.now c.args.fault c.requires.digits c.requires.fails)
+unreachable-requires c = odd_or_never c.args.text.now c.args.fault c.requires.digits c.in_default.not-InvalidHexCharacter
+    (why_not c.args.text.now c.args.fault c.requires.digits c.requires.fails)
 
 pub returns : goal.returns
-returns c =
-    (c.requires.digits, first_bad_at c.args.text.now c.in-InvalidHexCharacter.c c.in-InvalidHexCharacter.index (why_not c.args.text.now _ c.requires.digits (c.requires.fails ∙ ap Err c.in-InvalidHexCharacter.is)))
+returns c = (
+  c.requires.digits,
+  first_bad_at c.args.text.now c.in-InvalidHexCharacter.c c.in-InvalidHexCharacter.index
+      (why_not c.args.text.now _ c.requires.digits (c.requires.fails ∙ ap Err c.in-InvalidHexCharacter.is)),
+)

@@ -7,4 +7,5 @@ pub returns-then-bytes-ne118-clause-back : goal.returns-then-bytes-ne118-clause-
 returns-then-bytes-ne118-clause-back c = λ h is e. absurd (c.if-bytes-ne118.true (length-header_bytes h c.args.bytes.now is e))
 
 pub returns-clause-back : goal.returns-clause-back
-returns-clause-back c = λ h is e. ap Ok (one_header c.header_in.result h c.args.bytes.now c.header_in.ensures.reads (parted h c.args.bytes.now is e))
+returns-clause-back c = λ h is e. ap Ok
+    (one_header c.header_in.result h c.args.bytes.now c.header_in.ensures.reads (parted h c.args.bytes.now is e))

@@ -8,7 +8,9 @@ use Rattle.ledger_header.proofs.Header.encode.Goals as goal
 
 whole : goal.returns-clause-bytes
 whole c =
-    written _ c.put_u32.new.bytes c.put_u64.new.bytes c.put.new.bytes c.put-2.new.bytes c.put-3.new.bytes c.put_u32-2.new.bytes c.put_u32-3.new.bytes c.put-4.new.bytes (subst (λ (h : Header). IsHeader (fields h)) (sym c.self.view_is) c.known.ensures) (omega arith) (record {
+    written _ c.put_u32.new.bytes c.put_u64.new.bytes c.put.new.bytes c.put-2.new.bytes c.put-3.new.bytes c.put_u32-2.new.bytes
+    c.put_u32-3.new.bytes c.put-4.new.bytes (subst (λ (h : Header). IsHeader (fields h)) (sym c.self.view_is) c.known.ensures)
+    (omega arith) (record {
       seq = c.put_u32.ensures;
       drops = c.put_u64.ensures;
       parent = c.put.ensures;

@@ -4,4 +4,5 @@ use Rattle.ledger_header.proofs.Joined.{two_puts}
 use Rattle.ledger_header.proofs.Header.form.Goals as goal
 
 pub returns : goal.returns
-returns c = two_puts c.put.new.bytes c.put-2.new.bytes c.bytes.result c.encode.result _ _ c.bytes.ensures c.encode.ensures.bytes refl c.put.ensures c.put-2.ensures (omega arith)
+returns c = two_puts c.put.new.bytes c.put-2.new.bytes c.bytes.result c.encode.result _ _ c.bytes.ensures c.encode.ensures.bytes refl
+    c.put.ensures c.put-2.ensures (omega arith)

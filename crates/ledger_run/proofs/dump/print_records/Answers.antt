@@ -36,7 +36,8 @@ loop-one-preserved g c =
           (λ t. next_of_core c.args.core.now.state c.loop-one.core.state _ c.loop-one.last _ c.in-Some.one
           (c.loop-one.invariant.lists.state t) c.as_ref.ensures.value c.in-Some.is (c.in_ok-one.ensures.next t))
           c.in_ok-print_record.ensures.wrote;
-      lists = lists_then g.Sh.B.Backend.tells c.args.core.now c.loop-one.core c.next_stored.new.self c.loop-one.invariant.lists c.next_stored.ensures.lists;
+      lists = lists_then g.Sh.B.Backend.tells c.args.core.now c.loop-one.core c.next_stored.new.self c.loop-one.invariant.lists
+          c.next_stored.ensures.lists;
       missed = c.in_ok-one.ensures.missed ∙ c.loop-one.invariant.missed;
       later = omega (arith, c.loop-one.invariant.later, c.print_record.ensures.later);
       hash = (follows.size, follows.bytes);

@@ -9,8 +9,11 @@ two_words : (ws : List (Bor (List ℕ))) (d : Bor (List ℕ)) (b : Bool) (first 
 two_words [] d b first second two e f = absurd (omega arith)
 two_words (w ∷ []) d b first second two e f = absurd (omega arith)
 two_words (w ∷ v ∷ x ∷ ws) d b first second two e f = absurd (omega arith)
-two_words (w ∷ v ∷ []) d true first second two e f =
-    (λ _. ap (λ (t : List ℕ). t ∷ v.now ∷ []) (same_text w.now first e) ∙ ap (λ (t : List ℕ). first ∷ t ∷ []) (same_text v.now second f), λ _. refl)
+two_words (w ∷ v ∷ []) d true first second two e f = (
+  λ _. ap (λ (t : List ℕ). t ∷ v.now ∷ []) (same_text w.now first e)
+      ∙ ap (λ (t : List ℕ). first ∷ t ∷ []) (same_text v.now second f),
+  λ _. refl,
+)
 two_words (w ∷ v ∷ []) d false first second two e f = (
   λ g. absurd (let h : false ≡ true = g in cc),
   λ same. absurd (other_text v.now second f (let s : w.now ∷ v.now ∷ [] ≡ first ∷ second ∷ [] = same in cc)),

@@ -16,13 +16,18 @@ returns-clause-run g c =
       script = script_as g.H.NodeHash.half (g.S.Source.left c.args.source.now) _ _ _ _ (sym records) (sym lines) c.in-Ok.ensures.script;
       read = c.in-Ok.ensures.ended;
       interval = listed.interval ∙ same.interval ∙ c.in-Ok-open.ensures.script.interval;
-      whole = record { kept = c.journal.ensures.kept; full = full_as _ _ _ _ (sym listed.lines) (sym listed.journal) c.run_actors-core.ensures.full };
+      whole = record {
+        kept = c.journal.ensures.kept;
+        full = full_as _ _ _ _ (sym listed.lines)
+            (sym listed.journal) c.run_actors-core.ensures.full;
+      };
     }
 
 pub returns-clause-printed : goal.returns-clause-printed
 returns-clause-printed g c =
     printed_asked g.Sh.B.Backend.tells _ _ (g.K.Sink.held c.args.sink.now) (g.K.Sink.held c.print_all-status.new.sink)
-    c.print_all-status.result.0 c.print_all-status.result.1 c.print_all-status.new.core c.asks_dump.ensures c.print_all-status.ensures.printed
+    c.print_all-status.result.0 c.print_all-status.result.1 c.print_all-status.new.core c.asks_dump.ensures
+    c.print_all-status.ensures.printed
 
 pub returns-clause-status : goal.returns-clause-status
 returns-clause-status g c =
@@ -30,7 +35,8 @@ returns-clause-status g c =
     (g.K.Sink.faults c.args.sink.now) (g.K.Sink.faults c.print_all-status.new.sink) c.journal.ensures.kept c.print_all-status.ensures.said
 
 pub returns-clause-refusal : goal.returns-clause-refusal
-returns-clause-refusal g c = run_refusal g.H.NodeHash.half _ _ _ _ _ _ _ _ _ (returns-clause-run g c).script (returns-clause-status g c).one_of
+returns-clause-refusal g c = run_refusal g.H.NodeHash.half _ _ _ _ _ _ _ _ _ (returns-clause-run g c).script
+    (returns-clause-status g c).one_of
 
 pub returns-clause-complete : goal.returns-clause-complete
 returns-clause-complete g c _ calm still _ =
@@ -42,7 +48,8 @@ pub returns-in-Err-clause-opening : goal.returns-in-Err-clause-opening
 returns-in-Err-clause-opening g c = record {
   no_core = λ s. ap is_some c.not_opened.ensures.core;
   unwritten = λ s. refl;
-  cause = rw c.not_opened.ensures.unopened (opened_by g.Sh.Shelf.faults (g.Sh.Shelf.faults c.args.shelf) c.not_opened.result.status c.in-Err.unopened
+  cause = rw c.not_opened.ensures.unopened
+      (opened_by g.Sh.Shelf.faults (g.Sh.Shelf.faults c.args.shelf) c.not_opened.result.status c.in-Err.unopened
       c.not_opened.ensures.shelf c.not_opened.ensures.store c.not_opened.ensures.memory
       (λ s e. c.open.ensures.shelf s (c.in-Err.is ∙ ap Err e)) (λ t e. c.open.ensures.store t (c.in-Err.is ∙ ap Err e)));
   only = λ a b. ap is_some c.not_opened.ensures.unopened;

@@ -4,7 +4,8 @@ use Rattle.ledger_run.proofs.run.print_all.Goals as goal
 
 pub returns-in-Ok-clause-printed : goal.returns-in-Ok-clause-printed
 returns-in-Ok-clause-printed g c =
-    printed_behind g.Sh.B.Backend.tells (IsTrue c.args.asked) c.args.core.now c.print_dump.new.core (g.K.Sink.held c.args.sink.now) (g.K.Sink.held c.print.new.sink)
+    printed_behind g.Sh.B.Backend.tells (IsTrue c.args.asked) c.args.core.now c.print_dump.new.core (g.K.Sink.held c.args.sink.now)
+    (g.K.Sink.held c.print.new.sink)
     (g.K.Sink.held c.print_dump.new.sink) c.print_dump.result.0 c.print_dump.result.1 c.print_dump.ensures.lists c.in-Ok.ensures.wrote
     c.print_dump.ensures.printed c.print_dump.ensures.dumped
 

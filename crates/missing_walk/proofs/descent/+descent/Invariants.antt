@@ -15,5 +15,6 @@ decreases-walk_branches g l = 2 * (63 - length l.id.now) + 1
 
 abbrev pub invariant-walk_branches-loop-b : goal.invariant-walk_branches-loop-b
 invariant-walk_branches-loop-b g l =
-    Walks g.Sh.B.Backend.tells l.initial.store l.store l.initial.found l.found
-    (found_in g.H.NodeHash.half (own_forms g.H.NodeHash.half (map.get (nodes_of l.initial.store))) l.kind (63 - length l.id) l.inner.hashes l.id l.b)
+    Walks g.Sh.B.Backend.tells g.H.NodeHash.half l.initial.store l.store l.initial.found l.found
+    (found_in g.H.NodeHash.half (own_forms g.H.NodeHash.half (map.get (nodes_of l.initial.store))) l.kind
+    (63 - length l.id) l.inner.hashes l.id l.b)

@@ -15,4 +15,5 @@ invariant_of-result c =
 pub returns-clause-below : goal.returns-clause-below
 returns-clause-below c =
     let room : c.self.inside.depth < 64 = omega (arith, c.self.invariant.shallow) in
-    child-path c.self.inside c.set_nibble.new.id c.args.b c.self.invariant room c.set_nibble.ensures ∙ ap (λ (r : List ℕ). r ++ c.args.b ∷ []) c.self.view_is
+    child-path c.self.inside c.set_nibble.new.id c.args.b c.self.invariant room c.set_nibble.ensures
+    ∙ ap (λ (r : List ℕ). r ++ c.args.b ∷ []) c.self.view_is

@@ -14,10 +14,14 @@ copy_from_slice-requires c = omega (arith, length-take 32 c.args.bytes.now)
 
 pub returns-clause-ok : goal.returns-clause-ok
 returns-clause-ok c =
-    let exact : c.of_parts.result ≡ read_wire_id c.args.bytes.now = read_wire_id-whole _ c.copy_from_slice.new.self c.of_parts.result c.if-bytes-ne33.false c.copy_from_slice.ensures.after c.of_parts.ensures in
+    let exact : c.of_parts.result ≡ read_wire_id c.args.bytes.now =
+    read_wire_id-whole _ c.copy_from_slice.new.self c.of_parts.result c.if-bytes-ne33.false c.copy_from_slice.ensures.after
+    c.of_parts.ensures in
     read_wire_id-IfOk c.args.bytes.now c.of_parts.result exact
 
 pub returns-clause-back : goal.returns-clause-back
 returns-clause-back c =
-    let exact : c.of_parts.result ≡ read_wire_id c.args.bytes.now = read_wire_id-whole _ c.copy_from_slice.new.self c.of_parts.result c.if-bytes-ne33.false c.copy_from_slice.ensures.after c.of_parts.ensures in
+    let exact : c.of_parts.result ≡ read_wire_id c.args.bytes.now =
+    read_wire_id-whole _ c.copy_from_slice.new.self c.of_parts.result c.if-bytes-ne33.false c.copy_from_slice.ensures.after
+    c.of_parts.ensures in
     λ path h e. exact ∙ ap read_wire_id e ∙ read_wire_id-id_wire path h

@@ -12,5 +12,6 @@ returns c =
     ap (λ n. slice_set (id ++ 0 ∷ []) n depth) (sym c.copy_from_slice.ensures.len) ∙ set-append_seam id 0 [] depth
     in
     seam
-    ∙ ap (λ (r : List ℕ). r ++ depth ∷ []) (c.copy_from_slice.ensures.after ∙ sym (id_of_view c.self.inside _ c.self.invariant c.self.view_is))
+    ∙ ap (λ (r : List ℕ). r ++ depth ∷ [])
+    (c.copy_from_slice.ensures.after ∙ sym (id_of_view c.self.inside _ c.self.invariant c.self.view_is))
     ∙ ap (λ n. id_of c.args.self.now ++ n ∷ []) (sym (length_of_view c.self.inside _ c.self.invariant c.self.view_is))

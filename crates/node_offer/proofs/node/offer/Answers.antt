@@ -1,17 +1,40 @@
-use Rattle.std.proofs.Common.{◌∙◌, ap}
+use Rattle.std.proofs.Common.{◌∙◌, ap, refl}
+use Rattle.ledger_spec.specs.Forms.{IsHeld, form_of}
+use Rattle.ledger_spec.proofs.OfferLaws.{read_wire_held}
 use Rattle.shamap_node.specs.Nodes.{held}
 use Rattle.rotating_store.specs.Stores.{nodes_of}
+use Rattle.own_forms.proofs.Reading.{stored_notes}
 use Rattle.node_offer.specs.Ways.{spot}
+use Rattle.node_offer.proofs.Notes.{held_back}
 use Rattle.node_offer.proofs.Storing.{by_place, refused_there, handed_on}
 use Rattle.node_offer.proofs.node.offer.Goals as goal
 
 pub returns-clause-outcome : goal.returns-clause-outcome
 returns-clause-outcome g c tells all =
-    by_place g.H.NodeHash.half (nodes_of c.args.store.now) (nodes_of c.place.new.store) c.args.target.now c.args.kind c.args.id.now (held c.in-Ok.node) (spot c.in_ok-spot.spot) _
-    (ap nodes_of (c.place.ensures.read.same tells)) all (c.in_ok-spot.ensures.spot tells) c.in-Ok.ensures.node ∙ c.in_ok-offer_to.ensures.outcome tells
+    by_place g.H.NodeHash.half (nodes_of c.args.store.now) (nodes_of c.place.new.store) c.args.target.now c.args.kind c.args.id.now
+    (held c.in-Ok.node) (spot c.in_ok-spot.spot) _
+    (ap nodes_of (c.place.ensures.read.same tells)) all
+    (c.in_ok-spot.ensures.spot (tells, stored_notes g.H.NodeHash.half c.args.store.now all)) c.in-Ok.ensures.node
+    ∙ c.in_ok-offer_to.ensures.outcome tells
 
 pub returns-in_err-offer_to-clause-err : goal.returns-in_err-offer_to-clause-err
 returns-in_err-offer_to-clause-err g c tells all =
     handed_on _ _ _ c.from_residual-in_err-offer_to.ensures.1
-    (refused_there g.H.NodeHash.half c.args.store.now c.place.new.store _ c.args.target.now c.args.kind c.args.id.now (held c.in-Ok.node) (spot c.in_ok-spot.spot) _ c.in_err-offer_to.field-0.0
-    (c.place.ensures.read.same tells) all (c.in_ok-spot.ensures.spot tells) c.in-Ok.ensures.node (c.in_err-offer_to.ensures.err tells))
+    (refused_there g.H.NodeHash.half c.args.store.now c.place.new.store _ c.args.target.now c.args.kind c.args.id.now (held c.in-Ok.node)
+    (spot c.in_ok-spot.spot) _ c.in_err-offer_to.field-0.0
+    (c.place.ensures.read.same tells) all (c.in_ok-spot.ensures.spot (tells, stored_notes g.H.NodeHash.half c.args.store.now all)) c.in-Ok.ensures.node
+    (c.in_err-offer_to.ensures.err tells))
+
+pub returns-in_err-offer_to-clause-notes : goal.returns-in_err-offer_to-clause-notes
+returns-in_err-offer_to-clause-notes g c told =
+    let half = g.H.NodeHash.half in
+    let n = held c.in-Ok.node in
+    let is : IsHeld half n = read_wire_held half c.args.blob.now n c.known_half.ensures c.in-Ok.ensures.node in
+    c.in_err-offer_to.ensures.notes (held_back half n (form_of n) (is, refl)) (c.place.ensures.read.notes told)
+
+pub returns-clause-notes : goal.returns-clause-notes
+returns-clause-notes g c told =
+    let half = g.H.NodeHash.half in
+    let n = held c.in-Ok.node in
+    let is : IsHeld half n = read_wire_held half c.args.blob.now n c.known_half.ensures c.in-Ok.ensures.node in
+    c.in_ok-offer_to.ensures.notes (held_back half n (form_of n) (is, refl)) (c.place.ensures.read.notes told)

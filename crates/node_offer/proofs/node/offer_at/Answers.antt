@@ -7,5 +7,6 @@ use Rattle.node_offer.proofs.node.offer_at.Goals as goal
 pub returns-in_err-stored-clause-err : goal.returns-in_err-stored-clause-err
 returns-in_err-stored-clause-err g c tells =
     handed_on _ _ _ c.from_residual-in_err-stored.ensures.1
-    (refused_at g.H.NodeHash.half c.args.store.now _ c.args.kind c.args.id.now (held c.args.node.now) c.args.wanted.now (hashes_of_parent c.args.parent) c.bytes.result.now c.in_err-stored.field-0.0
+    (refused_at g.H.NodeHash.half c.args.store.now _ c.args.kind c.args.id.now (held c.args.node.now) c.args.wanted.now
+    (hashes_of_parent c.args.parent) c.bytes.result.now c.in_err-stored.field-0.0
     (c.bytes.ensures ∙ c.in_ok-form.ensures) (c.in_err-stored.ensures.stores tells))

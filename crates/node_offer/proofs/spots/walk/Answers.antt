@@ -11,18 +11,32 @@ use Rattle.node_offer.proofs.spots.walk.Goals as goal
 pub returns-in-Err-clause-spot : goal.returns-in-Err-clause-spot
 returns-in-Err-clause-spot g c tells =
     let lt : c.loop-depth.depth < length c.args.id.now = omega arith in
-    let same : nodes_of c.loop-depth.store ≡ nodes_of c.args.store.now = same_nodes c.args.store.now c.loop-depth.store (c.loop-depth.invariant.0.same tells) in
-    ends (own_forms g.H.NodeHash.half (map.get (nodes_of c.args.store.now))) c.args.id.now c.id-key.result c.loop-depth.depth (hashes_of_parent c.loop-depth.parent) c.loop-depth.hash c.of_key-at.result c.in-Err.spot
+    let same : nodes_of c.loop-depth.store ≡ nodes_of c.args.store.now =
+    same_nodes c.args.store.now c.loop-depth.store (c.loop-depth.invariant.0.same tells.0) in
+    ends (own_forms g.H.NodeHash.half (map.get (nodes_of c.args.store.now))) c.args.id.now c.id-key.result c.loop-depth.depth
+    (hashes_of_parent c.loop-depth.parent) c.loop-depth.hash c.of_key-at.result c.in-Err.spot
     (spot_from (own_forms g.H.NodeHash.half (map.get (nodes_of c.args.store.now))) [] None c.args.root c.args.id.now)
-    c.known.ensures lt c.id-key.ensures c.of_key-at.ensures (step_at g.H.NodeHash.half (nodes_of c.args.store.now) (nodes_of c.loop-depth.store) c.of_key-at.result c.loop-depth.hash c.in_ok-inner.field-0 (Err c.in-Err.spot) same c.in-Err.is (c.in_ok-inner.ensures.step tells)) (c.loop-depth.invariant.1 tells)
+    c.known.ensures lt c.id-key.ensures c.of_key-at.ensures
+    (step_at g.H.NodeHash.half (nodes_of c.args.store.now)
+    (nodes_of c.loop-depth.store) c.of_key-at.result c.loop-depth.hash c.in_ok-inner.field-0 (Err c.in-Err.spot) same c.in-Err.is
+    (c.in_ok-inner.ensures.step
+    (c.loop-depth.invariant.0.notes tells)))
+    (c.loop-depth.invariant.1 tells)
 
 pub loop-depth-preserved : goal.loop-depth-preserved
 loop-depth-preserved g c = (
-  read_then _ _ _ _ c.loop-depth.invariant.0 c.step.ensures.read,
+  read_then _ _ _ _ _ c.loop-depth.invariant.0 c.step.ensures.read,
   λ tells.
       let lt : c.loop-depth.depth < length c.args.id.now = omega arith in
-      let same : nodes_of c.loop-depth.store ≡ nodes_of c.args.store.now = same_nodes c.args.store.now c.loop-depth.store (c.loop-depth.invariant.0.same tells) in
-      goes_on (own_forms g.H.NodeHash.half (map.get (nodes_of c.args.store.now))) c.args.id.now c.id-key.result c.loop-depth.depth c.nibble.result (hashes_of_parent c.loop-depth.parent) c.loop-depth.hash c.branch-hash.result c.of_key-at.result c.in-Ok.inner
+      let same : nodes_of c.loop-depth.store ≡ nodes_of c.args.store.now =
+      same_nodes c.args.store.now c.loop-depth.store (c.loop-depth.invariant.0.same tells.0) in
+      goes_on (own_forms g.H.NodeHash.half (map.get (nodes_of c.args.store.now))) c.args.id.now c.id-key.result c.loop-depth.depth
+      c.nibble.result (hashes_of_parent c.loop-depth.parent) c.loop-depth.hash c.branch-hash.result c.of_key-at.result c.in-Ok.inner
       (spot_from (own_forms g.H.NodeHash.half (map.get (nodes_of c.args.store.now))) [] None c.args.root c.args.id.now)
-      c.known.ensures lt c.id-key.ensures c.of_key-at.ensures c.nibble.ensures.value c.branch-hash.ensures (step_at g.H.NodeHash.half (nodes_of c.args.store.now) (nodes_of c.loop-depth.store) c.of_key-at.result c.loop-depth.hash c.in_ok-inner.field-0 (Ok c.in-Ok.inner) same c.in-Ok.is (c.in_ok-inner.ensures.step tells)) (c.loop-depth.invariant.1 tells),
+      c.known.ensures lt c.id-key.ensures c.of_key-at.ensures c.nibble.ensures.value c.branch-hash.ensures
+      (step_at g.H.NodeHash.half (nodes_of c.args.store.now)
+      (nodes_of c.loop-depth.store) c.of_key-at.result c.loop-depth.hash c.in_ok-inner.field-0 (Ok c.in-Ok.inner) same c.in-Ok.is
+      (c.in_ok-inner.ensures.step
+      (c.loop-depth.invariant.0.notes tells)))
+      (c.loop-depth.invariant.1 tells),
 )

@@ -1,15 +1,17 @@
-use Rattle.std.proofs.Common.{◌≡◌, [], None, take, drop, IsTrue}
+use Rattle.std.proofs.Common.{◌≡◌, [], None, take, drop}
 use Rattle.std.specs.FinMap as map
 use Rattle.ledger_spec.specs.Spots.{spot_from}
 use Rattle.ledger_spec.specs.Own.{own_forms}
 use Rattle.rotating_store.specs.Stores.{nodes_of}
-use Rattle.own_forms.specs.Reading.{WasRead}
+use Rattle.own_forms.specs.Reading.{WasRead, IsReadable}
 use Rattle.node_offer.specs.Ways.{hashes_of_parent}
 use Rattle.node_offer.proofs.spots.walk.Given as goal
 
 -- the store was only read, and what is left of the way leads where the whole way does
 abbrev pub invariant-loop-depth : goal.invariant-loop-depth
 invariant-loop-depth g l =
-    WasRead g.Sh.B.Backend.tells l.initial.store l.store
-    × (IsTrue g.Sh.B.Backend.tells → spot_from (own_forms g.H.NodeHash.half (map.get (nodes_of l.initial.store))) (take l.depth l.id) (hashes_of_parent l.parent) l.hash (drop l.depth l.id)
+    WasRead g.Sh.B.Backend.tells g.H.NodeHash.half l.initial.store l.store
+    × (IsReadable g.Sh.B.Backend.tells g.H.NodeHash.half l.initial.store
+    → spot_from (own_forms g.H.NodeHash.half (map.get (nodes_of l.initial.store))) (take l.depth l.id)
+    (hashes_of_parent l.parent) l.hash (drop l.depth l.id)
     ≡ spot_from (own_forms g.H.NodeHash.half (map.get (nodes_of l.initial.store))) [] None l.fn.root l.id)

@@ -5,7 +5,13 @@ use Rattle.run_io.proofs.Bytes.{reading_start, reading_step, reading_full, readi
 use Rattle.run_io.proofs.io.read_all.Goals as goal
 
 pub loop-held-init : goal.loop-held-init
-loop-held-init g c = record { reading = rw c.new-held.ensures.items (reading_start (g.S.Source.left c.args.source.now)); most = omega arith; room = c.in_ok-buf.ensures.len; later = omega arith }
+loop-held-init g c = record {
+  reading = rw c.new-held.ensures.items (reading_start (g.S.Source.left c.args.source.now));
+  most =
+      omega arith;
+  room = c.in_ok-buf.ensures.len;
+  later = omega arith;
+}
 
 pub loop-held-preserved : goal.loop-held-preserved
 loop-held-preserved g c =
@@ -13,7 +19,15 @@ loop-held-preserved g c =
     let n = c.in_ok-n.ensures in
     record {
       reading = rw n.held (reading_step _ _ _ _ _ _ _ i.reading n.taken);
-      most = omega (arith, n.len, n.within, length-take c.min-room.result c.deref_mut.result.now, c.min-room.ensures, c.len-in-loop-held.ensures, i.most);
+      most = omega (
+        arith,
+        n.len,
+        n.within,
+        length-take c.min-room.result c.deref_mut.result.now,
+        c.min-room.ensures,
+        c.len-in-loop-held.ensures,
+        i.most,
+      );
       room = i.room;
       later = omega (arith, n.later, i.later);
     }
@@ -29,21 +43,41 @@ returns-then-n-eq0-clause-read g c =
     let n = c.in_ok-n.ensures in
     let room = length-take c.min-room.result c.deref_mut.result.now in
     let all = reading_ended _ _ _ c.loop-held.held.items _ c.in_ok-n.n _ c.args.most i.reading n.taken c.if-n-eq0.true
-    (omega (arith, room, c.deref_mut.ensures.len, i.room, c.min-room.ensures, c.len-in-loop-held.ensures, c.loop-held-test.true, c.len.ensures)) (omega (arith, i.most, c.loop-held.held.ok.0)) in
+    (omega (
+      arith,
+      room,
+      c.deref_mut.ensures.len,
+      i.room,
+      c.min-room.ensures,
+      c.len-in-loop-held.ensures,
+      c.loop-held-test.true,
+      c.len.ensures,
+    )) (omega (arith, i.most, c.loop-held.held.ok.0)) in
     rw (n.held, c.if-n-eq0.true, append-nil) all
 
 pub returns-clause-read : goal.returns-clause-read
-returns-clause-read g c = reading_full _ _ _ _ (omega (arith, c.loop-held-test.false, c.len.ensures, c.loop-held.invariant.most, c.loop-held.held.ok.0)) c.loop-held.invariant.reading
+returns-clause-read g c = reading_full _ _ _ _
+    (omega (arith, c.loop-held-test.false, c.len.ensures, c.loop-held.invariant.most, c.loop-held.held.ok.0)) c.loop-held.invariant.reading
 
 pub returns-clause-rest : goal.returns-clause-rest
-returns-clause-rest g c = took_full _ _ c.loop-held.held.items _ (omega (arith, c.loop-held-test.false, c.len.ensures, c.loop-held.invariant.most, c.loop-held.held.ok.0)) c.loop-held.invariant.reading
+returns-clause-rest g c = took_full _ _ c.loop-held.held.items _
+    (omega (arith, c.loop-held-test.false, c.len.ensures, c.loop-held.invariant.most, c.loop-held.held.ok.0)) c.loop-held.invariant.reading
 
 pub returns-then-n-eq0-clause-rest : goal.returns-then-n-eq0-clause-rest
 returns-then-n-eq0-clause-rest g c =
     let i = c.loop-held.invariant in
     let room = length-take c.min-room.result c.deref_mut.result.now in
     took_ended _ _ _ c.loop-held.held.items _ c.in_ok-n.n _ c.args.most i.reading c.in_ok-n.ensures.taken c.if-n-eq0.true
-    (omega (arith, room, c.deref_mut.ensures.len, i.room, c.min-room.ensures, c.len-in-loop-held.ensures, c.loop-held-test.true, c.len.ensures)) (omega (arith, i.most, c.loop-held.held.ok.0))
+    (omega (
+      arith,
+      room,
+      c.deref_mut.ensures.len,
+      i.room,
+      c.min-room.ensures,
+      c.len-in-loop-held.ensures,
+      c.loop-held-test.true,
+      c.len.ensures,
+    )) (omega (arith, i.most, c.loop-held.held.ok.0))
 
 pub returns-in_err-n-clause-part : goal.returns-in_err-n-clause-part
 returns-in_err-n-clause-part g c =
@@ -51,4 +85,13 @@ returns-in_err-n-clause-part g c =
     let i = c.loop-held.invariant in
     let room = length-take c.min-room.result c.deref_mut.result.now in
     rw p.1 (took_part _ _ _ c.loop-held.held.items _ c.args.most i.reading c.in_err-n.ensures.part
-    (omega (arith, room, c.min-room.ensures, c.len-in-loop-held.ensures, c.loop-held-test.true, c.len.ensures, i.most, c.loop-held.held.ok.0)))
+    (omega (
+      arith,
+      room,
+      c.min-room.ensures,
+      c.len-in-loop-held.ensures,
+      c.loop-held-test.true,
+      c.len.ensures,
+      i.most,
+      c.loop-held.held.ok.0,
+    )))

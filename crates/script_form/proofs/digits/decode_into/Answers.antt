@@ -8,7 +8,8 @@ loop-i-init c = record { read = decode_start c.args.word.now c.args.out.now }
 
 pub loop-i-preserved : goal.loop-i-preserved
 loop-i-preserved c =
-    decodes_more c.loop-i.good c.is_digit.result c.is_digit-in-loop-i.result c.args.word.now c.loop-i.out c.loop-i.i _ _ _ _ c.loop-i.invariant (omega arith) (omega arith) refl refl
+    decodes_more c.loop-i.good c.is_digit.result c.is_digit-in-loop-i.result c.args.word.now c.loop-i.out c.loop-i.i _ _ _ _
+    c.loop-i.invariant (omega arith) (omega arith) refl refl
     c.is_digit.ensures c.is_digit-in-loop-i.ensures c.value.ensures.value c.value-in-loop-i.ensures.value
 
 pub returns : goal.returns

@@ -5,4 +5,5 @@ use Rattle.script_form.specs.Commands.{word_in, arguments_in}
 use Rattle.script_form.proofs.forms.form_of.Given as goal
 
 abbrev pub invariant-loop-form : goal.invariant-loop-form
-invariant-loop-form l = (k : ℕ) (d : Form) → k < l.form-index → l.word ≡ word_in (get_or FORMS k d) → l.count ≢ length (arguments_in (get_or FORMS k d))
+invariant-loop-form l = (k : ℕ) (d : Form) → k < l.form-index → l.word ≡ word_in (get_or FORMS k d)
+    → l.count ≢ length (arguments_in (get_or FORMS k d))

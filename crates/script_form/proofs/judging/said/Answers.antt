@@ -2,12 +2,14 @@ use Rattle.std.proofs.Common.{sym, ◌∙◌}
 use Rattle.script_form.specs.declared.cause.Cause.TheVariants as cause
 use Rattle.script_form.proofs.Said.{too_many, says_line, says_nothing, command_words}
 use Rattle.script_form.proofs.judging.said.Goals as goal
-use Rattle.script_form.proofs.judging.said.Goals.{then-not-is_printable-via-then-not-is_printable, then-not-is_printable-via-else-not-is_printable+then-text-gt-MOST_TEXT}
+use Rattle.script_form.proofs.judging.said.Goals.{then-not-is_printable-via-then-not-is_printable}
+use Rattle.script_form.proofs.judging.said.Goals.{then-not-is_printable-via-else-not-is_printable+then-text-gt-MOST_TEXT}
 
 pub returns-then-not-is_printable : goal.returns-then-not-is_printable
 returns-then-not-is_printable c fine =
     elim c.then-not-is_printable.branch [
-      | then-not-is_printable-via-then-not-is_printable w ↦ fine cause.NotPrintable (sym c.is_printable.ensures ∙ w.if-not-is_printable.true)
+      | then-not-is_printable-via-then-not-is_printable w ↦ fine cause.NotPrintable
+          (sym c.is_printable.ensures ∙ w.if-not-is_printable.true)
       | then-not-is_printable-via-else-not-is_printable+then-text-gt-MOST_TEXT w ↦ fine cause.LineTooLong w.if-text-gt-MOST_TEXT.true
     ]
 
@@ -20,7 +22,8 @@ returns-then-earlier-ge-MOST_COMMANDS c fine =
 pub returns-in-Some : goal.returns-in-Some
 returns-in-Some c =
     says_line c.args.earlier.now _ c.args.text.now c.args.n c.in-Some.line
-    (sym c.is_printable.ensures ∙ c.if-not-is_printable.false) c.if-text-gt-MOST_TEXT.false c.if-earlier-ge-MOST_COMMANDS.false c.requires.words
+    (sym c.is_printable.ensures ∙ c.if-not-is_printable.false) c.if-text-gt-MOST_TEXT.false c.if-earlier-ge-MOST_COMMANDS.false
+    c.requires.words
     (command_words _ c.args.text.now c.requires.words (sym c.is_skipped.ensures ∙ c.if-is_skipped.false) c.requires.command)
     (rw c.in-Some.is at c.in_ok-line.ensures.numbered) (rw c.in-Some.is at c.in_ok-line.ensures.says)
 

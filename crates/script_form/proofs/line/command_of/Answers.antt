@@ -1,4 +1,5 @@
-use Rattle.script_form.proofs.Commands.{first_word, found, found_ok, no_command, only_want, only_peer, only_base, only_node, only_check, only_tick}
+use Rattle.script_form.proofs.Commands.{first_word, found, found_ok, no_command, only_want, only_peer, only_base, only_node, only_check}
+use Rattle.script_form.proofs.Commands.{only_tick}
 use Rattle.script_form.proofs.line.command_of.Goals as goal
 
 pub returns-then-is_text : goal.returns-then-is_text

@@ -12,5 +12,17 @@ returns-in_default-2-clause-none c p t kind path blob are =
 pub returns-clause-some : goal.returns-clause-some
 returns-clause-some c = (
   refl,
-  (_, _, _, _, five_words c.args.arguments.now _ _ _ _ _ _ (omega (arith, c.in-len5.len_at_least, c.in-len5.len_below)) c.if-not-is_text.ensures, c.in-Some.ensures, c.in-Some-target_word.ensures, refl, c.in-Some-id_word.ensures, rw c.in-Some-2.is at c.in_ok-blob.ensures),
+  (
+    _,
+    _,
+    _,
+    _,
+    five_words c.args.arguments.now _ _ _ _ _ _ (omega (arith, c.in-len5.len_at_least, c.in-len5.len_below))
+        c.if-not-is_text.ensures,
+    c.in-Some.ensures,
+    c.in-Some-target_word.ensures,
+    refl,
+    c.in-Some-id_word.ensures,
+    rw c.in-Some-2.is at c.in_ok-blob.ensures,
+  ),
 )

@@ -7,13 +7,18 @@ pub returns-then-end-bytes-clause-text : goal.returns-then-end-bytes-clause-text
 returns-then-end-bytes-clause-text c =
     let bytes = c.args.bytes.now in
     let found = c.piece_end-end.ensures in
-    rw (take_all c.piece_end-end.result bytes (omega (arith, c.if-end-bytes.true))) (sym (text_end bytes (λ k lt. found.before k (omega (arith, c.if-end-bytes.true, lt)))))
+    rw (take_all c.piece_end-end.result bytes (omega (arith, c.if-end-bytes.true)))
+    (sym (text_end bytes (λ k lt. found.before k (omega (arith, c.if-end-bytes.true, lt)))))
 
 pub returns-then-end-bytes-clause-cut : goal.returns-then-end-bytes-clause-cut
 returns-then-end-bytes-clause-cut c =
     let bytes = c.args.bytes.now in
     let found = c.piece_end-end.ensures in
-    rw (take_all c.piece_end-end.result bytes (omega (arith, c.if-end-bytes.true)), drop_all c.piece_end-end.result bytes (omega (arith, c.if-end-bytes.true)))
+    rw (
+      take_all c.piece_end-end.result bytes (omega (arith, c.if-end-bytes.true)),
+      drop_all c.piece_end-end.result bytes
+          (omega (arith, c.if-end-bytes.true)),
+    )
     (line_end bytes c.requires (λ k lt. found.before k (omega (arith, c.if-end-bytes.true, lt))))
 
 pub returns-clause-text : goal.returns-clause-text

@@ -6,7 +6,8 @@ use Rattle.script_form.proofs.script.read_script.Goals as goal
 
 pub returns-clause-ended : goal.returns-clause-ended
 returns-clause-ended g c =
-    ended_at _ _ c.in-Ok.bytes.items c.in-Ok.ensures.rest c.in-Ok.ensures.read (subst (λ (v : List ℕ). length v ≤ most_bytes) c.deref.ensures.value c.in_ok-script.ensures.few)
+    ended_at _ _ c.in-Ok.bytes.items c.in-Ok.ensures.rest c.in-Ok.ensures.read
+    (subst (λ (v : List ℕ). length v ≤ most_bytes) c.deref.ensures.value c.in_ok-script.ensures.few)
 
 -- all that was read stands in front
 pub returns-clause-taken : goal.returns-clause-taken

@@ -7,7 +7,9 @@ loop-digit-preserved c =
     let i = c.loop-digit.invariant in
     let lt : c.loop-digit.digit-index < length c.args.word.now = c.loop-digit-test.true in
     record {
-      value = decimal_more c.args.word.now c.loop-digit.digit-index _ _ lt i.value (ap (λ n. n * 10 + c.from-in-loop-digit.result) c.from.ensures ∙ ap (λ n. c.loop-digit.value * 10 + n) c.from-in-loop-digit.ensures);
+      value = decimal_more c.args.word.now c.loop-digit.digit-index _ _ lt i.value
+          (ap (λ n. n * 10 + c.from-in-loop-digit.result) c.from.ensures
+          ∙ ap (λ n. c.loop-digit.value * 10 + n) c.from-in-loop-digit.ensures);
       within = omega (arith, c.if-next-from.false, c.from-in-loop-digit-2.ensures);
       digits = digits_more c.args.word.now c.loop-digit.digit-index lt i.digits (search rules);
     }
@@ -17,5 +19,7 @@ returns-then-next-from c n =
     let i = c.loop-digit.invariant in
     let lt : c.loop-digit.digit-index < length c.args.word.now = c.loop-digit-test.true in
     too_much c.args.word.now (c.loop-digit.digit-index + 1) c.args.most (c.from.result * 10 + c.from-in-loop-digit.result) n
-    (decimal_more c.args.word.now c.loop-digit.digit-index _ _ lt i.value (ap (λ n. n * 10 + c.from-in-loop-digit.result) c.from.ensures ∙ ap (λ n. c.loop-digit.value * 10 + n) c.from-in-loop-digit.ensures))
+    (decimal_more c.args.word.now c.loop-digit.digit-index _ _ lt i.value
+    (ap (λ n. n * 10 + c.from-in-loop-digit.result) c.from.ensures
+    ∙ ap (λ n. c.loop-digit.value * 10 + n) c.from-in-loop-digit.ensures))
     (omega (arith, c.if-next-from.true, c.from-in-loop-digit-2.ensures))

@@ -7,10 +7,19 @@ loop-b-preserved c =
     let count : length c.args.inner.now.hashes ≡ 16 = omega arith in
     let at : c.loop-b.b * 32 + 32 ≤ length c.loop-b.body = omega arith in
     let wide : c.loop-b.b * 32 + 32 - c.loop-b.b * 32 ≡ 32 = omega arith in
-    let size : length c.copy_from_slice-in-loop-b.new.self ≡ 32 = omega (arith, c.copy_from_slice-in-loop-b.ensures.len, length-take (c.loop-b.b * 32 + 32 - c.loop-b.b * 32) (drop (c.loop-b.b * 32) c.loop-b.body), length-drop (c.loop-b.b * 32) c.loop-b.body) in
+    let size : length c.copy_from_slice-in-loop-b.new.self ≡ 32 =
+    omega (
+      arith,
+      c.copy_from_slice-in-loop-b.ensures.len,
+      length-take (c.loop-b.b * 32 + 32 - c.loop-b.b * 32)
+          (drop (c.loop-b.b * 32) c.loop-b.body),
+      length-drop (c.loop-b.b * 32) c.loop-b.body,
+    ) in
     record {
       size = write_size c.loop-b.body c.copy_from_slice-in-loop-b.new.self (c.loop-b.b * 32) _ wide at size ∙ c.loop-b.invariant.size;
-      written = write_step c.loop-b.body c.copy_from_slice-in-loop-b.new.self c.args.inner.now.hashes c.loop-b.b (c.loop-b.b * 32) _ refl wide (omega arith) size (omega arith) (c.copy_from_slice-in-loop-b.ensures.after ∙ c.copy_from_slice.view_is ∙ c.branch-inner.ensures) c.loop-b.invariant.written;
+      written = write_step c.loop-b.body c.copy_from_slice-in-loop-b.new.self c.args.inner.now.hashes c.loop-b.b
+          (c.loop-b.b * 32) _ refl wide (omega arith) size (omega arith)
+          (c.copy_from_slice-in-loop-b.ensures.after ∙ c.copy_from_slice.view_is ∙ c.branch-inner.ensures) c.loop-b.invariant.written;
     }
 
 pub returns : goal.returns

@@ -8,7 +8,8 @@ loop-b-preserved c =
     record {
       size = length-set c.loop-b.hashes c.loop-b.b c.from_slice.result ∙ c.loop-b.invariant.size;
       left = left_step c.loop-b.b c.loop-b.rest.now _ c.args.body.now c.loop-b.invariant.left c.split_at.ensures.back;
-      read = read_step c.loop-b.hashes c.loop-b.b c.from_slice.result c.loop-b.rest.now _ c.args.body.now lt c.loop-b.invariant.left c.split_at.ensures.front c.from_slice.ensures c.loop-b.invariant.read;
+      read = read_step c.loop-b.hashes c.loop-b.b c.from_slice.result c.loop-b.rest.now _ c.args.body.now lt c.loop-b.invariant.left
+          c.split_at.ensures.front c.from_slice.ensures c.loop-b.invariant.read;
     }
 
 pub returns : goal.returns

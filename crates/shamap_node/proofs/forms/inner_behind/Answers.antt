@@ -5,8 +5,12 @@ pub returns-then-form-ne516-clause-cause : goal.returns-then-form-ne516-clause-c
 returns-then-form-ne516-clause-cause c = inner_length_cause c.args.form.now c.if-form-ne516.true
 
 pub returns-in-Some-clause-inner : goal.returns-in-Some-clause-inner
-returns-in-Some-clause-inner c =
-    (c.in-Some.inner.valid, inner_body c.args.form.now _ c.hashes_in.result c.in-Some.inner.hashes c.if-form-ne516.false c.split_at.ensures.back c.hashes_in.ensures c.in-Some.ensures.0)
+returns-in-Some-clause-inner c = (
+  c.in-Some.inner.valid,
+  inner_body c.args.form.now _ c.hashes_in.result c.in-Some.inner.hashes c.if-form-ne516.false
+      c.split_at.ensures.back c.hashes_in.ensures c.in-Some.ensures.0,
+)
 
 pub returns-in-None-clause-cause : goal.returns-in-None-clause-cause
-returns-in-None-clause-cause c = inner_empty_cause c.args.form.now _ c.hashes_in.result c.if-form-ne516.false c.split_at.ensures.back c.hashes_in.ensures c.in-None.ensures
+returns-in-None-clause-cause c = inner_empty_cause c.args.form.now _ c.hashes_in.result c.if-form-ne516.false c.split_at.ensures.back
+    c.hashes_in.ensures c.in-None.ensures

@@ -9,8 +9,10 @@ pub returns-then-form-ne516 : goal.returns-then-form-ne516
 returns-then-form-ne516 c =
     elim c.then-form-ne516.branch [
       | then-form-ne516-via-then-form-ne516 w ↦ sym (not_inner_length c.args.form.now w.if-form-ne516.true)
-      | then-form-ne516-via-else-form-ne516+then-not-begins w ↦ sym (not_inner_prefix c.args.form.now (sym w.begins.ensures ∙ w.if-not-begins.true))
+      | then-form-ne516-via-else-form-ne516+then-not-begins w ↦ sym
+          (not_inner_prefix c.args.form.now (sym w.begins.ensures ∙ w.if-not-begins.true))
     ]
 
 pub returns : goal.returns
-returns c = made c.args.form.now _ c.hashes_in.result c.new.result (sym c.begins.ensures ∙ c.if-not-begins.false) c.if-form-ne516.false c.split_at.ensures.back c.hashes_in.ensures c.new.ensures
+returns c = made c.args.form.now _ c.hashes_in.result c.new.result
+    (sym c.begins.ensures ∙ c.if-not-begins.false) c.if-form-ne516.false c.split_at.ensures.back c.hashes_in.ensures c.new.ensures

@@ -17,11 +17,15 @@ loop-place-preserved c =
     elim c.if-len-lt-MOST_ASKED.branch [
       | then-len-lt-MOST_ASKED+then-not-is_among+in_ok-push w ↦
           ap items w.places-is ∙ w.in_ok-push.ensures.items
-          ∙ taken asked missing i x so_far c.loop-place-test.true c.place-item.is c.loop-place.invariant (omega (arith, w.if-len-lt-MOST_ASKED.true, c.len.ensures, c.loop-place.places.ok.0)) (sym w.is_among.ensures ∙ w.if-not-is_among.true)
+          ∙ taken asked missing i x so_far c.loop-place-test.true c.place-item.is c.loop-place.invariant
+          (omega (arith, w.if-len-lt-MOST_ASKED.true, c.len.ensures, c.loop-place.places.ok.0))
+          (sym w.is_among.ensures ∙ w.if-not-is_among.true)
       | else-len-lt-MOST_ASKED w ↦ elim w.else-len-lt-MOST_ASKED.branch [
         | else-len-lt-MOST_ASKED-via-then-len-lt-MOST_ASKED+else-not-is_among v ↦
-            ap items w.places-is ∙ passed asked missing i x so_far c.loop-place-test.true c.place-item.is c.loop-place.invariant (sym v.is_among.ensures ∙ v.if-not-is_among.false)
+            ap items w.places-is ∙ passed asked missing i x so_far c.loop-place-test.true c.place-item.is c.loop-place.invariant
+            (sym v.is_among.ensures ∙ v.if-not-is_among.false)
         | else-len-lt-MOST_ASKED-via-else-len-lt-MOST_ASKED v ↦
-            ap items w.places-is ∙ filled asked missing i x so_far c.loop-place-test.true c.place-item.is c.loop-place.invariant (omega (arith, v.if-len-lt-MOST_ASKED.false, c.len.ensures, c.loop-place.places.ok.0))
+            ap items w.places-is ∙ filled asked missing i x so_far c.loop-place-test.true c.place-item.is c.loop-place.invariant
+            (omega (arith, v.if-len-lt-MOST_ASKED.false, c.len.ensures, c.loop-place.places.ok.0))
       ]
     ]

@@ -1,7 +1,7 @@
 use Rattle.std.proofs.Common.{refl, sym, ◌∙◌, subst, Option, Bor}
 use Rattle.std.specs.Option.{option_copied}
 use Rattle.ledger_spec.specs.Bytes.{Hash}
-use Rattle.node_table.specs.Order.{IsAfter}
+use Rattle.node_backend.specs.Order.{IsAfter}
 use Rattle.store_core.specs.Dumping.{Follows}
 use Rattle.store_core.proofs.Numbering.{later_if, not_later}
 use Rattle.store_core.proofs.records.if_after.Goals as goal

@@ -3,8 +3,8 @@ use Rattle.std.specs.FinMap as map
 use Rattle.std.specs.Option.{option_copied}
 use Rattle.ledger_spec.specs.Bytes.{Nodes}
 use Rattle.ledger_spec.specs.Own.{own_forms}
-use Rattle.node_table.specs.Order.{IsNext}
-use Rattle.own_forms.proofs.Reading.{read_then, same_nodes}
+use Rattle.node_backend.specs.Order.{IsNext}
+use Rattle.own_forms.proofs.Reading.{read_then, same_nodes, stored_notes}
 use Rattle.rotating_store.specs.Stores.{nodes_of}
 use Rattle.store_core.proofs.Numbering.{left_falls, follows_then}
 use Rattle.store_core.proofs.Dumps.{no_next, next_is, next_some, next_from, follows_of}
@@ -13,13 +13,18 @@ use Rattle.store_core.proofs.records.next_record.Goals as goal
 pub returns-in-Some-3-clause-next : goal.returns-in-Some-3-clause-next
 returns-in-Some-3-clause-next g c tells =
     let before = c.loop-hash.invariant.read in
-    let read = read_then g.Sh.B.Backend.tells c.args.store.now c.loop-hash.store c.next_hash.new.store before c.next_hash.ensures.read in
+    let read = read_then g.Sh.B.Backend.tells g.H.NodeHash.half c.args.store.now c.loop-hash.store c.next_hash.new.store before
+    (c.next_hash.ensures.read g.H.NodeHash.half) in
     let next : IsNext (nodes_of c.args.store.now) (option_copied c.args.after) (Some c.in-Some-2.hash) =
-    next_from _ _ _ _ _ _ _ (same_nodes c.args.store.now c.loop-hash.store (before.same tells)) c.as_ref.ensures.value (c.loop-hash.invariant.first tells) c.in-Some-2.is
+    next_from _ _ _ _ _ _ _ (same_nodes c.args.store.now c.loop-hash.store (before.same tells)) c.as_ref.ensures.value
+    (c.loop-hash.invariant.first tells) c.in-Some-2.is
     (c.in_ok-hash.ensures.next tells) in
-    next_is g.H.NodeHash.half (nodes_of c.args.store.now) (option_copied c.args.after) c.in-Some-2.hash c.in-Some-3.form (c.requires tells) next
-    (sym c.in-Some-3.is ∙ c.in_ok-form.ensures.form tells
-    ∙ ap (λ (n : Nodes). own_forms g.H.NodeHash.half (map.get n) c.in-Some-2.hash) (same_nodes c.args.store.now c.next_hash.new.store (read.same tells)))
+    next_is g.H.NodeHash.half (nodes_of c.args.store.now) (option_copied c.args.after) c.in-Some-2.hash c.in-Some-3.form
+    (c.requires tells) next
+    (sym c.in-Some-3.is ∙ c.in_ok-form.ensures.form
+    (read.notes (tells, stored_notes g.H.NodeHash.half c.args.store.now (c.requires tells)))
+    ∙ ap (λ (n : Nodes). own_forms g.H.NodeHash.half (map.get n) c.in-Some-2.hash)
+    (same_nodes c.args.store.now c.next_hash.new.store (read.same tells)))
 
 pub returns-in-Some-3-clause-follows : goal.returns-in-Some-3-clause-follows
 returns-in-Some-3-clause-follows g c =
@@ -34,15 +39,19 @@ loop-hash-smaller g c =
 pub loop-hash-preserved : goal.loop-hash-preserved
 loop-hash-preserved g c =
     let before = c.loop-hash.invariant.read in
-    let read = read_then g.Sh.B.Backend.tells c.args.store.now c.loop-hash.store c.next_hash.new.store before c.next_hash.ensures.read in
+    let read = read_then g.Sh.B.Backend.tells g.H.NodeHash.half c.args.store.now c.loop-hash.store c.next_hash.new.store before
+    (c.next_hash.ensures.read g.H.NodeHash.half) in
     let follows = follows_of _ c.loop-hash.last _ c.in-Some-2.hash c.as_ref.ensures.value c.in-Some-2.is c.in_ok-hash.ensures.follows in
     record {
-      read = read_then g.Sh.B.Backend.tells c.args.store.now c.next_hash.new.store c.own_form.new.store read c.own_form.ensures.read;
+      read = read_then g.Sh.B.Backend.tells g.H.NodeHash.half c.args.store.now c.next_hash.new.store c.own_form.new.store read
+          c.own_form.ensures.read;
       first = λ tells. absurd (next_some g.H.NodeHash.half (nodes_of c.args.store.now) (nodes_of c.next_hash.new.store)
           (option_copied c.args.after) c.in-Some-2.hash c.in_ok-form.field-0 (c.requires tells)
           (next_from _ _ _ _ _ _ _ (same_nodes c.args.store.now c.loop-hash.store (before.same tells)) c.as_ref.ensures.value
           (c.loop-hash.invariant.first tells) c.in-Some-2.is (c.in_ok-hash.ensures.next tells))
-          (same_nodes c.args.store.now c.next_hash.new.store (read.same tells)) (c.in_ok-form.ensures.form tells) c.in_default-3.not-Some);
+          (same_nodes c.args.store.now c.next_hash.new.store (read.same tells)) (c.in_ok-form.ensures.form
+          (read.notes (tells, stored_notes g.H.NodeHash.half c.args.store.now (c.requires tells))))
+          c.in_default-3.not-Some);
       hash = (follows.size, follows.bytes);
       later = λ h f. c.loop-hash.invariant.later h (follows_then c.loop-hash.last c.in-Some-2.hash h follows f);
     }
@@ -50,5 +59,6 @@ loop-hash-preserved g c =
 pub returns-clause-next : goal.returns-clause-next
 returns-clause-next g c tells =
     no_next (nodes_of c.args.store.now) (option_copied c.args.after)
-    (next_from _ _ _ _ _ _ _ (same_nodes c.args.store.now c.loop-hash.store (c.loop-hash.invariant.read.same tells)) c.as_ref.ensures.value (c.loop-hash.invariant.first tells)
+    (next_from _ _ _ _ _ _ _ (same_nodes c.args.store.now c.loop-hash.store (c.loop-hash.invariant.read.same tells))
+    c.as_ref.ensures.value (c.loop-hash.invariant.first tells)
     c.in_default-2.is (c.in_ok-hash.ensures.next tells))

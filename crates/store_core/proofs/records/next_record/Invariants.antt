@@ -8,7 +8,7 @@ use Rattle.store_core.proofs.records.next_record.Given as goal
 -- the store was only read, and each hash came after those before; where the store tells what it holds, the first one is an answer
 abbrev pub invariant-loop-hash : goal.invariant-loop-hash
 invariant-loop-hash g l = record {
-  read : WasRead g.Sh.B.Backend.tells l.initial.store l.store;
+  read : WasRead g.Sh.B.Backend.tells g.H.NodeHash.half l.initial.store l.store;
   first : IsTrue g.Sh.B.Backend.tells → l.last ≡ option_copied l.fn.after;
   hash : IsHashOrNone l.last;
   later : (h : Hash) → Follows l.last h → Follows (option_copied l.fn.after) h;

@@ -18,4 +18,5 @@ pub returns-else-line-number : goal.returns-else-line-number
 returns-else-line-number c =
     let at = c.first_from-at.ensures in
     let lt : c.first_from-at.result < length c.args.lines.now = grind (arith, at.within, c.if-at-lines.false) in
-    line_nowhere c.args.lines.now c.requires c.first_from-at.result c.args.number _ lt at.below at.above c.index-lines-at.is c.if-line-number.false
+    line_nowhere c.args.lines.now c.requires c.first_from-at.result c.args.number _ lt at.below at.above c.index-lines-at.is
+    c.if-line-number.false

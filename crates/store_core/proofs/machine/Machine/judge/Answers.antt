@@ -24,7 +24,8 @@ returns-in-Some-broken-clause-reply g c reads =
     (lent_verdict c.args.asked c.args.self.now.state.floor c.as_ref.result c.args.found.header c.head_fault.result c.as_ref.ensures.value
     (rw (← c.self.view_is) c.head_fault.ensures.verdict) reads)
     c.in_default.is
-    (λ a at. ap (λ (n : ℕ). check.Malformed c.in-Some-broken.place n) c.number.ensures ∙ ap (place_reply a c.args.found) (sym c.in-Some-broken.is))
+    (λ a at. ap (λ (n : ℕ). check.Malformed c.in-Some-broken.place n) c.number.ensures
+    ∙ ap (place_reply a c.args.found) (sym c.in-Some-broken.is))
 
 -- nothing is missing
 pub returns-then-is_empty-clause-reply : goal.returns-then-is_empty-clause-reply
@@ -51,4 +52,5 @@ pub returns-clause-after : goal.returns-clause-after
 returns-clause-after g c =
     let some : c.as_slice.result.now ≢ [] = search (rules, common_steps) in
     let w = open_at _ c.requires in
-    c.in_ok-ask.ensures.after ∙ asked_after c.args.self.now.state c.args.target.now w.0 _ c.as_slice.result.now c.in_ok-ask.field-0 w.1 some c.in_ok-ask.ensures.reply
+    c.in_ok-ask.ensures.after ∙ asked_after c.args.self.now.state c.args.target.now w.0 _ c.as_slice.result.now c.in_ok-ask.field-0 w.1
+    some c.in_ok-ask.ensures.reply

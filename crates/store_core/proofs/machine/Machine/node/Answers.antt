@@ -4,7 +4,8 @@ use Rattle.store_core.proofs.machine.Machine.node.Goals as goal
 
 pub returns-in_err-offered-clause-err : goal.returns-in_err-offered-clause-err
 returns-in_err-offered-clause-err g c told =
-    node_asked g.H.NodeHash.half c.args.self.now.state c.args.target.now c.args.kind c.args.id.now c.args.blob.now c.args.peer c.in-Some.acquire.now
+    node_asked g.H.NodeHash.half c.args.self.now.state c.args.target.now c.args.kind c.args.id.now c.args.blob.now c.args.peer
+    c.in-Some.acquire.now
     c.offer.new.self.state c.in_err-offered.field-0.0 c.from_residual.result
     (rw (← c.self.view_is) (sym c.in-Some.ensures.value)) (sym c.is_present.ensures ∙ c.if-not-is_present.false)
     (c.in_err-offered.ensures.err told) c.from_residual.ensures.1

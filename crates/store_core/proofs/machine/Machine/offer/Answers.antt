@@ -11,10 +11,13 @@ use Rattle.store_core.proofs.machine.Machine.offer.Goals as goal
 
 pub returns-clause-outcome : goal.returns-clause-outcome
 returns-clause-outcome g c told =
-    let is : IsOver c.self.inside.store c.args.self.now.state = rw (← c.self.view_is) (record { nodes = refl; born = refl; epoch = refl }) in
+    let is : IsOver c.self.inside.store c.args.self.now.state =
+    rw (← c.self.view_is) (record { nodes = refl; born = refl; epoch = refl }) in
     rw (← c.bytes.ensures)
-    (node_outcome_over g.H.NodeHash.half c.self.inside.store c.args.self.now.state c.args.target.now c.args.kind c.args.id.now c.bytes.result.now
-    c.offer.result is (c.offer.ensures.outcome told (filed_over g.H.NodeHash.half c.self.inside.store c.args.self.now.state is (c.requires told))))
+    (node_outcome_over g.H.NodeHash.half c.self.inside.store c.args.self.now.state c.args.target.now c.args.kind c.args.id.now
+    c.bytes.result.now
+    c.offer.result is (c.offer.ensures.outcome told
+    (filed_over g.H.NodeHash.half c.self.inside.store c.args.self.now.state is (c.requires told))))
 
 pub returns-clause-after : goal.returns-clause-after
 returns-clause-after g c told =
@@ -24,7 +27,8 @@ returns-clause-after g c told =
     rw (← c.bytes.ensures)
     (subst (λ (x : State). OnOk c.offer.result (x ≡ after_node half s c.args.target.now c.args.kind c.args.id.now c.bytes.result.now))
     (sym (ap (λ (d : Desk). over c.offer.new.store d.state) c.self.view_is))
-    (node_after_over half c.self.inside.store c.offer.new.store s c.args.target.now c.args.kind c.args.id.now c.bytes.result.now c.offer.result is
+    (node_after_over half c.self.inside.store c.offer.new.store s c.args.target.now c.args.kind c.args.id.now c.bytes.result.now
+    c.offer.result is
     (c.offer.ensures.outcome told (filed_over half c.self.inside.store s is (c.requires told))) (c.offer.ensures.stored told)))
 
 pub returns-clause-err : goal.returns-clause-err
@@ -33,8 +37,11 @@ returns-clause-err g c told =
     let s : State = c.args.self.now.state in
     let is : IsOver c.self.inside.store s = rw (← c.self.view_is) (record { nodes = refl; born = refl; epoch = refl }) in
     rw (← c.bytes.ensures)
-    (subst (λ (x : State). IfErr c.offer.result (λ e. Leaves half (node_outcome half (form_in s) c.args.target.now c.args.kind c.args.id.now c.bytes.result.now)
-    (stored_by (read_wire half c.bytes.result.now) (node_outcome half (form_in s) c.args.target.now c.args.kind c.args.id.now c.bytes.result.now)) s e x))
+    (subst (λ (x : State). IfErr c.offer.result
+    (λ e. Leaves half (node_outcome half (form_in s) c.args.target.now c.args.kind c.args.id.now c.bytes.result.now)
+    (stored_by (read_wire half c.bytes.result.now)
+    (node_outcome half (form_in s) c.args.target.now c.args.kind c.args.id.now c.bytes.result.now)) s e x))
     (sym (ap (λ (d : Desk). over c.offer.new.store d.state) c.self.view_is))
-    (node_leaves_over half c.self.inside.store c.offer.new.store s c.args.target.now c.args.kind c.args.id.now c.bytes.result.now c.offer.result is
+    (node_leaves_over half c.self.inside.store c.offer.new.store s c.args.target.now c.args.kind c.args.id.now c.bytes.result.now
+    c.offer.result is
     (c.offer.ensures.err told (filed_over half c.self.inside.store s is (c.requires told)))))

@@ -10,9 +10,11 @@ use Rattle.store_core.proofs.machine.Machine.offer_header.Goals as goal
 
 pub returns-clause-outcome : goal.returns-clause-outcome
 returns-clause-outcome g c told =
-    let is : IsOver c.self.inside.store c.args.self.now.state = rw (← c.self.view_is) (record { nodes = refl; born = refl; epoch = refl }) in
+    let is : IsOver c.self.inside.store c.args.self.now.state =
+    rw (← c.self.view_is) (record { nodes = refl; born = refl; epoch = refl }) in
     rw (← c.bytes.ensures)
-    (head_outcome_over g.H.NodeHash.half c.self.inside.store c.args.self.now.state c.args.target.now c.bytes.result.now c.offer_header.result is
+    (head_outcome_over g.H.NodeHash.half c.self.inside.store c.args.self.now.state c.args.target.now c.bytes.result.now
+    c.offer_header.result is
     (c.offer_header.ensures.outcome told))
 
 pub returns-clause-after : goal.returns-clause-after
@@ -21,7 +23,8 @@ returns-clause-after g c told =
     let s : State = c.args.self.now.state in
     let is : IsOver c.self.inside.store s = rw (← c.self.view_is) (record { nodes = refl; born = refl; epoch = refl }) in
     rw (← c.bytes.ensures)
-    (subst (λ (x : State). OnOk c.offer_header.result (x ≡ after_head half s c.bytes.result.now (head_outcome half (form_in s) c.args.target.now c.bytes.result.now)))
+    (subst (λ (x : State). OnOk c.offer_header.result
+    (x ≡ after_head half s c.bytes.result.now (head_outcome half (form_in s) c.args.target.now c.bytes.result.now)))
     (sym (ap (λ (d : Desk). over c.offer_header.new.store d.state) c.self.view_is))
     (head_after_over half c.self.inside.store c.offer_header.new.store s c.args.target.now c.bytes.result.now c.offer_header.result is
     (c.offer_header.ensures.outcome told) (c.offer_header.ensures.stored told)))
@@ -32,7 +35,8 @@ returns-clause-err g c told =
     let s : State = c.args.self.now.state in
     let is : IsOver c.self.inside.store s = rw (← c.self.view_is) (record { nodes = refl; born = refl; epoch = refl }) in
     rw (← c.bytes.ensures)
-    (subst (λ (x : State). IfErr c.offer_header.result (λ e. Leaves half (head_outcome half (form_in s) c.args.target.now c.bytes.result.now)
+    (subst (λ (x : State). IfErr c.offer_header.result
+    (λ e. Leaves half (head_outcome half (form_in s) c.args.target.now c.bytes.result.now)
     (head_forms (head_outcome half (form_in s) c.args.target.now c.bytes.result.now) c.bytes.result.now) s e x))
     (sym (ap (λ (d : Desk). over c.offer_header.new.store d.state) c.self.view_is))
     (head_leaves_over half c.self.inside.store c.offer_header.new.store s c.args.target.now c.bytes.result.now c.offer_header.result is

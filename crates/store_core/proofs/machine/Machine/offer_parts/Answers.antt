@@ -8,12 +8,14 @@ use Rattle.store_core.proofs.machine.Machine.offer_parts.Goals as goal
 
 pub offer_root-requires-after_bounds : goal.offer_root-requires-after_bounds
 offer_root-requires-after_bounds g c =
-    λ κs within told. head_filed g.H.NodeHash.half c.known_half.ensures c.args.self.now.state c.args.target.now c.args.header.now c.args.state.now
+    λ κs within told. head_filed g.H.NodeHash.half c.known_half.ensures c.args.self.now.state c.args.target.now c.args.header.now
+    c.args.state.now
     c.args.tx.now c.requires.offered (c.requires.filed told) c.offer_header.new.self.state (c.in_ok-header.ensures.after told)
 
 pub offer_root-requires-2-after_bounds : goal.offer_root-requires-2-after_bounds
 offer_root-requires-2-after_bounds g c =
-    λ κs within told. part_filed g.H.NodeHash.half c.known_half.ensures c.offer_header.new.self.state c.args.target.now kinds.State c.args.state.now
+    λ κs within told. part_filed g.H.NodeHash.half c.known_half.ensures c.offer_header.new.self.state c.args.target.now kinds.State
+    c.args.state.now
     c.requires.offered.2
     (head_filed g.H.NodeHash.half c.known_half.ensures c.args.self.now.state c.args.target.now c.args.header.now c.args.state.now
     c.args.tx.now c.requires.offered (c.requires.filed told) c.offer_header.new.self.state (c.in_ok-header.ensures.after told))
@@ -21,7 +23,8 @@ offer_root-requires-2-after_bounds g c =
 
 pub returns-in_err-state-clause-err : goal.returns-in_err-state-clause-err
 returns-in_err-state-clause-err g c told =
-    refused_by g.H.NodeHash.half _ _ c.args.self.now.state c.offer_root.new.self.state c.in_err-state.field-0.0 c.from_residual-in_err-state.result
+    refused_by g.H.NodeHash.half _ _ c.args.self.now.state c.offer_root.new.self.state c.in_err-state.field-0.0
+    c.from_residual-in_err-state.result
     (state_refuses g.H.NodeHash.half c.args.self.now.state c.args.target.now c.args.header.now c.args.state.now c.args.tx.now
     c.in_ok-header.header (c.in_ok-header.ensures.outcome told) c.offer_header.new.self.state (c.in_ok-header.ensures.after told)
     c.in_err-state.field-0.0 c.offer_root.new.self.state (c.in_err-state.ensures.err told))

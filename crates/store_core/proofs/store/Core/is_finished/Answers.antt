@@ -14,12 +14,22 @@ told_by (Some at) true P D Q is found none some = absurd (false≢true (sym is))
 told_by (Some at) false P D Q is found none some = ((λ t. absurd (false≢true t)), (λ d. absurd (some at found d)))
 
 pub returns-then-actor-len : goal.returns-then-actor-len
-returns-then-actor-len g c = ((λ _. rw (← c.self.view_is) (kept_past _ _ _ _ _ _ _ _ _ _ _ _ c.self.invariant c.args.actor (omega (arith, c.self.invariant.cursor_count, c.len.ensures, c.if-actor-len.true)))), (λ _. refl))
+returns-then-actor-len g c = (
+  (λ _. rw (← c.self.view_is)
+      (kept_past _ _ _ _ _ _ _ _ _ _ _ _ c.self.invariant c.args.actor
+      (omega (arith, c.self.invariant.cursor_count, c.len.ensures, c.if-actor-len.true)))),
+  (λ _. refl),
+)
 
 pub returns : goal.returns
 returns g c =
     let k = c.self.invariant in
     let lt : c.args.actor < 64 = omega (arith, k.cursor_count, c.len.ensures, c.if-actor-len.false) in
     told_by c.next_of.result c.is_none.result _ _ _ c.is_none.ensures c.next_of.ensures
-    (λ none. rw (← c.self.view_is) (kept_done _ _ _ _ _ _ _ _ _ _ _ _ k c.args.actor lt (moved_end _ _ c.self.inside.cursors.items _ _ c.deref.ensures.value c.index-from.ensures (omega (arith, k.cursor_count, lt)) none)))
-    (λ at next done. kept_undone _ _ _ _ _ _ _ _ _ _ _ _ k c.args.actor at lt (moved _ _ c.self.inside.cursors.items _ _ at c.deref.ensures.value c.index-from.ensures (omega (arith, k.cursor_count, lt)) next) (rw (← c.self.view_is) at done))
+    (λ none. rw (← c.self.view_is)
+    (kept_done _ _ _ _ _ _ _ _ _ _ _ _ k c.args.actor lt
+    (moved_end _ _ c.self.inside.cursors.items _ _ c.deref.ensures.value c.index-from.ensures
+    (omega (arith, k.cursor_count, lt)) none)))
+    (λ at next done. kept_undone _ _ _ _ _ _ _ _ _ _ _ _ k c.args.actor at lt
+    (moved _ _ c.self.inside.cursors.items _ _ at c.deref.ensures.value c.index-from.ensures (omega (arith, k.cursor_count, lt)) next)
+    (rw (← c.self.view_is) at done))

@@ -15,8 +15,10 @@ use Rattle.store_core.proofs.store.Core.step.Goals.{else-after-ne0-via-else-afte
 pub returns-in_default-clause-finished : goal.returns-in_default-clause-finished
 returns-in_default-clause-finished g c =
     let k = c.self.invariant in (
-      (λ _. rw (← c.self.view_is) (kept_done _ _ _ _ _ _ _ _ _ _ _ _ k c.args.actor (omega (arith, k.cursor_count, c.len.ensures, c.if-actor-len.false))
-          (moved_end _ _ c.self.inside.cursors.items _ _ c.deref.ensures.value c.index-from.ensures (omega (arith, c.len.ensures, c.if-actor-len.false)) (c.in_default.ensures)))),
+      (λ _. rw (← c.self.view_is)
+          (kept_done _ _ _ _ _ _ _ _ _ _ _ _ k c.args.actor (omega (arith, k.cursor_count, c.len.ensures, c.if-actor-len.false))
+          (moved_end _ _ c.self.inside.cursors.items _ _ c.deref.ensures.value c.index-from.ensures
+          (omega (arith, c.len.ensures, c.if-actor-len.false)) (c.in_default.ensures)))),
       (λ _. refl),
     )
 
@@ -27,13 +29,15 @@ returns-in_default-clause-blocked g c =
 pub answer-reply-requires-clause-served : goal.answer-reply-requires-clause-served
 answer-reply-requires-clause-served g c _ _ =
     let k = c.self.invariant in
-    let next = moved _ _ c.self.inside.cursors.items _ _ _ c.deref.ensures.value c.index-from.ensures (omega (arith, c.len.ensures, c.if-actor-len.false)) c.in-Some.ensures in
+    let next = moved _ _ c.self.inside.cursors.items _ _ _ c.deref.ensures.value c.index-from.ensures
+    (omega (arith, c.len.ensures, c.if-actor-len.false)) c.in-Some.ensures in
     kept_served _ _ _ _ _ _ _ _ _ _ _ _ k _ next.within c.index-line.result.now c.index-line.ensures
 
 pub answer-reply-requires-clause-in_range : goal.answer-reply-requires-clause-in_range
 answer-reply-requires-clause-in_range g c _ _ =
     let k = c.self.invariant in
-    let next = moved _ _ c.self.inside.cursors.items _ _ _ c.deref.ensures.value c.index-from.ensures (omega (arith, c.len.ensures, c.if-actor-len.false)) c.in-Some.ensures in
+    let next = moved _ _ c.self.inside.cursors.items _ _ _ c.deref.ensures.value c.index-from.ensures
+    (omega (arith, c.len.ensures, c.if-actor-len.false)) c.in-Some.ensures in
     kept_in_range _ _ _ _ _ _ _ _ _ _ _ _ k _ next.within c.index-line.result.now c.index-line.ensures
 
 pub answer-reply-requires-clause-filed : goal.answer-reply-requires-clause-filed
@@ -42,15 +46,20 @@ answer-reply-requires-clause-filed g c _ _ = λ t. (c.self.invariant.sound t).fo
 pub unwrap-requires : goal.unwrap-requires
 unwrap-requires g c =
     let k = c.self.invariant in
-    let next = moved _ _ c.self.inside.cursors.items _ _ _ c.deref.ensures.value c.index-from.ensures (omega (arith, c.len.ensures, c.if-actor-len.false)) c.in-Some.ensures in
-    c.push.ensures.succeeds (let less = kept_less _ _ _ _ _ _ _ _ _ _ _ _ k c.args.actor _ (omega (arith, k.cursor_count, c.len.ensures, c.if-actor-len.false)) next c.index-line.result.now c.index-line.ensures in omega (arith, k.room, c.self.inside.journal.ok.0))
+    let next = moved _ _ c.self.inside.cursors.items _ _ _ c.deref.ensures.value c.index-from.ensures
+    (omega (arith, c.len.ensures, c.if-actor-len.false)) c.in-Some.ensures in
+    c.push.ensures.succeeds (let less = kept_less _ _ _ _ _ _ _ _ _ _ _ _ k c.args.actor _
+    (omega (arith, k.cursor_count, c.len.ensures, c.if-actor-len.false)) next c.index-line.result.now c.index-line.ensures in omega
+    (arith, k.room, c.self.inside.journal.ok.0))
 
 pub returns-then-not-is_answered-clause-blocked : goal.returns-then-not-is_answered-clause-blocked
 returns-then-not-is_answered-clause-blocked g c =
     let k = c.self.invariant in
-    let next = moved _ _ c.self.inside.cursors.items _ _ _ c.deref.ensures.value c.index-from.ensures (omega (arith, c.len.ensures, c.if-actor-len.false)) c.in-Some.ensures in (
+    let next = moved _ _ c.self.inside.cursors.items _ _ _ c.deref.ensures.value c.index-from.ensures
+    (omega (arith, c.len.ensures, c.if-actor-len.false)) c.in-Some.ensures in (
       (λ _. rw (← c.self.view_is) (blocked_by c.self.inside.script.lines.items c.self.inside.journal.items c.args.actor c.index.result.now
-          (kept_next _ _ _ _ _ _ _ _ _ _ _ _ k c.args.actor _ (omega (arith, k.cursor_count, c.len.ensures, c.if-actor-len.false)) next c.index.result.now c.index.ensures)
+          (kept_next _ _ _ _ _ _ _ _ _ _ _ _ k c.args.actor _
+          (omega (arith, k.cursor_count, c.len.ensures, c.if-actor-len.false)) next c.index.result.now c.index.ensures)
           c.if-after-ne0.true (sym (rw (← c.self.view_is) at c.is_answered.ensures) ∙ c.if-not-is_answered.true))),
       (λ _. refl),
     )
@@ -65,53 +74,67 @@ returns-then-not-is_answered-clause-few g c = kept_few _ _ _ _ _ _ _ _ _ _ _ _ c
 pub invariant_of-self-then-not-is_answered : goal.invariant_of-self-then-not-is_answered
 invariant_of-self-then-not-is_answered g c =
     let k = c.self.invariant in
-    let next = moved _ _ c.self.inside.cursors.items _ _ _ c.deref.ensures.value c.index-from.ensures (omega (arith, c.len.ensures, c.if-actor-len.false)) c.in-Some.ensures in
-    kept_moved _ _ _ _ _ _ _ _ _ _ _ _ k c.args.actor _ (omega (arith, k.cursor_count, c.len.ensures, c.if-actor-len.false)) (omega (arith, next.within)) next.none
+    let next = moved _ _ c.self.inside.cursors.items _ _ _ c.deref.ensures.value c.index-from.ensures
+    (omega (arith, c.len.ensures, c.if-actor-len.false)) c.in-Some.ensures in
+    kept_moved _ _ _ _ _ _ _ _ _ _ _ _ k c.args.actor _ (omega (arith, k.cursor_count, c.len.ensures, c.if-actor-len.false))
+    (omega (arith, next.within)) next.none
 
 pub returns-clause-blocked : goal.returns-clause-blocked
 returns-clause-blocked g c =
     let k = c.self.invariant in
-    let next = moved _ _ c.self.inside.cursors.items _ _ _ c.deref.ensures.value c.index-from.ensures (omega (arith, c.len.ensures, c.if-actor-len.false)) c.in-Some.ensures in
+    let next = moved _ _ c.self.inside.cursors.items _ _ _ c.deref.ensures.value c.index-from.ensures
+    (omega (arith, c.len.ensures, c.if-actor-len.false)) c.in-Some.ensures in
     let free : c.index-line.result.now.after ≢ 0 → is_answered c.self.inside.journal.items c.index-line.result.now.after ≡ true =
-    (let same = same_line c.self.inside.script.lines.items _ c.index-line.result.now c.index.result.now next.within c.index-line.ensures c.index.ensures in λ waits.
+    (let same = same_line c.self.inside.script.lines.items _ c.index-line.result.now c.index.result.now next.within c.index-line.ensures
+    c.index.ensures in λ waits.
     elim c.else-after-ne0.branch [
       | else-after-ne0-via-then-after-ne0+else-not-is_answered w ↦
-          ap (λ (l : Line). is_answered c.self.inside.journal.items l.after) same ∙ (sym (rw (← c.self.view_is) at w.is_answered.ensures) ∙ w.if-not-is_answered.false)
+          ap (λ (l : Line). is_answered c.self.inside.journal.items l.after) same
+          ∙ (sym (rw (← c.self.view_is) at w.is_answered.ensures) ∙ w.if-not-is_answered.false)
       | else-after-ne0-via-else-after-ne0 w ↦ absurd (waits (ap (λ (l : Line). l.after) same ∙ w.if-after-ne0.false))
     ]) in (
       (λ e. cc),
       (λ blocked. absurd (
           let by = blocked_at c.self.inside.script.lines.items c.self.inside.journal.items c.args.actor c.index-line.result.now
-          (kept_next _ _ _ _ _ _ _ _ _ _ _ _ k c.args.actor _ (omega (arith, k.cursor_count, c.len.ensures, c.if-actor-len.false)) next c.index-line.result.now c.index-line.ensures) (rw (← c.self.view_is) at blocked) in
+          (kept_next _ _ _ _ _ _ _ _ _ _ _ _ k c.args.actor _
+          (omega (arith, k.cursor_count, c.len.ensures, c.if-actor-len.false)) next c.index-line.result.now c.index-line.ensures)
+          (rw (← c.self.view_is) at blocked) in
           false≢true (sym by.1 ∙ free by.0))),
     )
 
 pub returns-clause-finished : goal.returns-clause-finished
 returns-clause-finished g c =
     let k = c.self.invariant in
-    let next = moved _ _ c.self.inside.cursors.items _ _ _ c.deref.ensures.value c.index-from.ensures (omega (arith, c.len.ensures, c.if-actor-len.false)) c.in-Some.ensures in (
+    let next = moved _ _ c.self.inside.cursors.items _ _ _ c.deref.ensures.value c.index-from.ensures
+    (omega (arith, c.len.ensures, c.if-actor-len.false)) c.in-Some.ensures in (
       (λ e. cc),
       (λ done. absurd (next_left c.self.inside.script.lines.items c.self.inside.journal.items c.args.actor c.index-line.result.now
-          (kept_next _ _ _ _ _ _ _ _ _ _ _ _ k c.args.actor _ (omega (arith, k.cursor_count, c.len.ensures, c.if-actor-len.false)) next c.index-line.result.now c.index-line.ensures) (rw (← c.self.view_is) at done))),
+          (kept_next _ _ _ _ _ _ _ _ _ _ _ _ k c.args.actor _
+          (omega (arith, k.cursor_count, c.len.ensures, c.if-actor-len.false)) next c.index-line.result.now c.index-line.ensures)
+          (rw (← c.self.view_is) at done))),
     )
 
 pub invariant_of-self-2 : goal.invariant_of-self-2
 invariant_of-self-2 g c =
     let k = c.self.invariant in
-    let next = moved _ _ c.self.inside.cursors.items _ _ _ c.deref.ensures.value c.index-from.ensures (omega (arith, c.len.ensures, c.if-actor-len.false)) c.in-Some.ensures in
+    let next = moved _ _ c.self.inside.cursors.items _ _ _ c.deref.ensures.value c.index-from.ensures
+    (omega (arith, c.len.ensures, c.if-actor-len.false)) c.in-Some.ensures in
     let line = c.index-line.result.now in
     let served = served_acquires _ (kept_served _ _ _ _ _ _ _ _ _ _ _ _ k _ next.within line c.index-line.ensures) in
     let range = kept_in_range _ _ _ _ _ _ _ _ _ _ _ _ k _ next.within line c.index-line.ensures in
     let free : c.index-line.result.now.after ≢ 0 → is_answered c.self.inside.journal.items c.index-line.result.now.after ≡ true =
-    (let same = same_line c.self.inside.script.lines.items _ c.index-line.result.now c.index.result.now next.within c.index-line.ensures c.index.ensures in λ waits.
+    (let same = same_line c.self.inside.script.lines.items _ c.index-line.result.now c.index.result.now next.within c.index-line.ensures
+    c.index.ensures in λ waits.
     elim c.else-after-ne0.branch [
       | else-after-ne0-via-then-after-ne0+else-not-is_answered w ↦
-          ap (λ (l : Line). is_answered c.self.inside.journal.items l.after) same ∙ (sym (rw (← c.self.view_is) at w.is_answered.ensures) ∙ w.if-not-is_answered.false)
+          ap (λ (l : Line). is_answered c.self.inside.journal.items l.after) same
+          ∙ (sym (rw (← c.self.view_is) at w.is_answered.ensures) ∙ w.if-not-is_answered.false)
       | else-after-ne0-via-else-after-ne0 w ↦ absurd (waits (ap (λ (l : Line). l.after) same ∙ w.if-after-ne0.false))
     ]) in
     let step = c.answer-reply.ensures.step in
     rw (pushed c.push.result _ _ _ _ c.push.ensures.items c.unwrap.ensures)
-    (kept_step _ _ _ _ _ _ _ _ _ _ _ _ k c.args.actor _ (omega (arith, k.cursor_count, c.len.ensures, c.if-actor-len.false)) next c.index-line.result.now c.index-line.ensures _ _ _ _ refl refl free (λ t. used_nothing _ _ _ _ _ _ _ c.new.ensures.items (step t))
+    (kept_step _ _ _ _ _ _ _ _ _ _ _ _ k c.args.actor _ (omega (arith, k.cursor_count, c.len.ensures, c.if-actor-len.false)) next
+    c.index-line.result.now c.index-line.ensures _ _ _ _ refl refl free (λ t. used_nothing _ _ _ _ _ _ _ c.new.ensures.items (step t))
     (λ t. acquiring_step_sound _ c.known_half.ensures _ _ _ _ _ _ served range (k.sound t) (step t))
     c.answer-reply.ensures.grows.few c.push.ensures.capacity c.answer-reply.ensures.grows.later
     c.answer-reply.ensures.fault)
@@ -119,10 +142,12 @@ invariant_of-self-2 g c =
 pub returns-clause-answered : goal.returns-clause-answered
 returns-clause-answered g c _ =
     let k = c.self.invariant in
-    let next = moved _ _ c.self.inside.cursors.items _ _ _ c.deref.ensures.value c.index-from.ensures (omega (arith, c.len.ensures, c.if-actor-len.false)) c.in-Some.ensures in
+    let next = moved _ _ c.self.inside.cursors.items _ _ _ c.deref.ensures.value c.index-from.ensures
+    (omega (arith, c.len.ensures, c.if-actor-len.false)) c.in-Some.ensures in
     rw (← c.self.view_is) (record {
       line = c.index-line.result.now;
-      next = kept_next _ _ _ _ _ _ _ _ _ _ _ _ k c.args.actor _ (omega (arith, k.cursor_count, c.len.ensures, c.if-actor-len.false)) next c.index-line.result.now c.index-line.ensures;
+      next = kept_next _ _ _ _ _ _ _ _ _ _ _ _ k c.args.actor _
+          (omega (arith, k.cursor_count, c.len.ensures, c.if-actor-len.false)) next c.index-line.result.now c.index-line.ensures;
       number = refl;
       entry = record { line = c.index-line.result.now.number; actor = c.args.actor; reply = c.answer-reply.result; used = c.new.result };
       records = refl;
@@ -146,21 +171,36 @@ pub invariant_of-self : goal.invariant_of-self
 invariant_of-self g c =
     let k = c.self.invariant in
     let lines = c.self.inside.script.lines.items in
-    let none = moved_end lines _ c.self.inside.cursors.items _ c.args.actor c.deref.ensures.value c.index-from.ensures (omega (arith, c.len.ensures, c.if-actor-len.false)) c.in_default.ensures in
+    let none = moved_end lines _ c.self.inside.cursors.items _ c.args.actor c.deref.ensures.value c.index-from.ensures
+    (omega (arith, c.len.ensures, c.if-actor-len.false)) c.in_default.ensures in
     let end : c.len-in_default.result ≡ length lines = omega (arith, c.len-in_default.ensures, c.self.inside.script.lines.ok.0) in
-    kept_moved _ _ _ _ _ _ _ _ _ _ _ _ k c.args.actor _ (omega (arith, k.cursor_count, c.len.ensures, c.if-actor-len.false)) (omega (arith, end))
-    (ap (λ (n : ℕ). numbers_of c.args.actor (take n lines)) end ∙ kept_end c.args.actor (slice_index c.self.inside.cursors.items c.args.actor) lines none)
+    kept_moved _ _ _ _ _ _ _ _ _ _ _ _ k c.args.actor _ (omega (arith, k.cursor_count, c.len.ensures, c.if-actor-len.false))
+    (omega (arith, end))
+    (ap (λ (n : ℕ). numbers_of c.args.actor (take n lines)) end
+    ∙ kept_end c.args.actor (slice_index c.self.inside.cursors.items c.args.actor) lines none)
 
 pub returns-clause-few : goal.returns-clause-few
 returns-clause-few g c =
     let k = c.self.invariant in
-    let next = moved _ _ c.self.inside.cursors.items _ _ _ c.deref.ensures.value c.index-from.ensures (omega (arith, c.len.ensures, c.if-actor-len.false)) c.in-Some.ensures in
-    let less = kept_less _ _ _ _ _ _ _ _ _ _ _ _ k c.args.actor _ (omega (arith, k.cursor_count, c.len.ensures, c.if-actor-len.false)) next c.index-line.result.now c.index-line.ensures in
-    omega (arith, less, ap length (pushed c.push.result _ _ _ _ c.push.ensures.items c.unwrap.ensures), simp length-append at (ap length (pushed c.push.result _ _ _ _ c.push.ensures.items c.unwrap.ensures)))
+    let next = moved _ _ c.self.inside.cursors.items _ _ _ c.deref.ensures.value c.index-from.ensures
+    (omega (arith, c.len.ensures, c.if-actor-len.false)) c.in-Some.ensures in
+    let less = kept_less _ _ _ _ _ _ _ _ _ _ _ _ k c.args.actor _
+    (omega (arith, k.cursor_count, c.len.ensures, c.if-actor-len.false)) next c.index-line.result.now c.index-line.ensures in
+    omega (
+      arith,
+      less,
+      ap length (pushed c.push.result _ _ _ _ c.push.ensures.items c.unwrap.ensures),
+      simp length-append at
+          (ap length (pushed c.push.result _ _ _ _ c.push.ensures.items c.unwrap.ensures)),
+    )
 
 pub returns-then-actor-len-clause-finished : goal.returns-then-actor-len-clause-finished
-returns-then-actor-len-clause-finished g c =
-    (λ _. rw (← c.self.view_is) (kept_past _ _ _ _ _ _ _ _ _ _ _ _ c.self.invariant c.args.actor (omega (arith, c.self.invariant.cursor_count, c.len.ensures, c.if-actor-len.true))), λ _. refl)
+returns-then-actor-len-clause-finished g c = (
+  λ _. rw (← c.self.view_is)
+      (kept_past _ _ _ _ _ _ _ _ _ _ _ _ c.self.invariant c.args.actor
+      (omega (arith, c.self.invariant.cursor_count, c.len.ensures, c.if-actor-len.true))),
+  λ _. refl,
+)
 
 pub returns-then-actor-len-clause-blocked : goal.returns-then-actor-len-clause-blocked
 returns-then-actor-len-clause-blocked g c =

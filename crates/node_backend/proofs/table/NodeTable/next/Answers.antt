@@ -1,0 +1,38 @@
+use Rattle.std.proofs.Common.{Some, None, List, [], ◌∷◌, subst}
+use Rattle.std.specs.declared.ops.Bound.TheVariants.{Excluded, Unbounded}
+use Rattle.std.specs.BTreeMap.Range.{IsRangeOf}
+use Rattle.ledger_spec.specs.Maps.{hash_cmp}
+use Rattle.ledger_spec.specs.Bytes.{Bytes, Hash}
+use Rattle.node_backend.proofs.Next.{none_next, first_next, start_after}
+use Rattle.node_backend.proofs.table.NodeTable.next.Goals as goal
+
+pub returns-in_err-hash-in-None : goal.returns-in_err-hash-in-None
+returns-in_err-hash-in-None c =
+    let r : IsRangeOf hash_cmp (start_after None) Unbounded c.self.inside.entries [] =
+    subst (λ (es : List (Hash × Bytes)). IsRangeOf hash_cmp Unbounded Unbounded c.self.inside.entries es)
+    (c.in_err-hash-in-None.ensures.steps.0) (c.range.ensures.in_range tt) in
+    rw (c.from_residual.ensures, c.in-None.is, ← c.self.view_is) (none_next c.self.inside.entries None r)
+
+pub returns-in_err-hash-in-Some : goal.returns-in_err-hash-in-Some
+returns-in_err-hash-in-Some c =
+    let r : IsRangeOf hash_cmp (start_after (Some c.in-Some.last.now)) Unbounded c.self.inside.entries [] =
+    subst (λ (es : List (Hash × Bytes)). IsRangeOf hash_cmp (Excluded c.in-Some.last.now) Unbounded c.self.inside.entries es)
+    (c.in_err-hash-in-Some.ensures.steps.0) (c.range-in-Some.ensures.in_range tt) in
+    rw (c.from_residual-in_err-hash-in-Some.ensures, c.in-Some.is, ← c.self.view_is)
+    (none_next c.self.inside.entries (Some c.in-Some.last.now) r)
+
+pub returns-in_ok-hash-in-None : goal.returns-in_ok-hash-in-None
+returns-in_ok-hash-in-None c =
+    let r : IsRangeOf hash_cmp (start_after None) Unbounded c.self.inside.entries
+    ((c.in_ok-hash-in-None.hash.now, c.in_ok-hash-in-None.field-0-1.now) ∷ c.next.new.self) =
+    subst (λ (es : List (Hash × Bytes)). IsRangeOf hash_cmp Unbounded Unbounded c.self.inside.entries es)
+    (c.in_ok-hash-in-None.ensures.steps) (c.range.ensures.in_range tt) in
+    rw (c.in-None.is, ← c.self.view_is) (first_next c.self.inside.entries None _ _ r)
+
+pub returns-in_ok-hash-in-Some : goal.returns-in_ok-hash-in-Some
+returns-in_ok-hash-in-Some c =
+    let r : IsRangeOf hash_cmp (start_after (Some c.in-Some.last.now)) Unbounded c.self.inside.entries
+    ((c.in_ok-hash-in-Some.hash.now, c.in_ok-hash-in-Some.field-0-1.now) ∷ c.next-in-Some.new.self) =
+    subst (λ (es : List (Hash × Bytes)). IsRangeOf hash_cmp (Excluded c.in-Some.last.now) Unbounded c.self.inside.entries es)
+    (c.in_ok-hash-in-Some.ensures.steps) (c.range-in-Some.ensures.in_range tt) in
+    rw (c.in-Some.is, ← c.self.view_is) (first_next c.self.inside.entries (Some c.in-Some.last.now) _ _ r)
