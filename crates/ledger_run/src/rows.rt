@@ -13,9 +13,10 @@ use std::thread::Threads;
 
 /// A script, the status, and the journal, in short: `[xx]` is the byte xx and 31 zero bytes, `_` is 32
 /// zero bytes, `@` the header of ledger 10, and `#` the root of its state map.
-const ROWS: [(&str, u8, &str); 12] = [
+const ROWS: [(&str, u8, &str); 13] = [
     (WHOLE, 0, WHOLE_SAYS),
     (COMPRESSED, 0, COMPRESSED_SAYS),
+    (TX, 0, TX_SAYS),
     (VIEWED, 3, "refused 9 5\n"),
     (LEAVES_CLASH, 7, LEAVES_CLASH_SAYS),
     (HEADERS_CLASH, 7, HEADERS_CLASH_SAYS),
@@ -64,6 +65,32 @@ const AGAIN: &str = "0 want [DD] 0
 
 const AGAIN_SAYS: &str = "4 0 want opened
 5 0 check complete
+end complete 1 closed 0 listed 1 floor 0 last 10 epoch 0
+";
+
+/// A ledger with a transaction map: its root is first given as the state map's, which has another hash, then under its own.
+const TX: &str = "0 want [D8] 10
+0 peer 5 [D8]
+0 base 5 [D8] 0000000A0000000000000000_[FB][DE]00000000000000000000 # #
+0 check [D8]
+0 base 5 [D8] 0000000A0000000000000000_[FB][DE]00000000000000000000 # ___[17]____________02
+0 check [D8]
+0 node 5 [D8] state [10]01 0102[10]01
+0 node 5 [D8] tx [30]01 01[30]01
+0 node 5 [D8] tx [30]01 02[30]04
+0 check [D8]
+";
+
+const TX_SAYS: &str = "1 0 want opened
+2 0 peer added
+3 0 base good / good / bad hash [DE]
+4 0 check need 5 state:[10]01 tx:_00
+5 0 base duplicate / duplicate / good
+6 0 check need 5 tx:[30]01
+7 0 node good
+8 0 node bad hash [18]
+9 0 node good
+10 0 check complete
 end complete 1 closed 0 listed 1 floor 0 last 10 epoch 0
 ";
 

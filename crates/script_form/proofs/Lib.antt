@@ -1,5 +1,5 @@
 mod ByteWords
-pub mod Commands
+pub mod Calls
 pub mod Cuts
 pub mod Numbers
 pub mod Pairs

@@ -1,33 +1,23 @@
 -- A call that says a command has no cause, and one without a cause says one.
-use Rattle.std.proofs.Common.{◌≡◌, ◌≢◌, inl, inr, ℕ, List, [], ◌∷◌, length, Bool, true, false, Option, None, Some, refl, sym, ◌∙◌, ap}
+use Rattle.std.proofs.Common.{◌≡◌, ◌≢◌, inl, inr, List, [], ◌∷◌, length, Bool, true, false, refl, sym, ◌∙◌, ap}
 use Rattle.std.proofs.Common.{subst, arith}
-use Rattle.std.specs.Prelude.{codes}
 use Rattle.nib_path.specs.Paths.{id_wire}
 use Rattle.half_hash.specs.Hex.{IsHexOf}
 use Rattle.ledger_spec.specs.Bytes.{Bytes, Hash, is_zero}
-use Rattle.ledger_spec.specs.declared.Kind.TheVariants.{State}
 use Rattle.ledger_machine.specs.declared.commands.Command.{Command}
-use Rattle.ledger_machine.specs.declared.commands.Command.TheVariants as command
-use Rattle.ledger_machine.specs.Scripts.{word_of}
 use Rattle.script_form.specs.declared.forms.Argument.{Argument}
 use Rattle.script_form.specs.declared.forms.Argument.TheVariants as argument
 use Rattle.script_form.specs.declared.forms.Form.{Form}
-use Rattle.script_form.specs.declared.forms.Form.TheVariants as form
 use Rattle.script_form.specs.declared.cause.Cause.{Cause}
 use Rattle.script_form.specs.declared.cause.Cause.TheVariants as cause
-use Rattle.script_form.specs.Words.{IsNumber, IsTarget, IsId, IsBlob}
-use Rattle.script_form.specs.Commands.{word_in, arguments_in, IsWrong, HasWrong, CallHas}
-use Rattle.script_form.specs.Grammar.{AreParts, AreArguments, CallSays}
+use Rattle.script_form.specs.Commands.{word_in, arguments_in, ArgumentOf, SaysArgument, ArgumentsOf, SayArguments, command_of}
+use Rattle.script_form.specs.Commands.{FormSays, CallSays, IsWrong, HasWrong, CallHas}
 use Rattle.script_form.proofs.ByteWords.{ok_same}
 use Rattle.script_form.proofs.Shapes.{one_form}
 
 -- the word is right in an argument's place
 abbrev pub IsRight : Argument → Bytes → Type 0
-IsRight (argument.Number most) word = (n : ℕ) × IsNumber word most n
-IsRight argument.Target word = (hash : Hash) × IsTarget word hash
-IsRight argument.Kind word = word ≡ codes "state"
-IsRight argument.Id word = (path : List ℕ) × IsId word path
-IsRight argument.Blob word = (bytes : Bytes) × IsBlob word bytes
+IsRight a word = (v : ArgumentOf a) × SaysArgument a word v
 
 abbrev pub AreRight : List Argument → List Bytes → Type 0
 AreRight [] [] = Unit {0}
@@ -42,7 +32,7 @@ not_wrong cause.BadNumber (argument.Number most) word right wrong = wrong right.
 not_wrong cause.BadHex argument.Target word right wrong = wrong right.0 right.1.digits
 not_wrong cause.BadHex argument.Id word right wrong = wrong (id_wire right.0) (record { digits = right.1.digits; value = right.1.value })
 not_wrong cause.BadHex argument.Blob word right wrong = wrong right.0 right.1
-not_wrong cause.BadKindOrId argument.Kind word right wrong = wrong right
+not_wrong cause.BadKindOrId argument.Kind word right wrong = wrong right.0 right.1
 not_wrong cause.BadKindOrId argument.Id word right wrong = wrong right.0 right.1
 not_wrong cause.ZeroTarget argument.Target word right wrong =
     let zero : is_zero right.0 ≡ true = ap is_zero (same_hash word right.0 wrong.0 right.1.digits wrong.1) ∙ wrong.2 in
@@ -80,7 +70,7 @@ must_be_right argument.Target word free not = free cause.BadHex (λ h is. at h i
     at : (h : Hash) → IsHexOf word h → (b : Bool) → is_zero h ≡ b → ⊥
     at h is true z = free cause.ZeroTarget (h, is, z)
     at h is false z = not (h, record { digits = is; nonzero = rw z refl })
-must_be_right argument.Kind word free not = free cause.BadKindOrId not
+must_be_right argument.Kind word free not = free cause.BadKindOrId (λ k is. not (k, is))
 must_be_right argument.Id word free not = free cause.BadKindOrId (λ p is. not (p, is))
 must_be_right argument.Blob word free not = free cause.BadHex (λ b is. not (b, is))
 
@@ -94,58 +84,31 @@ must_be_rights (a ∷ arguments) (word ∷ words) e free not =
     (λ right. must_be_rights arguments words (omega (arith, e)) (λ c behind. free c (inr behind)) (λ rights. not (right, rights)))
 
 -- right arguments say a command
-form_says : (f : Form) (args : List Bytes) → AreRight (arguments_in f) args → (c : Command) × (word_of c ≡ word_in f) × AreArguments args c
-form_says form.Want (t ∷ n ∷ []) right = (command.Want right.0.0 right.1.0.0, refl, (t, n, refl, right.0.1, right.1.0.1))
-form_says form.Peer (n ∷ t ∷ []) right = (command.Peer right.0.0 right.1.0.0, refl, (n, t, refl, right.0.1, right.1.0.1))
-form_says form.Base (n ∷ t ∷ h ∷ []) right =
-    (command.Base right.0.0 right.1.0.0 right.1.1.0.0 None None, refl, (n, t, h, [], refl, right.0.1, right.1.0.1, right.1.1.0.1, tt))
-form_says form.BaseState (n ∷ t ∷ h ∷ s ∷ []) right = (
-  command.Base right.0.0 right.1.0.0 right.1.1.0.0 (Some right.1.1.1.0.0) None,
-  refl,
-  (n, t, h, s ∷ [], refl, right.0.1, right.1.0.1, right.1.1.0.1, right.1.1.1.0.1),
-)
-form_says form.Node (n ∷ t ∷ k ∷ i ∷ b ∷ []) right =
-    let kind : n ∷ t ∷ k ∷ i ∷ b ∷ [] ≡ n ∷ t ∷ codes "state" ∷ i ∷ b ∷ [] = ap (λ (w : Bytes). n ∷ t ∷ w ∷ i ∷ b ∷ []) right.1.1.0 in (
-      command.Node right.0.0 right.1.0.0 State right.1.1.1.0.0 right.1.1.1.1.0.0,
-      refl,
-      (n, t, i, b, kind, right.0.1, right.1.0.1, refl, right.1.1.1.0.1, right.1.1.1.1.0.1),
-    )
-form_says form.Check (t ∷ []) right = (command.Check right.0.0, refl, (t, refl, right.0.1))
-form_says form.Tick (t ∷ []) right = (command.Tick right.0.0, refl, (t, refl, right.0.1))
-form_says form.Want args right = absurd (omega (arith, right_count (arguments_in form.Want) args right))
-form_says form.Peer args right = absurd (omega (arith, right_count (arguments_in form.Peer) args right))
-form_says form.Base args right = absurd (omega (arith, right_count (arguments_in form.Base) args right))
-form_says form.BaseState args right = absurd (omega (arith, right_count (arguments_in form.BaseState) args right))
-form_says form.Node args right = absurd (omega (arith, right_count (arguments_in form.Node) args right))
-form_says form.Check args right = absurd (omega (arith, right_count (arguments_in form.Check) args right))
-form_says form.Tick args right = absurd (omega (arith, right_count (arguments_in form.Tick) args right))
+values_of : (arguments : List Argument) (words : List Bytes) → AreRight arguments words
+    → (v : ArgumentsOf arguments) × SayArguments arguments words v
+values_of [] [] right = (tt, tt)
+values_of [] (word ∷ words) right = absurd right
+values_of (a ∷ arguments) [] right = absurd right
+values_of (a ∷ arguments) (word ∷ words) right =
+    let behind = values_of arguments words right.1 in ((right.0.0, behind.0), (right.0.1, behind.1))
 
-base_said : (n t h : Bytes) (parts : List Bytes) (p : ℕ) (target : Hash) (head : Bytes) (state tx : Option Bytes) → IsNumber n 65535 p
-    → IsTarget t target → IsBlob h head → AreParts parts state tx
-    → (f : Form) × (codes "base" ≡ word_in f) × AreRight (arguments_in f) (n ∷ t ∷ h ∷ parts)
-base_said n t h [] p target head None None number is blob are = (form.Base, refl, ((p, number), ((target, is), ((head, blob), tt))))
-base_said n t h (s ∷ []) p target head (Some state) None number is blob are =
-    (form.BaseState, refl, ((p, number), ((target, is), ((head, blob), ((state, are), tt)))))
-base_said n t h _ p target head _ _ number is blob are = absurd are
+form_says : (f : Form) (args : List Bytes) → AreRight (arguments_in f) args → (c : Command) × FormSays f args c
+form_says f args right = let said = values_of (arguments_in f) args right in (command_of f said.0, (said.0, said.1, refl))
 
 -- the arguments of a command are right
-form_said : (args : List Bytes) (c : Command) → AreArguments args c → (f : Form) × (word_of c ≡ word_in f) × AreRight (arguments_in f) args
-form_said args (command.Want t seq) are =
-    (form.Want, refl, subst (AreRight (arguments_in form.Want)) (sym are.2) ((t, are.3), ((seq, are.4), tt)))
-form_said args (command.Peer p t) are =
-    (form.Peer, refl, subst (AreRight (arguments_in form.Peer)) (sym are.2) ((p, are.3), ((t, are.4), tt)))
-form_said args (command.Base p t head state tx) are =
-    let said = base_said are.0 are.1 are.2 are.3 p t head state tx are.5 are.6 are.7 are.8 in
-    (said.0, said.1, subst (AreRight (arguments_in said.0)) (sym are.4) said.2)
-form_said args (command.Node p t kind path blob) are = (
-  form.Node,
-  refl,
-  subst (AreRight (arguments_in form.Node)) (sym are.4)
-      ((p, are.5), ((t, are.6), (refl, ((path, are.8), ((blob, are.9), tt))))),
-)
-form_said args (command.Check t) are = (form.Check, refl, subst (AreRight (arguments_in form.Check)) (sym are.1) ((t, are.2), tt))
-form_said args (command.Tick t) are = (form.Tick, refl, subst (AreRight (arguments_in form.Tick)) (sym are.1) ((t, are.2), tt))
-form_said args _ are = absurd are
+said_right : (arguments : List Argument) (words : List Bytes) (v : ArgumentsOf arguments) → SayArguments arguments words v
+    → AreRight arguments words
+said_right [] [] v says = tt
+said_right [] (word ∷ words) v says = says
+said_right (a ∷ arguments) [] v says = says
+said_right (a ∷ arguments) (word ∷ words) v says = ((v.0, says.0), said_right arguments words v.1 says.1)
+
+form_said : (f : Form) (args : List Bytes) (c : Command) → FormSays f args c → AreRight (arguments_in f) args
+form_said f args c says = said_right (arguments_in f) args says.0 says.1
+
+-- a form's words are as many as its arguments
+pub said_count : (f : Form) (args : List Bytes) (c : Command) → FormSays f args c → length args ≡ length (arguments_in f)
+said_count f args c says = right_count (arguments_in f) args (form_said f args c says)
 
 other_form : (f g : Form) (word : Bytes) (args : List Bytes) (c : Cause) → word ≡ word_in f → AreRight (arguments_in f) args
     → word ≡ word_in g → length args ≡ length (arguments_in g) → HasWrong c (arguments_in g) args → ⊥
@@ -156,11 +119,10 @@ other_form f g word args c is right also count wrong =
 -- a call that says a command has no cause
 pub call_fine : (call : List Bytes) (said : Command) → CallSays call said → (c : Cause) → CallHas call c → ⊥
 call_fine [] said says c has = says
-call_fine (word ∷ args) said says cause.UnknownCommand has = let f = form_said args said says.1 in has f.0 (says.0 ∙ f.1)
-call_fine (word ∷ args) said says cause.ArgumentCount has =
-    let f = form_said args said says.1 in has f.0 (says.0 ∙ f.1) (right_count (arguments_in f.0) args f.2)
+call_fine (word ∷ args) said says cause.UnknownCommand has = has says.0 says.1
+call_fine (word ∷ args) said says cause.ArgumentCount has = has says.0 says.1 (said_count says.0 args said says.2)
 call_fine (word ∷ args) said says c has =
-    let f = form_said args said says.1 in other_form f.0 has.0 word args c (says.0 ∙ f.1) f.2 has.1 has.2 has.3
+    other_form says.0 has.0 word args c says.1 (form_said says.0 args said says.2) has.1 has.2 has.3
 
 -- a call's words have no other causes
 pub call_never : (call : List Bytes) (c : Cause) → ((a : Argument) (word : Bytes) → IsWrong c a word → ⊥) → c ≢ cause.UnknownCommand
@@ -176,7 +138,7 @@ pub call_must_say : (call : List Bytes) → ((c : Cause) → CallHas call c → 
 call_must_say [] free none = free cause.UnknownCommand tt
 call_must_say (word ∷ args) free none =
     free cause.ArgumentCount (λ f is count. must_be_rights (arguments_in f) args count (wrong f is count)
-    (λ right. let says = form_says f args right in none says.0 (is ∙ sym says.1, says.2)))
+    (λ right. let says = form_says f args right in none says.0 (f, is, says.1)))
   where
     wrong : (f : Form) → word ≡ word_in f → length args ≡ length (arguments_in f) → (c : Cause) → HasWrong c (arguments_in f) args → ⊥
     wrong f is count cause.UnknownCommand has = never cause.UnknownCommand (λ a w x. x) (arguments_in f) args has

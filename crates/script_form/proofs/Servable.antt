@@ -1,69 +1,54 @@
 -- The lines of a script are lines that a core takes.
-use Rattle.std.proofs.Common.{◌≡◌, ◌≢◌, inl, inr, ℕ, suc, ◌+◌, ◌<◌, ◌^◌, List, [], ◌∷◌, ◌++◌, length, map, Option, None, Some, sym, subst}
+use Rattle.std.proofs.Common.{◌≡◌, ◌≢◌, inl, inr, ℕ, suc, ◌+◌, ◌<◌, ◌^◌, List, [], ◌∷◌, ◌++◌, length, map, sym, subst}
 use Rattle.std.proofs.Common.{arith, length-append}
 use Rattle.std.specs.List.{All, Contains}
 use Rattle.std.proofs.lemmas.List.{map-append}
 use Rattle.std.proofs.lemmas.List.Elements.{All-push, All-weaker, All-contains, All-map, Contains-append_left}
 use Rattle.ledger_spec.specs.Bytes.{Bytes}
 use Rattle.ledger_machine.specs.declared.commands.Command.{Command}
-use Rattle.ledger_machine.specs.declared.commands.Command.TheVariants as command
 use Rattle.ledger_machine.specs.declared.commands.Line.{Line}
-use Rattle.ledger_machine.specs.Scripts.{Rises, IfBytes, IsInRange, IsLedgerMap}
+use Rattle.ledger_machine.specs.Scripts.{Rises, IsInRange, IsLedgerMap}
 use Rattle.ledger_spec.specs.declared.Kind.{Kind}
-use Rattle.ledger_spec.specs.declared.Kind.TheVariants.{State}
+use Rattle.ledger_spec.specs.declared.Kind.TheVariants.{State, Tx, Set}
 use Rattle.script_form.specs.Servable.{IsServed, WaitsForEarlier, AreServable}
 use Rattle.script_form.specs.Causes.{call_in}
-use Rattle.script_form.specs.Grammar.{AreParts, AreArguments, CallSays, WordsSay}
+use Rattle.script_form.specs.declared.forms.Form.{Form}
+use Rattle.script_form.specs.declared.forms.Form.TheVariants as form
+use Rattle.script_form.specs.Words.{IsKind}
+use Rattle.script_form.specs.Commands.{arguments_in, ArgumentsOf, SayArguments, command_of, CallSays}
+use Rattle.script_form.specs.Grammar.{WordsSay}
+use Rattle.script_form.proofs.Right.{said_count}
 use Rattle.script_form.proofs.ByteWords.{blob_bytes}
 
-a_state_map : (kind : Kind) → kind ≡ State → IsLedgerMap kind
-a_state_map kind is = subst IsLedgerMap (sym is) tt
+a_ledger_map : (word : Bytes) (kind : Kind) → IsKind word kind → IsLedgerMap kind
+a_ledger_map word State is = tt
+a_ledger_map word Tx is = tt
+a_ledger_map word Set is = is
 
-parts_bytes : (words : List Bytes) (state tx : Option Bytes) → AreParts words state tx → IfBytes state × IfBytes tx
-parts_bytes [] None None are = (tt, tt)
-parts_bytes (word ∷ []) (Some state) None are = (blob_bytes word state are, tt)
-parts_bytes _ _ _ are = absurd are
-
-in_range : (args : List Bytes) (c : Command) → AreArguments args c → IsInRange c
-in_range args (command.Want t seq) are = are.3.nonzero
-in_range args (command.Peer p t) are = are.4.nonzero
-in_range args (command.Check t) are = are.2.nonzero
-in_range args (command.Base p t head state tx) are =
-    let parts = parts_bytes are.3 state tx are.8 in (are.6.nonzero, blob_bytes are.2 head are.7, parts.0, parts.1)
-in_range args (command.Node p t kind path blob) are = (are.6.nonzero, a_state_map kind are.7, blob_bytes are.3 blob are.9)
-in_range args (command.Tick t) are = are.2.nonzero
-in_range args (command.View v t) are = absurd are
-in_range args (command.Unview v) are = absurd are
-in_range args (command.Get v kind key) are = absurd are
-in_range args (command.Page v kind key n) are = absurd are
-in_range args (command.Edit x t) are = absurd are
-in_range args (command.Put x item) are = absurd are
-in_range args (command.Del x key) are = absurd are
-in_range args (command.Tx x item) are = absurd are
-in_range args (command.Close x fields) are = absurd are
-in_range args (command.Abandon x) are = absurd are
-in_range args command.Begin are = absurd are
-in_range args command.Swap are = absurd are
-
-served : (args : List Bytes) (c : Command) → AreArguments args c → IsServed c
-served args (command.Want t seq) are = tt
-served args (command.Peer p t) are = tt
-served args (command.Check t) are = tt
-served args (command.Base p t head state tx) are = tt
-served args (command.Node p t kind path blob) are = tt
-served args (command.Tick t) are = tt
-served args (command.View v t) are = are
-served args (command.Unview v) are = are
-served args (command.Get v kind key) are = are
-served args (command.Page v kind key n) are = are
-served args (command.Edit x t) are = are
-served args (command.Put x item) are = are
-served args (command.Del x key) are = are
-served args (command.Tx x item) are = are
-served args (command.Close x fields) are = are
-served args (command.Abandon x) are = are
-served args command.Begin are = are
-served args command.Swap are = are
+-- what a form's words say is in range and served
+form_known : (f : Form) (words : List Bytes) (v : ArgumentsOf (arguments_in f)) → SayArguments (arguments_in f) words v
+    → length words ≡ length (arguments_in f) → IsInRange (command_of f v) × IsServed (command_of f v)
+form_known form.Want (t ∷ n ∷ []) v says size = (says.0.nonzero, tt)
+form_known form.Peer (n ∷ t ∷ []) v says size = (says.1.0.nonzero, tt)
+form_known form.Base (n ∷ t ∷ h ∷ []) v says size = ((says.1.0.nonzero, blob_bytes h v.1.1.0 says.1.1.0, tt, tt), tt)
+form_known form.BaseState (n ∷ t ∷ h ∷ s ∷ []) v says size =
+    ((says.1.0.nonzero, blob_bytes h v.1.1.0 says.1.1.0, blob_bytes s v.1.1.1.0 says.1.1.1.0, tt), tt)
+form_known form.BaseTx (n ∷ t ∷ h ∷ s ∷ x ∷ []) v says size = (
+  (says.1.0.nonzero, blob_bytes h v.1.1.0 says.1.1.0, blob_bytes s v.1.1.1.0 says.1.1.1.0, blob_bytes x v.1.1.1.1.0 says.1.1.1.1.0),
+  tt,
+)
+form_known form.Node (n ∷ t ∷ k ∷ i ∷ b ∷ []) v says size =
+    ((says.1.0.nonzero, a_ledger_map k v.1.1.0 says.1.1.0, blob_bytes b v.1.1.1.1.0 says.1.1.1.1.0), tt)
+form_known form.Check (t ∷ []) v says size = (says.0.nonzero, tt)
+form_known form.Tick (t ∷ []) v says size = (says.0.nonzero, tt)
+form_known form.Want words v says size = absurd (omega (arith, size))
+form_known form.Peer words v says size = absurd (omega (arith, size))
+form_known form.Base words v says size = absurd (omega (arith, size))
+form_known form.BaseState words v says size = absurd (omega (arith, size))
+form_known form.BaseTx words v says size = absurd (omega (arith, size))
+form_known form.Node words v says size = absurd (omega (arith, size))
+form_known form.Check words v says size = absurd (omega (arith, size))
+form_known form.Tick words v says size = absurd (omega (arith, size))
 
 -- what is known of a line that words say
 pub record Known (earlier : List ℕ) (l : Line) : Type 0 where
@@ -74,7 +59,10 @@ pub record Known (earlier : List ℕ) (l : Line) : Type 0 where
 
 call_known : (call : List Bytes) (c : Command) → CallSays call c → IsInRange c × IsServed c
 call_known [] c says = absurd says
-call_known (word ∷ args) c says = (in_range args c says.1, served args c says.1)
+call_known (word ∷ args) c says =
+    let said = says.2 in
+    subst (λ (x : Command). IsInRange x × IsServed x) (sym said.2)
+    (form_known says.0 args said.0 said.1 (said_count says.0 args c said))
 
 pub known : (earlier : List ℕ) (words : List Bytes) (l : Line) → WordsSay earlier words l → Known earlier l
 known earlier [] l says = absurd says

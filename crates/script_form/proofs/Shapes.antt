@@ -15,13 +15,15 @@ abbrev form_by : ℕ → ℕ → Form
 form_by first count =
     if first == 119 then form.Want else if first == 112 then form.Peer else if first == 110 then form.Node else if first == 99 then
     form.Check
-    else if first == 116 then form.Tick else if count == 3 then form.Base else form.BaseState
+    else if first == 116 then form.Tick else if count == 3 then form.Base
+    else if count == 4 then form.BaseState else form.BaseTx
 
 by_form : (f : Form) → form_by (slice_index (word_in f) 0) (length (arguments_in f)) ≡ f
 by_form form.Want = refl
 by_form form.Peer = refl
 by_form form.Base = refl
 by_form form.BaseState = refl
+by_form form.BaseTx = refl
 by_form form.Node = refl
 by_form form.Check = refl
 by_form form.Tick = refl

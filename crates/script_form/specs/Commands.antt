@@ -1,6 +1,9 @@
 -- The commands that are read: their words, and what stands behind them.
-use Rattle.std.specs.Prelude.{◌≡◌, ◌≢◌, ◌⊎◌, ℕ, List, [], ◌∷◌, length, codes, IsTrue}
+use Rattle.std.specs.Prelude.{◌≡◌, ◌≢◌, ◌⊎◌, ℕ, List, [], ◌∷◌, length, codes, IsTrue, None, Some}
 use Rattle.ledger_spec.specs.Bytes.{Bytes, Hash, is_zero}
+use Rattle.ledger_spec.specs.declared.Kind.{Kind}
+use Rattle.ledger_machine.specs.declared.commands.Command.{Command}
+use Rattle.ledger_machine.specs.declared.commands.Command.TheVariants as command
 use Rattle.half_hash.specs.Hex.{IsHexOf}
 use Rattle.script_form.specs.declared.forms.Argument.{Argument}
 use Rattle.script_form.specs.declared.forms.Argument.TheVariants as argument
@@ -8,7 +11,7 @@ use Rattle.script_form.specs.declared.forms.Form.{Form}
 use Rattle.script_form.specs.declared.forms.Form.TheVariants as form
 use Rattle.script_form.specs.declared.cause.Cause.{Cause}
 use Rattle.script_form.specs.declared.cause.Cause.TheVariants as cause
-use Rattle.script_form.specs.Words.{IsNumber, IsIdText, IsId, IsBlob}
+use Rattle.script_form.specs.Words.{IsNumber, IsTarget, IsKind, IsIdText, IsId, IsBlob}
 
 -- a form's command word
 abbrev pub word_in : Form → Bytes
@@ -16,19 +19,74 @@ word_in form.Want = codes "want"
 word_in form.Peer = codes "peer"
 word_in form.Base = codes "base"
 word_in form.BaseState = codes "base"
+word_in form.BaseTx = codes "base"
 word_in form.Node = codes "node"
 word_in form.Check = codes "check"
 word_in form.Tick = codes "tick"
 
--- a form's arguments, in order: T and SEQ; P and T; P, T and HEADER, and STATE where it is given; P, T, KIND, ID and BLOB; T; T
+-- a form's arguments, in order: T and SEQ; P and T; P, T and HEADER, with STATE, with STATE and TX; P, T, KIND, ID and BLOB; T; T
 abbrev pub arguments_in : Form → List Argument
 arguments_in form.Want = argument.Target ∷ argument.Number 4294967295 ∷ []
 arguments_in form.Peer = argument.Number 65535 ∷ argument.Target ∷ []
 arguments_in form.Base = argument.Number 65535 ∷ argument.Target ∷ argument.Blob ∷ []
 arguments_in form.BaseState = argument.Number 65535 ∷ argument.Target ∷ argument.Blob ∷ argument.Blob ∷ []
+arguments_in form.BaseTx = argument.Number 65535 ∷ argument.Target ∷ argument.Blob ∷ argument.Blob ∷ argument.Blob ∷ []
 arguments_in form.Node = argument.Number 65535 ∷ argument.Target ∷ argument.Kind ∷ argument.Id ∷ argument.Blob ∷ []
 arguments_in form.Check = argument.Target ∷ []
 arguments_in form.Tick = argument.Target ∷ []
+
+-- what a word says in an argument's place: a number, a hash, a kind, a path, bytes
+abbrev pub ArgumentOf : Argument → Type 0
+ArgumentOf (argument.Number most) = ℕ
+ArgumentOf argument.Target = Hash
+ArgumentOf argument.Kind = Kind
+ArgumentOf argument.Id = List ℕ
+ArgumentOf argument.Blob = Bytes
+
+-- the word says it
+abbrev pub SaysArgument : (a : Argument) → Bytes → ArgumentOf a → Type 0
+SaysArgument (argument.Number most) word n = IsNumber word most n
+SaysArgument argument.Target word hash = IsTarget word hash
+SaysArgument argument.Kind word kind = IsKind word kind
+SaysArgument argument.Id word path = IsId word path
+SaysArgument argument.Blob word bytes = IsBlob word bytes
+
+-- what words say in the places of arguments, in order
+abbrev pub ArgumentsOf : List Argument → Type 0
+ArgumentsOf [] = Unit {0}
+ArgumentsOf (a ∷ arguments) = ArgumentOf a × ArgumentsOf arguments
+
+-- the words say it, one word an argument
+abbrev pub SayArguments : (arguments : List Argument) → List Bytes → ArgumentsOf arguments → Type 0
+SayArguments [] [] v = Unit {0}
+SayArguments [] (word ∷ words) v = ⊥
+SayArguments (a ∷ arguments) [] v = ⊥
+SayArguments (a ∷ arguments) (word ∷ words) v = SaysArgument a word v.0 × SayArguments arguments words v.1
+
+-- the command of a form with these arguments
+abbrev pub command_of : (f : Form) → ArgumentsOf (arguments_in f) → Command
+command_of form.Want v = command.Want v.0 v.1.0
+command_of form.Peer v = command.Peer v.0 v.1.0
+command_of form.Base v = command.Base v.0 v.1.0 v.1.1.0 None None
+command_of form.BaseState v = command.Base v.0 v.1.0 v.1.1.0 (Some v.1.1.1.0) None
+command_of form.BaseTx v = command.Base v.0 v.1.0 v.1.1.0 (Some v.1.1.1.0) (Some v.1.1.1.1.0)
+command_of form.Node v = command.Node v.0 v.1.0 v.1.1.0 v.1.1.1.0 v.1.1.1.1.0
+command_of form.Check v = command.Check v.0
+command_of form.Tick v = command.Tick v.0
+
+-- the words behind a form's word say the command
+abbrev pub FormSays : Form → List Bytes → Command → Type 0
+FormSays f words c = (v : ArgumentsOf (arguments_in f)) × SayArguments (arguments_in f) words v × (c ≡ command_of f v)
+
+-- the first three words say a peer, a target and a header
+abbrev pub SaysHead : List Bytes → ℕ → Hash → Bytes → Type 0
+SaysHead (peer ∷ target ∷ header ∷ words) p t head = IsNumber peer 65535 p × IsTarget target t × IsBlob header head
+SaysHead _ p t head = ⊥
+
+-- a command's word and its arguments say the command
+abbrev pub CallSays : List Bytes → Command → Type 0
+CallSays [] c = ⊥
+CallSays (word ∷ words) c = (f : Form) × (word ≡ word_in f) × FormSays f words c
 
 -- a word in an argument's place is wrong for this cause
 abbrev pub IsWrong : Cause → Argument → Bytes → Type 0
@@ -36,7 +94,7 @@ IsWrong cause.BadNumber (argument.Number most) word = (n : ℕ) → IsNumber wor
 IsWrong cause.BadHex argument.Target word = (hash : Hash) → IsHexOf word hash → ⊥
 IsWrong cause.BadHex argument.Id word = (bytes : Bytes) → IsIdText word bytes → ⊥
 IsWrong cause.BadHex argument.Blob word = (bytes : Bytes) → IsBlob word bytes → ⊥
-IsWrong cause.BadKindOrId argument.Kind word = word ≢ codes "state"
+IsWrong cause.BadKindOrId argument.Kind word = (kind : Kind) → IsKind word kind → ⊥
 IsWrong cause.BadKindOrId argument.Id word = (path : List ℕ) → IsId word path → ⊥
 IsWrong cause.ZeroTarget argument.Target word = (hash : Hash) × IsHexOf word hash × IsTrue (is_zero hash)
 IsWrong _ _ _ = ⊥

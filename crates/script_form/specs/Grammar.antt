@@ -1,48 +1,17 @@
 -- The text of a script.
-use Rattle.std.specs.Prelude.{◌≡◌, ◌⊎◌, ℕ, ◌+◌, List, [], ◌∷◌, ◌++◌, length, drop, codes, Bool, true, false, Option, None, Some}
+use Rattle.std.specs.Prelude.{◌≡◌, ◌⊎◌, ℕ, ◌+◌, List, [], ◌∷◌, ◌++◌, length, drop, Bool, true, false}
 use Rattle.ledger_spec.specs.Bytes.{Bytes, Half}
-use Rattle.ledger_spec.specs.declared.Kind.TheVariants.{State}
-use Rattle.ledger_machine.specs.declared.commands.Command.{Command}
-use Rattle.ledger_machine.specs.declared.commands.Command.TheVariants as command
 use Rattle.ledger_machine.specs.declared.commands.Line.{Line}
 use Rattle.ledger_machine.specs.declared.commands.Record.{Record}
-use Rattle.ledger_machine.specs.Scripts.{word_of}
 use Rattle.script_form.specs.declared.cause.Cause.{Cause}
-use Rattle.script_form.specs.Words.{lines_of, text_of, words_of, IsNumber, IsTarget, IsBlob, IsId}
+use Rattle.script_form.specs.Words.{lines_of, text_of, words_of, IsNumber}
+use Rattle.script_form.specs.Commands.{CallSays}
 use Rattle.script_form.specs.Records.{is_store, SaysRecord}
 use Rattle.script_form.specs.Causes.{most_bytes, is_command, commands_from, waits, call_in, IsEarlier, Has, AreFine, IsFirstOf, number_of}
 
 -- the most bytes that are read: one more than a script may have
 abbrev pub most_read : ℕ
 most_read = most_bytes + 1
-
--- the words behind a header say the root nodes that are given: none, or that of the state map
-abbrev pub AreParts : List Bytes → Option Bytes → Option Bytes → Type 0
-AreParts [] None None = Unit {0}
-AreParts (word ∷ []) (Some state) None = IsBlob word state
-AreParts _ _ _ = ⊥
-
--- The words behind the command's word say its arguments. The commands that are read at present are `want`, `peer`, `base` without a
--- transaction root, `node` of the state map, `check` and `tick`.
-abbrev pub AreArguments : List Bytes → Command → Type 0
-AreArguments args (command.Want t seq) =
-    (target : Bytes) × (number : Bytes) × (args ≡ target ∷ number ∷ []) × IsTarget target t × IsNumber number 4294967295 seq
-AreArguments args (command.Peer p t) =
-    (number : Bytes) × (target : Bytes) × (args ≡ number ∷ target ∷ []) × IsNumber number 65535 p × IsTarget target t
-AreArguments args (command.Base p t head state tx) =
-    (number : Bytes) × (target : Bytes) × (header : Bytes) × (parts : List Bytes) × (args ≡ number ∷ target ∷ header ∷ parts)
-    × IsNumber number 65535 p × IsTarget target t × IsBlob header head × AreParts parts state tx
-AreArguments args (command.Node p t kind path blob) =
-    (number : Bytes) × (target : Bytes) × (id : Bytes) × (word : Bytes) × (args ≡ number ∷ target ∷ codes "state" ∷ id ∷ word ∷ [])
-    × IsNumber number 65535 p × IsTarget target t × (kind ≡ State) × IsId id path × IsBlob word blob
-AreArguments args (command.Check t) = (target : Bytes) × (args ≡ target ∷ []) × IsTarget target t
-AreArguments args (command.Tick t) = (target : Bytes) × (args ≡ target ∷ []) × IsTarget target t
-AreArguments args _ = ⊥
-
--- a command's word and its arguments say the command
-abbrev pub CallSays : List Bytes → Command → Type 0
-CallSays [] c = ⊥
-CallSays (word ∷ args) c = (word ≡ word_of c) × AreArguments args c
 
 -- the words behind the actor name the line that is waited for, or none
 abbrev pub SaysAfter : List ℕ → List Bytes → ℕ → Type 0

@@ -1,11 +1,13 @@
 -- The lines of bytes, the words of a line, and what single words say.
-use Rattle.std.specs.Prelude.{◌≡◌, ◌⊎◌, ℕ, ◌+◌, ◌-◌, ◌*◌, ◌<◌, ◌≤◌, ◌==◌, if◌then◌else◌, List, [], ◌∷◌, length, nat_lt, IsTrue, Ok}
+use Rattle.std.specs.Prelude.{◌≡◌, ◌⊎◌, ℕ, ◌+◌, ◌-◌, ◌*◌, ◌<◌, ◌≤◌, ◌==◌, if◌then◌else◌, List, [], ◌∷◌, length, nat_lt, codes, IsTrue, Ok}
 use Rattle.std.specs.List.{list_all, filter}
 use Rattle.std.specs.Char.{is_ascii_digit}
 use Rattle.hex.specs.Hex.{decode_of}
 use Rattle.nib_path.specs.Paths.{IsPath, id_wire}
 use Rattle.half_hash.specs.Hex.{IsHexOf}
 use Rattle.ledger_spec.specs.Bytes.{Bytes, Hash, is_nonzero}
+use Rattle.ledger_spec.specs.declared.Kind.{Kind}
+use Rattle.ledger_spec.specs.declared.Kind.TheVariants.{State, Tx, Set}
 
 -- x before the first of the pieces
 abbrev pub onto_first : ℕ → List Bytes → List Bytes
@@ -48,6 +50,12 @@ pub record IsNumber (word : Bytes) (most n : ℕ) : Type 0 where
 pub record IsTarget (word : Bytes) (target : Hash) : Type 0 where
   pub digits : IsHexOf word target
   pub nonzero : IsTrue (is_nonzero target)
+
+-- the kind of a ledger's map: `state` or `tx`
+abbrev pub IsKind : Bytes → Kind → Type 0
+IsKind word State = word ≡ codes "state"
+IsKind word Tx = word ≡ codes "tx"
+IsKind word Set = ⊥
 
 -- bytes: two hexadecimal digits each, at least one byte, or `-` for none
 abbrev pub IsBlob : Bytes → Bytes → Type 0

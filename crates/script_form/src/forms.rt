@@ -4,7 +4,7 @@ ghost use Rattle.script_form.specs.declared.forms.Form.{Form};
 ghost use Rattle.script_form.specs.Commands.{word_in, arguments_in, IsWrong, HasWrong};
 
 use crate::cause::Cause;
-use crate::words::{blob_word, hash_word, id_text, id_word, is_text, number};
+use crate::words::{blob_word, hash_word, id_text, id_word, is_text, kind_word, number};
 use half_hash::Memory;
 use std::alloc::Global;
 
@@ -30,17 +30,19 @@ pub enum Form {
     Peer,
     Base,
     BaseState,
+    BaseTx,
     Node,
     Check,
     Tick,
 }
 
 /// All forms.
-const FORMS: [Form; 7] = [
+const FORMS: [Form; 8] = [
     Form::Want,
     Form::Peer,
     Form::Base,
     Form::BaseState,
+    Form::BaseTx,
     Form::Node,
     Form::Check,
     Form::Tick,
@@ -55,6 +57,14 @@ const BASE: [Argument; 3] = [Argument::Number(65_535), Argument::Target, Argumen
 const BASE_STATE: [Argument; 4] = [
     Argument::Number(65_535),
     Argument::Target,
+    Argument::Blob,
+    Argument::Blob,
+];
+
+const BASE_TX: [Argument; 5] = [
+    Argument::Number(65_535),
+    Argument::Target,
+    Argument::Blob,
     Argument::Blob,
     Argument::Blob,
 ];
@@ -81,6 +91,7 @@ impl Form {
             Form::Peer => is_text(word, b"peer"),
             Form::Base => is_text(word, b"base"),
             Form::BaseState => is_text(word, b"base"),
+            Form::BaseTx => is_text(word, b"base"),
             Form::Node => is_text(word, b"node"),
             Form::Check => is_text(word, b"check"),
             Form::Tick => is_text(word, b"tick"),
@@ -96,6 +107,7 @@ impl Form {
             Form::Peer => &PEER,
             Form::Base => &BASE,
             Form::BaseState => &BASE_STATE,
+            Form::BaseTx => &BASE_TX,
             Form::Node => &NODE,
             Form::Check => &CHECK,
             Form::Tick => &TICK,
@@ -189,7 +201,7 @@ fn kind_is_wrong(cause: Cause, word: &[u8]) -> bool
     ensures { MatchBool result (IsWrong cause Argument.Kind word.now) (IsWrong cause Argument.Kind word.now → ⊥) }
 {
     match cause {
-        Cause::BadKindOrId => !is_text(word, b"state"),
+        Cause::BadKindOrId => kind_word(word).is_none(),
         _ => false,
     }
 }

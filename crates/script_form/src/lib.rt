@@ -1,6 +1,7 @@
 //! The text of a script, read into its records and its lines: what a store begins with, and the commands.
 #![tactic(auto)]
 
+mod call;
 mod cause;
 mod digits;
 mod forms;
@@ -16,6 +17,7 @@ mod words;
 pub use cause::Cause;
 pub use forms::{Argument, Form};
 pub use judging::{MOST_COMMANDS, MOST_TEXT};
+pub use ledger_machine::{Command, Entry, Line, Record, Script};
 pub use script::{MOST_BYTES, ScriptFault, read_script};
 pub use store_line::{LineFault, record_of};
-pub use words::{blob_word, hash_word, id_word, number, words_of};
+pub use words::{blob_word, hash_word, id_word, kind_word, number, words_of};

@@ -10,7 +10,7 @@ use std::test::Fail;
 /// has; each line's number, actor and the line that it waits for; or the refused line and its cause. `T`
 /// is a hash, `Z` the zero hash, `I` the root's node ID, `_` 62 zeros, `%` 236 of them, `~` a newline, and
 /// `^` a byte that isn't printable.
-const READ: [(&str, &str); 31] = [
+const READ: [(&str, &str); 34] = [
     ("", ""),
     ("~  ~# x^x", "refused 3 1"),
     ("# T~~  0   check   T  ", "3 0 0;"),
@@ -22,6 +22,7 @@ const READ: [(&str, &str); 31] = [
         "0 base 1 T 00~0 base 1 T - fF~0 check T",
         "1 0 0;2 0 0;3 0 0;",
     ),
+    ("0 base 1 T 00 fF 01~0 node 1 T tx I -", "1 0 0;2 0 0;"),
     ("0 check T^~", "refused 1 1"),
     ("0 bogin^", "refused 1 1"),
     ("64 check T", "refused 1 3"),
@@ -35,7 +36,8 @@ const READ: [(&str, &str); 31] = [
     ("0 check T~0 after 1", "refused 2 5"),
     ("0 check T~0 after 1 after 1 begin", "refused 2 5"),
     ("0 want T", "refused 1 6"),
-    ("0 base x T - - -", "refused 1 6"),
+    ("0 base x T - - - -", "refused 1 6"),
+    ("0 base x T - - -", "refused 1 7"),
     ("0 want T +7", "refused 1 7"),
     ("0 want Z 4294967296", "refused 1 7"),
     ("0 node 65536 x tx x x", "refused 1 7"),
@@ -43,7 +45,8 @@ const READ: [(&str, &str); 31] = [
     ("0 want T1 1", "refused 1 8"),
     ("0 node 1 Z state I 0", "refused 1 8"),
     ("0 node 1 T tx 00 -", "refused 1 8"),
-    ("0 node 1 T tx I -", "refused 1 9"),
+    ("0 node 1 T txs I -", "refused 1 9"),
+    ("0 node 1 T set I -", "refused 1 9"),
     ("0 node 1 Z state T00 -", "refused 1 9"),
     ("0 node 1 Z state I -", "refused 1 10"),
     ("0 want Z 1", "refused 1 10"),

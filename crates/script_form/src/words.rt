@@ -1,12 +1,14 @@
 //! The words of a line, and what single words say.
 ghost use Rattle.std.specs.Prelude.{◌≡◌, ◌≢◌, ◌≤◌, ◌<◌, ◌∷◌, ◌^◌, ℕ, List, Ok, length, map, slice_index, IfOk, MatchBool, MatchOption};
 ghost use Rattle.half_hash.specs.Hex.{IsHexOf};
-ghost use Rattle.script_form.specs.Words.{words_of as text_words, IsNumber, IsTarget, IsBlob, IsId, IsIdText, decimal_behind};
+ghost use Rattle.ledger_spec.specs.declared.Kind.{Kind};
+ghost use Rattle.script_form.specs.Words.{words_of as text_words, IsNumber, IsTarget, IsKind, IsBlob, IsId, IsIdText, decimal_behind};
 
 use crate::digits::decode;
 use half_hash::{Blob, Hash32, Memory};
 use memchr::memchr;
 use nib_path::NodeId;
+use shamap_node::Kind;
 use std::alloc::Global;
 
 /// Where the first separator stands, or the end.
@@ -98,6 +100,19 @@ pub(crate) fn id_text(word: &[u8]) -> Option<[u8; 33]>
         return None;
     }
     Some(bytes)
+}
+
+/// The kind of a ledger's map.
+pub fn kind_word(word: &[u8]) -> Option<Kind>
+    ensures { MatchOption result ((kind : Kind) → IsKind word.now kind → ⊥) (IsKind word.now) }
+{
+    if is_text(word, b"state") {
+        return Some(Kind::State);
+    }
+    if is_text(word, b"tx") {
+        return Some(Kind::Tx);
+    }
+    None
 }
 
 /// The node ID of 66 hexadecimal digits, its wire form.

@@ -411,19 +411,20 @@ next_found lines from i a lt none actor = record {
       ∙ ap (λ (w : List ℕ). numbers_of a (take from lines) ++ w) none ∙ append-nil (numbers_of a (take from lines));
 }
 
--- the same place, found in a copy of the lines
-pub moved : (lines ls : List Line) (cursors : List ℕ) (from a at : ℕ) → ls ≡ lines → from ≡ get_or cursors a from → a < length cursors
-    → IsNext ls from a at → IsNext lines (slice_index cursors a) a at
-moved lines ls cursors from a at same start lt next =
-    let e : from ≡ slice_index cursors a = get_or_read cursors a from lt start 0 in
+-- the actor's next line, found in a copy of the lines from its cursor on
+pub moved : {lines ls : List Line} (cursors : List ℕ) {from a len held at : ℕ} → ls ≡ lines → from ≡ get_or cursors a from
+    → held ≡ length cursors → len ≡ held → a < len → IsNext ls from a at → IsNext lines (slice_index cursors a) a at
+moved {lines} cursors {from} {a} {len} {held} {at} same start whole size lt next =
+    let e : from ≡ slice_index cursors a = get_or_read cursors a from (omega (arith, whole, size, lt)) start 0 in
     let P : List Line → Type 0 = λ w. IsNext w from a at in
     let Q : ℕ → Type 0 = λ n. IsNext lines n a at in
     subst Q e (subst P same next)
 
-pub moved_end : (lines ls : List Line) (cursors : List ℕ) (from a : ℕ) → ls ≡ lines → from ≡ get_or cursors a from → a < length cursors
-    → numbers_of a (drop from ls) ≡ [] → numbers_of a (drop (slice_index cursors a) lines) ≡ []
-moved_end lines ls cursors from a same start lt none =
-    let e : from ≡ slice_index cursors a = get_or_read cursors a from lt start 0 in
+-- and that there is none
+pub moved_end : {lines ls : List Line} (cursors : List ℕ) {from a len held : ℕ} → ls ≡ lines → from ≡ get_or cursors a from
+    → held ≡ length cursors → len ≡ held → a < len → numbers_of a (drop from ls) ≡ [] → numbers_of a (drop (slice_index cursors a) lines) ≡ []
+moved_end {lines} cursors {from} {a} same start whole size lt none =
+    let e : from ≡ slice_index cursors a = get_or_read cursors a from (omega (arith, whole, size, lt)) start 0 in
     ap (λ (n : ℕ). numbers_of a (drop n lines)) (sym e) ∙ ap (λ (w : List Line). numbers_of a (drop from w)) (sym same) ∙ none
 
 -- what a loop over the lines from a place on reads

@@ -3,6 +3,7 @@ use Rattle.std.proofs.Common.{refl, sym, arith}
 use Rattle.ledger_header.proofs.Joined.{joined}
 use Rattle.ledger_header.proofs.header_in.Goals as goal
 
+-- the nine fields are read from places that lie side by side and fill all 118 bytes, so joined again they are the bytes
 pub returns-clause-exact : goal.returns-clause-exact
 returns-clause-exact c =
     joined _ c.args.bytes.now (λ i. omega (arith, c.type_inv.bytes i)) c.requires (record {

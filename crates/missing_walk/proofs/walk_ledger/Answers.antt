@@ -18,6 +18,7 @@ returns-in_default-clause-found g c tells =
     refl (sym c.in_default.is ∙ c.in_ok-form.ensures.form tells)
     (c.in_ok-add_missing.ensures.seen ∙ ap (λ s. noted s (lacks Header)) c.requires.open)
 
+-- a header is held under the target, so all that is found of the ledger is found in the two maps whose roots it names
 pub returns-in-Some-from_form-clause-found : goal.returns-in-Some-from_form-clause-found
 returns-in-Some-from_form-clause-found g c tells =
     sound_header g.H.NodeHash.half (own_forms g.H.NodeHash.half (map.get (nodes_of c.args.store.now))) c.args.target.now nothing_seen _
@@ -28,6 +29,7 @@ returns-in-Some-from_form-clause-found g c tells =
     ∙ ap (λ s. sees s (found_in_maps g.H.NodeHash.half (own_forms g.H.NodeHash.half (map.get (nodes_of c.args.store.now)))
     (header_bytes (fields c.in-Some-from_form.header)))) c.requires.open)
 
+-- what is held under the target is no header, so the one finding is a header that is broken as foreign
 pub returns-clause-found : goal.returns-clause-found
 returns-clause-found g c tells =
     foreign_header g.H.NodeHash.half (own_forms g.H.NodeHash.half (map.get (nodes_of c.args.store.now))) c.args.target.now nothing_seen _

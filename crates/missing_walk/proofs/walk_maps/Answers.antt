@@ -11,6 +11,7 @@ use Rattle.missing_walk.proofs.Ledgers.{walked_maps}
 use Rattle.missing_walk.proofs.Parts.{walks_after}
 use Rattle.missing_walk.proofs.walk_maps.Goals as goal
 
+-- the state map's findings come first, and as the store was only read, those of the transaction map are of the same nodes
 pub returns-clause-walks : goal.returns-clause-walks
 returns-clause-walks g c =
     let second : Walks g.Sh.B.Backend.tells g.H.NodeHash.half c.args.store.now c.walk-2.new.store c.walk.new.found c.walk-2.new.found

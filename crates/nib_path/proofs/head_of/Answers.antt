@@ -2,6 +2,7 @@ use Rattle.std.proofs.Common.{◌≤◌, ◌/◌, arith}
 use Rattle.nib_path.proofs.Places.{head-start, head-odd, head-even}
 use Rattle.nib_path.proofs.head_of.Goals as goal
 
+-- an odd depth ends within a byte, so the last nibble is set behind those of the whole bytes
 pub returns-then-depth-eq1 : goal.returns-then-depth-eq1
 returns-then-depth-eq1 c =
     let within : c.args.depth / 2 ≤ 32 = omega arith in

@@ -4,6 +4,7 @@ use Rattle.nib_path.specs.Paths.{nibbles}
 use Rattle.nib_path.proofs.Nibbles.{nibbles-high, nibbles-low}
 use Rattle.nib_path.proofs.nibble.Goals as goal
 
+-- each byte has two nibbles, the high one first, so an even one is the high half of byte i / 2
 pub returns-then-i-eq0-clause-value : goal.returns-then-i-eq0-clause-value
 returns-then-i-eq0-clause-value c =
     let e : c.args.i ≡ 2 * (c.args.i / 2) = omega arith in
@@ -11,6 +12,7 @@ returns-then-i-eq0-clause-value c =
     ap (slice_index (nibbles c.args.key.now)) e in
     sym (f ∙ nibbles-high c.args.key.now (c.args.i / 2))
 
+-- each byte has two nibbles, the high one first, so an odd one is the low half of byte i / 2
 pub returns-else-i-eq0-clause-value : goal.returns-else-i-eq0-clause-value
 returns-else-i-eq0-clause-value c =
     let e : c.args.i ≡ suc (2 * (c.args.i / 2)) = omega arith in

@@ -5,6 +5,7 @@ use Rattle.nib_path.proofs.Nibbles.{nibbles-set_high, nibbles-set_low}
 use Rattle.nib_path.proofs.set_nibble.Goals as goal
 use Rattle.nib_path.proofs.set_nibble.Goals.{then-i-eq0, else-i-eq0}
 
+-- an even nibble is the high half of its byte and an odd one the low half, and the other half stays as it is
 pub returns : goal.returns
 returns c =
     elim c.if-i-eq0.branch [

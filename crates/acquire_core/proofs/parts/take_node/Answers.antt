@@ -5,6 +5,7 @@ use Rattle.acquire_core.specs.Answers.{forms_in}
 use Rattle.acquire_core.proofs.Judging.{node_kept, bytes_by, one_part, clash_stores}
 use Rattle.acquire_core.proofs.parts.take_node.Goals as goal
 
+-- the offer gives the node's outcome and stores its form where that says so; a clash stores nothing
 pub returns-clause-answer : goal.returns-clause-answer
 returns-clause-answer g c tells all =
     one_part g.H.NodeHash.half (node_outcome g.H.NodeHash.half (forms_in c.args.store.now) c.args.target.now c.args.kind c.args.id.now

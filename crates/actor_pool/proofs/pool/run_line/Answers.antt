@@ -5,6 +5,7 @@ use Rattle.actor_pool.specs.Order.{AreAnswered}
 use Rattle.actor_pool.proofs.Order.{first_next, first_left, first_free, first_more, no_other, read_line}
 use Rattle.actor_pool.proofs.pool.run_line.Goals as goal
 
+-- all lines before it have their entries, so this is its actor's next line, and the one that it waits for is answered
 pub unreachable-requires : goal.unreachable-requires
 unreachable-requires g c =
     let core = c.args.core.now in
@@ -17,6 +18,7 @@ unreachable-requires g c =
     (λ e. first_left core.lines core.journal c.script.ensures.servable c.journal.ensures.kept.projects c.journal.ensures.kept.known
     c.args.at line c.requires.within is c.requires.before left (c.step.ensures.finished.0 e))
 
+-- the actor's next line was answered, and that is this one, so the lines up to and with it have their entries
 pub returns-clause-answered : goal.returns-clause-answered
 returns-clause-answered g c =
     let core = c.args.core.now in

@@ -3,6 +3,7 @@ use Rattle.actor_pool.specs.Order.{AreAnswered}
 use Rattle.actor_pool.proofs.Order.{answered_full}
 use Rattle.actor_pool.proofs.pool.run_rest.Goals as goal
 
+-- the loop has gone over every line, so each has its entry
 pub returns-clause-full : goal.returns-clause-full
 returns-clause-full g c =
     let P : ℕ → Type 0 = λ n. AreAnswered c.loop-at.core.lines c.loop-at.core.journal n in

@@ -26,6 +26,7 @@ three_servable a b d actor_a actor_b actor_d first second third free_a after_b a
       few = omega arith;
     }
 
+-- three wants of known actors, numbered in order, each but the first waiting for the one before, so a core takes them
 pub returns : goal.returns
 returns c =
     let a = c.want.ensures in

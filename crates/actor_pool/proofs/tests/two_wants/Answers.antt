@@ -20,6 +20,7 @@ two_servable a b actor_a actor_b first second free_a free_b served_a served_b ra
   few = omega arith;
 }
 
+-- two lines of known actors, numbered 1 and 2, each want a ledger and wait for nothing, so a core takes them
 pub returns : goal.returns
 returns c =
     let a = c.want.ensures in

@@ -1,6 +1,7 @@
 use Rattle.cow_build.proofs.Cuts.{cut_more}
 use Rattle.cow_build.proofs.cut.cut.Goals as goal
 
+-- the keys rise, so all that have this first nibble stand in front, and behind them the nibbles are greater
 pub loop-b-preserved : goal.loop-b-preserved
 loop-b-preserved c =
     let front = rw c.deref.ensures.value at c.front_len-n.ensures.front in

@@ -9,6 +9,7 @@ gather-requires g c =
     let long = maps_long c.in_ok-maps.maps.items c.in_ok-parts.parts.items c.in_ok-maps.ensures.stands in
     omega (arith, long, c.in_ok-parts.ensures.sixteen, c.in_ok-parts.parts.ok.0, c.in_ok-maps.maps.ok.0)
 
+-- the parts' maps are gathered by first nibbles, and the parts one behind the other are all the sorted items
 pub returns-clause-stands : goal.returns-clause-stands
 returns-clause-stands g c =
     let sorted = c.order.new.items.items in

@@ -15,6 +15,7 @@ returns-in-None-clause-once c key =
     c.in_ok-key.ensures key in
     omega (arith, once, times_moved c.args.items.now.items c.sort.new.items.items key c.in_ok-sort.ensures.permutation)
 
+-- sorting moves items but keeps how often each key stands, so the least repeated key is also that of the items given
 pub returns-in-Some-clause-repeated : goal.returns-in-Some-clause-repeated
 returns-in-Some-clause-repeated c = λ key e.
     let found = some_found c.sort.new.items.items c.deref.result.now c.in_ok-key.field-0 c.in-Some.key c.deref.ensures.value c.in-Some.is

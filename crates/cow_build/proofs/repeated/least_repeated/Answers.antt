@@ -3,6 +3,7 @@ use Rattle.std.specs.Prelude.{is_some}
 use Rattle.cow_build.proofs.Repeats.{seen_more, seen_all}
 use Rattle.cow_build.proofs.repeated.least_repeated.Goals as goal
 
+-- a key that was in the map before stands twice now, and it is the least such if it is less than the least so far
 pub loop-item-preserved : goal.loop-item-preserved
 loop-item-preserved c =
     let i = c.loop-item.item-index in

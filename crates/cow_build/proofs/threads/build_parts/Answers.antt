@@ -1,6 +1,7 @@
 use Rattle.cow_build.proofs.Joined.{builds_more}
 use Rattle.cow_build.proofs.threads.build_parts.Goals as goal
 
+-- the lists at the front of the rest were built in their order, and their maps stand behind those built before
 pub loop-alloc-preserved : goal.loop-alloc-preserved
 loop-alloc-preserved g c =
     builds_more c.args.kind c.args.parts.items c.loop-alloc.rest.items c.split_off.new.self.items c.in_ok-behind.behind.items

@@ -4,6 +4,7 @@ use Rattle.cow_map.specs.Trees.{StandsFor}
 use Rattle.cow_build.proofs.Joined.{each_stands, all_at_places, told_at, same_length}
 use Rattle.cow_build.proofs.threads.build_side_by_side.Goals as goal
 
+-- each map is the answer of one job, and a job answers with a map of this kind
 pub returns-clause-kinds : goal.returns-clause-kinds
 returns-clause-kinds g c =
     let built = c.in_ok-built.built.items in
@@ -20,6 +21,7 @@ returns-clause-kinds g c =
     (λ i m lt. told_at _ built maps i m (sym c.in_ok-maps.ensures)
     ((c.in_ok-built.ensures.each i (Ok m) (omega (arith, long))).1.call.met.0))
 
+-- the map at a place is the answer of the job that got the list at this place, so it stands for that list's items
 pub returns-clause-stands : goal.returns-clause-stands
 returns-clause-stands g c =
     let built = c.in_ok-built.built.items in

@@ -11,6 +11,7 @@ returns-in_err-look-clause-way g t c tells =
     let p = err_from_is_err_and c.from_residual.result c.from_residual.ensures.1 in
     rw (p.1, p.2) (way_stops _ _ _ _ _ _ _ _ (Option Bytes) _ _ (c.in_err-look.ensures.seen tells))
 
+-- an inner node stops no one, so what stops the read below the key's branch is the first thing on the way
 pub returns-in_err-get_at-in-Inner-clause-way : goal.returns-in_err-get_at-in-Inner-clause-way
 returns-in_err-get_at-in-Inner-clause-way g t c tells =
     let p = err_from_is_err_and c.from_residual-in_err-get_at-in-Inner.result c.from_residual-in_err-get_at-in-Inner.ensures.1 in
@@ -33,6 +34,7 @@ returns-in-Nothing-clause-way g t c tells =
     let shown = rw c.in-Nothing.is at (c.in_ok-look.ensures.seen tells) in
     way_none _ _ _ _ _ _ _ _ _ shown
 
+-- the leaf is the only entry here, so its data is the answer just where its key is the one that is asked for
 pub returns-in-Leaf-clause-gets : goal.returns-in-Leaf-clause-gets
 returns-in-Leaf-clause-gets g t c tells =
     let shown = rw c.in-Leaf.is at (c.in_ok-look.ensures.seen tells) in
@@ -45,6 +47,7 @@ returns-in-Leaf-clause-way g t c tells =
     let shown = rw c.in-Leaf.is at (c.in_ok-look.ensures.seen tells) in
     way_one _ _ _ _ _ _ _ _ _ c.in-Leaf.own c.in-Leaf.«data» shown
 
+-- an entry with the key can stand below its nibble's branch alone, so what is found there is all there is of it
 pub returns-in_ok-get_at-in-Inner-clause-gets : goal.returns-in_ok-get_at-in-Inner-clause-gets
 returns-in_ok-get_at-in-Inner-clause-gets g t c tells =
     let shown = rw c.in-Inner.is at (c.in_ok-look.ensures.seen tells) in
@@ -56,6 +59,7 @@ returns-in_ok-get_at-in-Inner-clause-gets g t c tells =
     placed.0 c.toward-b.ensures.small (c.toward-b.ensures.under c.requires.under) c.below.ensures c.get.ensures
     (c.in_ok-get_at-in-Inner.ensures.gets tells)
 
+-- the inner node is passed, and nothing stopped the read below the key's branch, so nothing is in the way
 pub returns-in_ok-get_at-in-Inner-clause-way : goal.returns-in_ok-get_at-in-Inner-clause-way
 returns-in_ok-get_at-in-Inner-clause-way g t c tells =
     let shown = rw c.in-Inner.is at (c.in_ok-look.ensures.seen tells) in

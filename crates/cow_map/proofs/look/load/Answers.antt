@@ -12,6 +12,7 @@ returns-in-Ok-clause-node g c tells =
     seen_fits _ _ _ _ (form_of (held c.in-Ok-Some.node.value)) f.0 (f.1, refl)
     (ap (λ n. fault_of (held n) None c.args.kind c.args.id.now) (sym c.deref.ensures) ∙ sym (c.in-Ok.ensures))
 
+-- the source holds the node under this hash, and the rule that it breaks at this place is what is found there
 pub returns-in-Err-clause-stops : goal.returns-in-Err-clause-stops
 returns-in-Err-clause-stops g c tells =
     let f = rw c.in-Ok-Some.field-0-is at (c.in-Ok-Some.ensures.exact tells) in (

@@ -25,6 +25,7 @@ returns-in-Leaf-clause-seen c =
 pub returns-in-Leaf-clause-placed : goal.returns-in-Leaf-clause-placed
 returns-in-Leaf-clause-placed c = c.own_leaf.ensures.placed (length c.args.arena.now)
 
+-- the place isn't at the bottom, and an inner node of the list has sixteen links, all to lower places
 pub returns-in_ok-copy-in-Inner-clause-placed : goal.returns-in_ok-copy-in-Inner-clause-placed
 returns-in_ok-copy-in-Inner-clause-placed c =
     let at : slice_get c.args.arena.now c.args.at ≡ Some (inner c.in-Inner.links) = c.get.ensures

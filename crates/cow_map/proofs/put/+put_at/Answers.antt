@@ -12,6 +12,7 @@ returns-in_err-look-clause-way g t c tells =
     let p = err_from_is_err_and c.from_residual.result c.from_residual.ensures.1 in
     rw (p.1, p.2) (way_stops _ _ _ _ _ _ _ _ Link _ _ (c.in_err-look.ensures.seen tells))
 
+-- an inner node stops no one, so what stops the put below the key's branch is the first thing on the way
 pub returns-in_err-next-in-Inner-clause-way : goal.returns-in_err-next-in-Inner-clause-way
 returns-in_err-next-in-Inner-clause-way g t c tells =
     let p = err_from_is_err_and c.from_residual-in_err-next-in-Inner.result c.from_residual-in_err-next-in-Inner.ensures.1 in
@@ -24,6 +25,7 @@ returns-in_err-next-in-Inner-clause-way g t c tells =
     placed.0 (c.toward-b.ensures.value ∙ ap (λ k. nibble_of k (length c.args.id.now)) c.key.ensures)
     shown c.below.ensures c.get.ensures c.is_only.ensures) (c.in_err-next-in-Inner.ensures.way tells))
 
+-- the links that stay name nodes that were there before, and the new one none beyond those that the put below has made
 pub push_inner-requires : goal.push_inner-requires
 push_inner-requires g t c =
     let placed = rw c.in-Inner.is at c.in_ok-look.ensures.placed in
@@ -31,6 +33,7 @@ push_inner-requires g t c =
     c.toward-b.result c.in_ok-next-in-Inner.next c.in_ok-next-in-Inner.ensures.grows.1 placed.2 c.in_ok-next-in-Inner.ensures.below
     c.with.ensures
 
+-- where nothing is found the link stood for no entry, so with the item set there is the planted leaf's alone
 pub returns-in-Nothing-clause-sets : goal.returns-in-Nothing-clause-sets
 returns-in-Nothing-clause-sets g t c tells =
     let shown = rw c.in-Nothing.is at (c.in_ok-look.ensures.seen tells) in
@@ -43,6 +46,7 @@ returns-in-Nothing-clause-way g t c tells =
     let shown = rw c.in-Nothing.is at (c.in_ok-look.ensures.seen tells) in
     way_none _ _ _ _ _ _ _ _ _ shown
 
+-- the link stood for the one entry of the leaf, and the item comes in its place or beside it
 pub returns-in-Leaf-clause-sets : goal.returns-in-Leaf-clause-sets
 returns-in-Leaf-clause-sets g t c tells =
     let shown = rw c.in-Leaf.is at (c.in_ok-look.ensures.seen tells) in
@@ -57,6 +61,7 @@ returns-in-Leaf-clause-way g t c tells =
     let shown = rw c.in-Leaf.is at (c.in_ok-look.ensures.seen tells) in
     way_one _ _ _ _ _ _ _ _ _ c.in-Leaf.key c.in-Leaf.field-1 shown
 
+-- the item's key lies under one branch, so setting it there sets it in the whole, and the other branches hold what they held
 pub returns-clause-sets : goal.returns-clause-sets
 returns-clause-sets g t c tells =
     let shown = rw c.in-Inner.is at (c.in_ok-look.ensures.seen tells) in
@@ -74,6 +79,7 @@ returns-clause-sets g t c tells =
     c.below.ensures c.get.ensures c.with.ensures c.in_ok-push_inner-in-Inner.ensures.ok.0 c.in_ok-push_inner-in-Inner.ensures.ok.1
     (c.in_ok-next-in-Inner.ensures.sets tells)
 
+-- the inner node is passed, and nothing stopped the put below the key's branch, so nothing is in the way
 pub returns-clause-way : goal.returns-clause-way
 returns-clause-way g t c tells =
     let shown = rw c.in-Inner.is at (c.in_ok-look.ensures.seen tells) in

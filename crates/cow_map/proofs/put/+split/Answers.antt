@@ -6,6 +6,7 @@ use Rattle.cow_map.proofs.Results.{ok_map}
 use Rattle.cow_map.proofs.Planting.{two_entries}
 use Rattle.cow_map.proofs.put.+split.Goals as goal
 
+-- both keys take this branch, so an inner node with it alone holds the two entries that stand below, which are enough
 pub returns-clause-stands : goal.returns-clause-stands
 returns-clause-stands t c =
     ok_map c.above.result _ _ c.above.ensures.stands (λ link done half stored kind bytes leads.

@@ -8,6 +8,7 @@ use Rattle.cow_map.proofs.Planting.{below_set, none_below, above_done}
 use Rattle.cow_map.proofs.Results.{ok_map}
 use Rattle.cow_map.proofs.put.above.Goals as goal
 
+-- fifteen links lead nowhere, and the one that is set leads into the list
 pub push_inner-requires : goal.push_inner-requires
 push_inner-requires c =
     subst (λ (ls : List Link). (b : ℕ) → IsBelow (length c.args.arena.now) (slice_index_or ls b Empty))
@@ -15,6 +16,7 @@ push_inner-requires c =
     (below_set (length c.args.arena.now) (replicate 16 Empty) c.args.b c.args.next.now (none_below (length c.args.arena.now) 16)
     c.requires.below)
 
+-- the other branches are empty, so the inner node holds what its one branch holds
 pub returns-clause-stands : goal.returns-clause-stands
 returns-clause-stands c =
     ok_map c.push_inner.result _ _ c.push_inner.ensures.ok (λ link ok half stored kind items enough stands.

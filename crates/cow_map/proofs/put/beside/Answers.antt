@@ -6,6 +6,7 @@ use Rattle.cow_map.proofs.Putting.{same_entry}
 use Rattle.cow_map.proofs.Results.{ok_map}
 use Rattle.cow_map.proofs.put.beside.Goals as goal
 
+-- the old leaf has the item's key, so the item takes the place of its entry, and one leaf holds it
 pub returns-then-equals-clause-stands : goal.returns-then-equals-clause-stands
 returns-then-equals-clause-stands c =
     ok_map c.push_leaf.result _ _ c.push_leaf.ensures.ok (λ link ok half stored kind bytes leads.

@@ -15,6 +15,7 @@ own_last : (before after : List Body) (body : Body) (link : Link) → after ≡ 
 own_last before after body link e at =
     subst (IsBelow (length after)) (sym at) (omega (arith, ap length e, length-append before (body ∷ [])))
 
+-- one link is the old one, one leads to the leaf just pushed, and the others lead nowhere, so all name nodes of the list
 pub push_inner-requires : goal.push_inner-requires
 push_inner-requires c =
     pair_below (length c.args.arena.now) (length c.push_leaf.new.self) c.args.a c.args.b c.args.old.now c.in_ok-leaf.leaf
@@ -24,6 +25,7 @@ push_inner-requires c =
     (c.with.ensures ∙ ap (λ ls. slice_set ls c.args.a c.args.old.now) c.in_ok-none.ensures))
     (one_more _ _ _ c.in_ok-leaf.ensures.ok.1) c.requires.below (own_last _ _ _ _ c.in_ok-leaf.ensures.ok.1 c.in_ok-leaf.ensures.ok.0)
 
+-- the keys go different ways from here, so each of two branches holds one entry, and two are enough for an inner node
 pub returns-clause-stands : goal.returns-clause-stands
 returns-clause-stands c =
     ok_map c.push_inner.result _ _ c.push_inner.ensures.ok (λ link ok half stored kind key bytes apart under leads.

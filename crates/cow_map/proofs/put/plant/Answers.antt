@@ -18,6 +18,7 @@ returns-then-depth-gt0-clause-stands c =
     leaf_done half stored kind c.args.arena.now c.push_leaf.new.self _ c.args.id.now link c.args.item.key c.args.item.value ok.0 ok.1
     c.args.item.valid (above_zero _ c.depth.result c.depth.ensures c.if-depth-gt0.true) c.requires)
 
+-- at the root an inner node needs one item only, and the leaf below it on the way to the key has that
 pub returns-clause-stands : goal.returns-clause-stands
 returns-clause-stands c =
     ok_map c.above.result _ _ c.above.ensures.stands (λ link done half stored kind.

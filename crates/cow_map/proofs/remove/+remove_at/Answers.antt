@@ -17,6 +17,7 @@ returns-in-Nothing-clause-removes g t c tells =
     none_removes g.H.NodeHash.half (map.get (g.S.NodeSource.stored c.args.source.now)) c.args.kind c.args.arena.now c.args.id.now
     c.args.link.now c.args.key.now (64 - length c.args.id.now) (lone_none c.args.lone c.args.id.now _ shown)
 
+-- the leaf is the only entry, so with its key nothing is left, and any other key isn't there
 pub returns-in-Leaf-clause-removes : goal.returns-in-Leaf-clause-removes
 returns-in-Leaf-clause-removes g t c tells =
     let shown = rw c.in-Leaf.is at (c.in_ok-look.ensures.seen tells) in
@@ -24,6 +25,7 @@ returns-in-Leaf-clause-removes g t c tells =
     c.args.link.now c.args.key.now (64 - length c.args.id.now) c.in-Leaf.own c.in-Leaf.field-1 c.if_same.result
     (lone_one c.args.lone c.args.id.now _ _ _ shown) c.if_same.ensures
 
+-- the key could stand below its nibble's branch alone, and it isn't there
 pub returns-in-None-clause-removes : goal.returns-in-None-clause-removes
 returns-in-None-clause-removes g t c tells =
     let shown = rw c.in-Inner.is at (c.in_ok-look.ensures.seen tells) in
@@ -37,6 +39,7 @@ returns-in-None-clause-removes g t c tells =
     c.remove_at.new.arena (64 - length c.below-place.result) c.below-place.result c.get.result c.args.key.now) c.in-None.is
     (c.in_ok-next-in-Inner.ensures.removes tells)) c.args.arena.now
 
+-- the links that stay name nodes that were there before, and the new one none beyond those that the call below has made
 pub settle-requires-clause-below : goal.settle-requires-clause-below
 settle-requires-clause-below g t c κs within =
     let placed = rw c.in-Inner.is at c.in_ok-look.ensures.placed in
@@ -56,6 +59,7 @@ returns-clause-grows g t c =
     grows_both c.args.arena.now c.remove_at.new.arena c.settle.new.arena c.args.id.now c.below-place.result c.toward-b.result placed.0
     c.below-place.ensures c.in_ok-next-in-Inner.ensures.grows c.settle.ensures.grows
 
+-- the key goes from the entries of its branch, and what all branches then hold settles in the node's place
 pub returns-clause-removes : goal.returns-clause-removes
 returns-clause-removes g t c tells =
     let shown = rw c.in-Inner.is at (c.in_ok-look.ensures.seen tells) in
@@ -118,6 +122,7 @@ returns-in_err-next-in-Inner-clause-way g t c tells =
     c.args.arena.now c.args.id.now c.below-place.result c.get.result c.args.key.now c.is_only.result c.toward-b.result c.in-Inner.links
     c.in_err-next-in-Inner.field-0.0 (c.in_err-next-in-Inner.ensures.way tells)))
 
+-- nothing stopped the call below, and no leaf of the key went, so one looks at nothing beside it
 pub returns-in-None-clause-way : goal.returns-in-None-clause-way
 returns-in-None-clause-way g t c tells =
     let shown = rw c.in-Inner.is at (c.in_ok-look.ensures.seen tells) in
@@ -156,6 +161,7 @@ returns-in_err-left-in-Some-clause-way g t c tells =
     rw (p.1, p.2) (goes_same (Option Link) (Err c.in_err-left-in-Some.field-0.0) _ _ (step ∙ left)
     (c.in_err-left-in-Some.ensures.way tells))
 
+-- nothing stopped the call below, and nothing the look at what is left beside the leaf
 pub returns-clause-way : goal.returns-clause-way
 returns-clause-way g t c tells =
     let leaves = rw c.in-Some.is at (c.in_ok-next-in-Inner.ensures.leaves tells) in
@@ -176,6 +182,7 @@ returns-clause-way g t c tells =
     (c.in_ok-next-in-Inner.ensures.way tells) leaves in
     step ∙ left ∙ c.in_ok-left-in-Some.ensures.way tells
 
+-- the key's leaf was not alone below the root, so something is left of the inner node, and settling leaves it sound
 pub returns-clause-leaves : goal.returns-clause-leaves
 returns-clause-leaves g t c tells =
     let shown = rw c.in-Inner.is at (c.in_ok-look.ensures.seen tells) in

@@ -11,6 +11,7 @@ use Rattle.cow_map.proofs.Maps.{positive}
 use Rattle.cow_map.proofs.Putting.{goes_same}
 use Rattle.cow_map.proofs.remove.one_left.Goals as goal
 
+-- at the root one item is enough for an inner node, and the one link that leads anywhere has one below it
 pub returns-then-depth-eq0-clause-stands : goal.returns-then-depth-eq0-clause-stands
 returns-then-depth-eq0-clause-stands g c tells small sub =
     settles_by g.H.NodeHash.half small c.args.kind c.args.arena.now (63 - length c.args.id.now) c.args.id.now c.args.links
@@ -19,6 +20,7 @@ returns-then-depth-eq0-clause-stands g c tells small sub =
     (root_enough g.H.NodeHash.half small c.args.kind c.args.arena.now (63 - length c.args.id.now) c.args.id.now c.args.links c.args.b
     c.requires.only (sym c.depth.ensures ∙ c.if-depth-eq0.true) c.requires.below)
 
+-- the leaf's item is all that is left, and this place lies on the way to its key too, so the leaf moves up
 pub returns-then-branch-clause-stands : goal.returns-then-branch-clause-stands
 returns-then-branch-clause-stands g c tells small sub =
     let N = map.get (g.S.NodeSource.stored c.args.source.now) in
@@ -32,6 +34,7 @@ returns-then-branch-clause-stands g c tells small sub =
     (leaf_settles g.H.NodeHash.half small c.args.kind c.args.arena.now (63 - length c.args.id.now) c.args.id.now c.args.links c.args.b
     c.requires.only N sub leaf.0 leaf.1 found (positive _ c.depth.result c.depth.ensures c.if-depth-eq0.false))
 
+-- the one link leads somewhere but to no leaf, so to an inner node, whose two items are enough for one here
 pub returns-clause-stands : goal.returns-clause-stands
 returns-clause-stands g c tells small sub =
     let N = map.get (g.S.NodeSource.stored c.args.source.now) in
@@ -60,6 +63,7 @@ returns-in_err-is_leaf-clause-way g c tells =
     (positive _ c.depth.result c.depth.ensures c.if-depth-eq0.false) c.below.ensures c.get-link.ensures)
     (c.in_err-is_leaf.ensures.way tells))
 
+-- below the root one looks at the only branch left, and the look that saw the leaf wasn't stopped
 pub returns-then-branch-clause-way : goal.returns-then-branch-clause-way
 returns-then-branch-clause-way g c tells =
     left_at g.H.NodeHash.half (map.get (g.S.NodeSource.stored c.args.source.now)) c.args.kind c.args.arena.now c.args.id.now
@@ -67,6 +71,7 @@ returns-then-branch-clause-way g c tells =
     (positive _ c.depth.result c.depth.ensures c.if-depth-eq0.false) c.below.ensures c.get-link.ensures
     ∙ c.in_ok-is_leaf.ensures.way tells
 
+-- this place is below the root and on the way to the leaf's key, so the leaf breaks no rule here
 pub returns-then-branch-clause-sound : goal.returns-then-branch-clause-sound
 returns-then-branch-clause-sound g c tells =
     let N = map.get (g.S.NodeSource.stored c.args.source.now) in
@@ -75,6 +80,7 @@ returns-then-branch-clause-sound g c tells =
     leaf_sound g.H.NodeHash.half N c.args.kind c.args.arena.now c.args.id.now c.below.result c.args.b c.get-link.result leaf.0 leaf.1
     leaf.2 c.below.ensures leaf.3 (positive _ c.depth.result c.depth.ensures c.if-depth-eq0.false)
 
+-- below the root one looks at the only branch left, and the look that saw no leaf wasn't stopped either
 pub returns-clause-way : goal.returns-clause-way
 returns-clause-way g c tells =
     left_at g.H.NodeHash.half (map.get (g.S.NodeSource.stored c.args.source.now)) c.args.kind c.args.arena.now c.args.id.now

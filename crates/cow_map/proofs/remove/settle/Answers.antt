@@ -9,6 +9,7 @@ returns-in-Nowhere-clause-stands g c tells small sub =
     nowhere_settles g.H.NodeHash.half small c.args.kind c.args.arena.now (63 - length c.args.id.now) c.args.id.now c.args.links
     c.in-Nowhere.ensures
 
+-- two links lead somewhere and each to an item at least, so there are enough for an inner node
 pub returns-in_ok-push_inner-in-Many-clause-stands : goal.returns-in_ok-push_inner-in-Many-clause-stands
 returns-in_ok-push_inner-in-Many-clause-stands g c tells small sub =
     settles_by g.H.NodeHash.half small c.args.kind c.args.arena.now (63 - length c.args.id.now) c.args.id.now c.args.links

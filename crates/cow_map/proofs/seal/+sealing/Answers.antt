@@ -18,6 +18,7 @@ place_below n Empty h = omega arith
 place_below n (Unloaded g) h = omega arith
 place_below n (Own i) h = omega arith
 
+-- a node's links name lower places of the list, so each is within it and the walk comes to an end
 pub inner_form-seal_link-requires : goal.inner_form-seal_link-requires
 inner_form-seal_link-requires g t c κs within =
     let at = subst (IsBelow c.args.at) (sym c.get.ensures)
@@ -26,6 +27,7 @@ inner_form-seal_link-requires g t c κs within =
     let low = weaker c.args.at (length c.args.arena.now) c.get.result (omega (arith, c.requires.place)) at in
     (omega (arith, small, c.decreases), (within, (search rules, (search rules, low))))
 
+-- the branches before have added all their forms, so the fault at this branch is the first below the node
 pub inner_form-returns-in_err-hash-clause-seals : goal.inner_form-returns-in_err-hash-clause-seals
 inner_form-returns-in_err-hash-clause-seals g t c stored left path kids stand =
     let p = err_from_is_err_and c.from_residual-in_err-hash.result c.from_residual-in_err-hash.ensures.1 in
@@ -40,6 +42,7 @@ inner_form-returns-in_err-hash-clause-seals g t c stored left path kids stand =
       tt,
     )
 
+-- one branch more adds its forms behind those of the branches before, and its hash behind theirs
 pub inner_form-loop-b-preserved : goal.inner_form-loop-b-preserved
 inner_form-loop-b-preserved g t c stored left path kids stand =
     let low : c.loop-b.b < length c.args.links.now = omega (arith, c.known-2.ensures, c.loop-b-test.true) in
@@ -51,6 +54,7 @@ inner_form-loop-b-preserved g t c stored left path kids stand =
     (c.loop-b.invariant stored left path kids stand) step
     (c.in_ok-extend_from_slice.ensures.items ∙ ap (λ (h : List ℕ). c.loop-b.bytes.items ++ h) c.hash.view_is)
 
+-- no branch is left, so all forms below were added, and the bytes are the prefix and all sixteen hashes
 pub inner_form-returns-clause-seals : goal.inner_form-returns-clause-seals
 inner_form-returns-clause-seals g t c stored left path kids stand =
     let all : length c.args.links.now ≤ c.loop-b.b = omega (arith, c.known-2.ensures, c.loop-b-test.false) in
@@ -58,6 +62,7 @@ inner_form-returns-clause-seals g t c stored left path kids stand =
     c.loop-b.forms.items c.loop-b.bytes.items c.loop-b.b all (c.loop-b.invariant stored left path kids stand) in
     (done.0, c.new.ensures ∙ done.1)
 
+-- a leaf makes one form, its own, and the link stands for the hash of that
 pub seal_link-returns-in_ok-form-in-Leaf-clause-seals : goal.seal_link-returns-in_ok-form-in-Leaf-clause-seals
 seal_link-returns-in_ok-form-in-Leaf-clause-seals g t c stored left path items stands =
     let at = c.get.ensures ∙ ap (λ x. Some (body_of x)) c.in-Leaf.is in
@@ -68,6 +73,7 @@ seal_link-returns-in_ok-form-in-Leaf-clause-seals g t c stored left path items s
     c.in_ok-form-in-Leaf.form c.args.forms.now.items c.add.new.forms.items c.add.result at c.in_ok-form-in-Leaf.ensures c.add.ensures.adds
     left)
 
+-- the forms below the inner node are there already, so its own comes last, and its hash is the link's
 pub seal_link-returns-in_ok-form-in-Inner-clause-seals : goal.seal_link-returns-in_ok-form-in-Inner-clause-seals
 seal_link-returns-in_ok-form-in-Inner-clause-seals g t c stored left path items stands =
     let at = c.get.ensures ∙ ap (λ x. Some (body_of x)) c.in-Inner.is in
@@ -79,6 +85,7 @@ seal_link-returns-in_ok-form-in-Inner-clause-seals g t c stored left path items 
     c.args.forms.now.items c.inner_form.new.forms.items c.add-in-Inner.new.forms.items c.add-in-Inner.result at
     (λ lower kids stand. c.in_ok-form-in-Inner.ensures.seals stored lower path kids stand) c.add-in-Inner.ensures.adds left inside)
 
+-- kids come before their parent, so a fault below the inner node is the first at the link too
 pub seal_link-returns-in_err-form-in-Inner-clause-seals : goal.seal_link-returns-in_err-form-in-Inner-clause-seals
 seal_link-returns-in_err-form-in-Inner-clause-seals g t c stored left path items stands =
     let p = err_from_is_err_and c.from_residual-in_err-form-in-Inner.result c.from_residual-in_err-form-in-Inner.ensures.1 in

@@ -7,6 +7,7 @@ pub unreachable-requires : goal.unreachable-requires
 unreachable-requires c = odd_or_never c.args.text.now c.args.fault c.requires.digits c.in_default.not-InvalidHexCharacter
     (why_not c.args.text.now c.args.fault c.requires.digits c.requires.fails)
 
+-- 64 bytes are the right length for 32, so the decoder has met a byte that is no digit, and it names the first
 pub returns : goal.returns
 returns c = (
   c.requires.digits,

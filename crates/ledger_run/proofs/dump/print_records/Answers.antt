@@ -3,6 +3,7 @@ use Rattle.store_core.proofs.Numbering.{left_falls}
 use Rattle.ledger_run.proofs.Dumping.{dump_starts, dump_goes, dump_cut, lists_none, lists_then, next_of_core, follows_as, cut_by}
 use Rattle.ledger_run.proofs.dump.print_records.Goals as goal
 
+-- nothing is printed yet, all records are left, and the core is as it was
 pub loop-one-init : goal.loop-one-init
 loop-one-init g c = record {
   going = dump_starts g.Sh.B.Backend.tells c.args.core.now.state.nodes (g.K.Sink.held c.args.sink.now);
@@ -12,6 +13,7 @@ loop-one-init g c = record {
   hash = tt;
 }
 
+-- the records before this one are printed whole, and of its own line at most a front, which together is a cut dump
 pub returns-in_err-print_record-clause-dumps : goal.returns-in_err-print_record-clause-dumps
 returns-in_err-print_record-clause-dumps g c =
     cut_by g.Sh.B.Backend.tells c.args.core.now.state.nodes (g.K.Sink.held c.args.sink.now) (g.K.Sink.held c.print_record.new.sink)
@@ -27,6 +29,7 @@ loop-one-smaller g c =
     left_falls c.loop-one.last c.in-Some.one.hash c.loop-one.invariant.hash
     (follows_as _ c.loop-one.last _ c.in-Some.one c.as_ref.ensures.value c.in-Some.is c.in_ok-one.ensures.follows)
 
+-- the record is the next one that is stored, so its line is the next of the dump, and those behind its hash are left
 pub loop-one-preserved : goal.loop-one-preserved
 loop-one-preserved g c =
     let follows = follows_as _ c.loop-one.last _ c.in-Some.one c.as_ref.ensures.value c.in-Some.is c.in_ok-one.ensures.follows in

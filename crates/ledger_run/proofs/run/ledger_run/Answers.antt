@@ -6,6 +6,7 @@ use Rattle.ledger_run.proofs.Refusals.{run_refusal, script_as, full_as}
 use Rattle.ledger_run.proofs.Statuses.{status_from, ends_from}
 use Rattle.ledger_run.proofs.run.ledger_run.Goals as goal
 
+-- running and printing keep the script's records and lines, so the full journal is a run of the script that was read
 pub returns-clause-run : goal.returns-clause-run
 returns-clause-run g c =
     let same = c.run_actors-core.ensures.same in
@@ -44,6 +45,7 @@ returns-clause-complete g c _ calm still _ =
     c.print_all-status.new.core (g.K.Sink.faults c.args.sink.now) (g.K.Sink.faults c.print_all-status.new.sink) c.journal.ensures.kept
     (returns-clause-run g c).script still calm c.print_all-status.ensures.said
 
+-- without a store there is no core and nothing is written, and the status tells a failure from want of memory
 pub returns-in-Err-clause-opening : goal.returns-in-Err-clause-opening
 returns-in-Err-clause-opening g c = record {
   no_core = λ s. ap is_some c.not_opened.ensures.core;

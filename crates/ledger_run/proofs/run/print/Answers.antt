@@ -5,6 +5,7 @@ use Rattle.journal_text.specs.Text.{summary_text}
 use Rattle.ledger_run.proofs.Printing.{printed_front, printed_with, printed_more, printed_all, prefix_self, same_item, on_err}
 use Rattle.ledger_run.proofs.run.print.Goals as goal
 
+-- the lines of the entries before are written, and a front of this one's, which together are a front of the text
 pub returns-in_err-print_entry-clause-part : goal.returns-in_err-print_entry-clause-part
 returns-in_err-print_entry-clause-part g c =
     let core = c.args.core.now in
@@ -16,6 +17,7 @@ returns-in_err-print_entry-clause-part g c =
     (wrote_part _ _ _ _ _ _ c.loop-entry.invariant.wrote c.in_err-print_entry.ensures.part
     (printed_with core.lines core.journal (totals_of core.journal core.state) c.loop-entry.entry-index c.entry-item.result lt item))
 
+-- this entry's line stands behind those of the entries before it, and the sink's faults only rise
 pub loop-entry-preserved : goal.loop-entry-preserved
 loop-entry-preserved g c =
     let core = c.args.core.now in
@@ -35,6 +37,7 @@ returns-in_default-clause-part g c =
     wrote_front _ _ _ _ c.loop-entry.invariant.wrote
     (printed_front core.lines core.journal (totals_of core.journal core.state) c.loop-entry.entry-index)
 
+-- the lines of all entries are written, and a front of the summary, which is all that the text has behind them
 pub returns-in_err-write_all-clause-part : goal.returns-in_err-write_all-clause-part
 returns-in_err-write_all-clause-part g c =
     let core = c.args.core.now in
@@ -45,6 +48,7 @@ returns-in_err-write_all-clause-part g c =
     (prefix_self _ _ (printed_all core.lines core.journal (totals_of core.journal core.state) c.loop-entry.entry-index c.bytes.result.now
     le (c.bytes.ensures ∙ c.in-Ok.ensures ∙ ap summary_text c.totals.ensures))))
 
+-- the lines of all entries are written, and the summary behind them, and that is the whole text
 pub returns-clause-wrote : goal.returns-clause-wrote
 returns-clause-wrote g c =
     let core = c.args.core.now in

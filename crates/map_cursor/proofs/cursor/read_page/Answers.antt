@@ -5,6 +5,7 @@ use Rattle.map_cursor.specs.Shown.{items_in, shown}
 use Rattle.map_cursor.proofs.PageLaws.{is_page, refused_on, at_root, refused_at_root}
 use Rattle.map_cursor.proofs.cursor.read_page.Goals as goal
 
+-- the page was empty and the visit began at the root, so where it ended the reading from the root wants a node
 pub returns-in_err-visit-clause-cause : goal.returns-in_err-visit-clause-cause
 returns-in_err-visit-clause-cause g c =
     refused_on g.H.NodeHash.half c.args.kind c.args.root.now c.args.after.now g.S.NodeSource.tells
@@ -13,6 +14,7 @@ returns-in_err-visit-clause-cause g c =
     (refused_at_root g.H.NodeHash.half c.args.kind c.args.root.now c.args.after.now g.S.NodeSource.tells
     (map.get (g.S.NodeSource.stored c.args.source.now)) _ _ c.root.result c.root.ensures c.in_err-visit.ensures.visited)
 
+-- the page was empty and the visit began at the root, so it holds just what its nodes say from the root on
 pub returns-clause-page : goal.returns-clause-page
 returns-clause-page g c =
     is_page g.H.NodeHash.half c.args.kind c.args.root.now c.args.after.now g.S.NodeSource.tells

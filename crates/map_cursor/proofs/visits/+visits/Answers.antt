@@ -10,6 +10,7 @@ use Rattle.map_cursor.proofs.Visiting.{skip_is, skip_visited, place_refused, mem
 use Rattle.map_cursor.proofs.Visiting.{inner_visited, inner_refused, nothing_done, branch_visited, branch_refused, reading_is, level_of}
 use Rattle.map_cursor.proofs.visits.+visits.Goals as goal
 
+-- nothing is wanted from a place that is skipped, so it says no item and needs no node
 pub visit-returns-then-skips-clause-visited : goal.visit-returns-then-skips-clause-visited
 visit-returns-then-skips-clause-visited g t c =
     skip_visited g.H.NodeHash.half c.args.query.now.kind g.S.NodeSource.tells (map.get (g.S.NodeSource.stored c.args.source.now))
@@ -18,6 +19,7 @@ visit-returns-then-skips-clause-visited g t c =
     (skip_is true c.skips.result c.args.query.now.after c.args.id.now c.args.wanted.now c.args.query.now.most c.len.result
     c.args.page.now.leaves.items c.if-skips.true c.skips.ensures (c.len.ensures ∙ c.args.page.now.leaves.ok.0))
 
+-- the place isn't skipped, so a node is wanted for it, and this is where none that fits came
 pub visit-returns-in_err-node-clause-visited : goal.visit-returns-in_err-node-clause-visited
 visit-returns-in_err-node-clause-visited g t c =
     handed_on g.H.NodeHash.half c.args.query.now.kind g.S.NodeSource.tells (map.get (g.S.NodeSource.stored c.args.source.now))
@@ -30,6 +32,7 @@ visit-returns-in_err-node-clause-visited g t c =
     c.args.page.now.leaves.items c.if-skips.false c.skips.ensures (c.len.ensures ∙ c.args.page.now.leaves.ok.0))
     c.in_err-node.ensures.ends)
 
+-- a page fails to take a node only for want of memory, which may end a visit wherever a node is wanted
 pub visit-returns-in_err-take-clause-visited : goal.visit-returns-in_err-take-clause-visited
 visit-returns-in_err-take-clause-visited g t c =
     handed_on g.H.NodeHash.half c.args.query.now.kind g.S.NodeSource.tells (map.get (g.S.NodeSource.stored c.args.source.now))
@@ -47,6 +50,7 @@ pub visit-returns-in_err-take-clause-fault : goal.visit-returns-in_err-take-clau
 visit-returns-in_err-take-clause-fault g t c =
     no_fault _ c.in_err-take.field-0.0 _ c.from_residual-in_err-take.ensures c.in_err-take.ensures.memory
 
+-- the inner node fits and what follows is its branches' turn, so what they want is wanted here
 pub visit-returns-in_err-visit_branches-in-Some-clause-visited : goal.visit-returns-in_err-visit_branches-in-Some-clause-visited
 visit-returns-in_err-visit_branches-in-Some-clause-visited g t c =
     let takes : Takes c.args.query.now.after (held c.in_ok-node.node.value) (shown c.args.page.now) (shown c.take.new.self)
@@ -69,6 +73,7 @@ visit-returns-in_err-visit_branches-in-Some-clause-visited g t c =
     c.in_ok-node.ensures.fits c.in_ok-node.ensures.held takes c.in_err-visit_branches-in-Some.field-0.0
     c.in_err-visit_branches-in-Some.ensures.visited)
 
+-- the node fits and is a leaf, so the place says its item, if that is behind the key, and no more
 pub visit-returns-in-None-clause-visited : goal.visit-returns-in-None-clause-visited
 visit-returns-in-None-clause-visited g t c =
     leaf_visited g.H.NodeHash.half c.args.query.now.kind g.S.NodeSource.tells (map.get (g.S.NodeSource.stored c.args.source.now))
@@ -80,6 +85,7 @@ visit-returns-in-None-clause-visited g t c =
     (subst (λ (b : Option Inner). Takes c.args.query.now.after (held c.in_ok-node.node.value) (shown c.args.page.now)
     (shown c.take.new.self) (hashes_kept b)) c.in-None.is c.in_ok-take.ensures.taken)
 
+-- the inner node fits, and a place with one says what its branches say in turn
 pub visit-returns-in_ok-visit_branches-in-Some-clause-visited : goal.visit-returns-in_ok-visit_branches-in-Some-clause-visited
 visit-returns-in_ok-visit_branches-in-Some-clause-visited g t c =
     let takes : Takes c.args.query.now.after (held c.in_ok-node.node.value) (shown c.args.page.now) (shown c.take.new.self)
@@ -98,6 +104,7 @@ visit-returns-in_ok-visit_branches-in-Some-clause-visited g t c =
     c.in_ok-node.ensures.fits c.in_ok-node.ensures.held takes _
     c.in_ok-visit_branches-in-Some.ensures.visited
 
+-- no branch was visited, so nothing was added, and no branches in turn say nothing
 pub visit_branches-loop-b-init : goal.visit_branches-loop-b-init
 visit_branches-loop-b-init g t c =
     record {
@@ -108,6 +115,7 @@ visit_branches-loop-b-init g t c =
           omega arith;
     }
 
+-- the branches before it have said their items, so what this branch wants is what all want in turn
 pub visit_branches-returns-in_err-visit-clause-visited : goal.visit_branches-returns-in_err-visit-clause-visited
 visit_branches-returns-in_err-visit-clause-visited g t c =
     handed_on g.H.NodeHash.half c.args.query.now.kind g.S.NodeSource.tells (map.get (g.S.NodeSource.stored c.args.source.now)) _
@@ -122,6 +130,7 @@ visit_branches-returns-in_err-visit-clause-visited g t c =
     c.in_err-visit.field-0.0
     c.in_err-visit.ensures.visited)
 
+-- what one branch more adds comes behind what the branches before it have added
 pub visit_branches-loop-b-preserved : goal.visit_branches-loop-b-preserved
 visit_branches-loop-b-preserved g t c = record {
   visited =

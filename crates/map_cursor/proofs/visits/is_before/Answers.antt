@@ -3,6 +3,7 @@ use Rattle.nib_path.specs.Paths.{nibbles}
 use Rattle.map_cursor.proofs.Orders.{passed_is}
 use Rattle.map_cursor.proofs.visits.is_before.Goals as goal
 
+-- both IDs have zeros behind the place's depth, so they are in the order of the place and of the key's first nibbles
 pub returns : goal.returns
 returns c =
     c.is_lt.ensures ∙ ap is_lt c.cmp.ensures

@@ -21,6 +21,7 @@ pub walk-returns-then-is_zero-clause-walks : goal.walk-returns-then-is_zero-clau
 walk-returns-then-is_zero-clause-walks g t c =
     walks_none _ _ _ _ _ _ (read_same _ _ _) (λ tells. walk_zero _ _ _ _ _ _ _ _ c.if-is_zero.ensures)
 
+-- a hash that isn't zero and under which nothing is held gives one finding, that the place is missing
 pub walk-returns-in_ok-add_missing-in-Missing-clause-walks : goal.walk-returns-in_ok-add_missing-in-Missing-clause-walks
 walk-returns-in_ok-add_missing-in-Missing-clause-walks g t c = record {
   read = c.look.ensures.read;
@@ -30,6 +31,7 @@ walk-returns-in_ok-add_missing-in-Missing-clause-walks g t c = record {
       (c.in_ok-look.ensures.sight tells) c.in_ok-add_missing-in-Missing.ensures.seen;
 }
 
+-- what is held breaks a rule at its place, which is the one finding, and no missing place comes with it
 pub walk-returns-in-Broken-clause-walks : goal.walk-returns-in-Broken-clause-walks
 walk-returns-in-Broken-clause-walks g t c = record {
   read = c.look.ensures.read;
@@ -44,6 +46,7 @@ pub walk-returns-in-Leaf-clause-walks : goal.walk-returns-in-Leaf-clause-walks
 walk-returns-in-Leaf-clause-walks g t c = walks_none _ _ _ _ _ _ c.look.ensures.read
     (λ tells. walk_leaf _ _ _ _ _ _ _ _ _ c.if-is_zero.ensures c.in-Leaf.is (c.in_ok-look.ensures.sight tells))
 
+-- an inner node that belongs here adds nothing itself, so what is found here is what is found in its sixteen branches
 pub walk-returns-in_ok-walk_branches-in-Inner-clause-walks : goal.walk-returns-in_ok-walk_branches-in-Inner-clause-walks
 walk-returns-in_ok-walk_branches-in-Inner-clause-walks g t c =
     let part : Walks g.Sh.B.Backend.tells g.H.NodeHash.half c.args.store.now c.walk_branches.new.store c.args.found.now
@@ -68,6 +71,7 @@ walk-returns-in_ok-walk_branches-in-Inner-clause-walks g t c =
 pub walk_branches-loop-b-init : goal.walk_branches-loop-b-init
 walk_branches-loop-b-init g t c = walks_none _ _ _ _ _ _ (read_same _ _ _) (λ tells. walk_none _ _ _ _ _ _ _)
 
+-- what is found below this branch comes behind what was found in the lower ones, of a store that was only read
 pub walk_branches-loop-b-preserved : goal.walk_branches-loop-b-preserved
 walk_branches-loop-b-preserved g t c =
     let part : Walks g.Sh.B.Backend.tells g.H.NodeHash.half c.args.store.now c.walk.new.store c.loop-b.found c.walk.new.found

@@ -12,6 +12,7 @@ slice_bounds-copy_from_slice-end-2 c = omega (arith, length-take 32 c.args.bytes
 pub copy_from_slice-requires : goal.copy_from_slice-requires
 copy_from_slice-requires c = omega (arith, length-take 32 c.args.bytes.now)
 
+-- a path is read only where the nibbles behind its depth are zero, so its 32 bytes and its depth are those that were sent
 pub returns-clause-ok : goal.returns-clause-ok
 returns-clause-ok c =
     let exact : c.of_parts.result ≡ read_wire_id c.args.bytes.now =
@@ -19,6 +20,7 @@ returns-clause-ok c =
     c.of_parts.ensures in
     read_wire_id-IfOk c.args.bytes.now c.of_parts.result exact
 
+-- a path's wire form has 33 bytes, a depth of at most 64 and zeros behind it, so the path is read back from it
 pub returns-clause-back : goal.returns-clause-back
 returns-clause-back c =
     let exact : c.of_parts.result ≡ read_wire_id c.args.bytes.now =

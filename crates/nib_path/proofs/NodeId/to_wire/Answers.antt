@@ -4,6 +4,7 @@ use Rattle.std.proofs.Math.Seq.{set-append_seam}
 use Rattle.nib_path.specs.Paths.{id_of, id_of_view, length_of_view}
 use Rattle.nib_path.proofs.NodeId.to_wire.Goals as goal
 
+-- the first 32 bytes are the path's nibbles and then zeros, and the last byte is the depth, which is the path's length
 pub returns : goal.returns
 returns c =
     let id = c.copy_from_slice.new.self in

@@ -7,6 +7,7 @@ use Rattle.node_backend.proofs.shelf.unlist.Goals as goal
 pub returns-clause-gone : goal.returns-clause-gone
 returns-clause-gone c = filter_same _ _ _ (λ x b f' k. search rules) _ _ c.retain.ensures.filtered
 
+-- the number stood in the list, and every place where it stood is gone
 pub returns-clause-shorter : goal.returns-clause-shorter
 returns-clause-shorter c found =
     let gone : c.retain.new.self.items ≡ without c.args.live.now.items c.args.number = filter_same _ _ _ (λ x b f' k. search rules) _ _

@@ -9,6 +9,7 @@ use Rattle.node_offer.proofs.Notes.{held_back}
 use Rattle.node_offer.proofs.Storing.{by_place, refused_there, handed_on}
 use Rattle.node_offer.proofs.node.offer.Goals as goal
 
+-- finding the place only reads, so the node is judged by what was held, at the place that the definitions find
 pub returns-clause-outcome : goal.returns-clause-outcome
 returns-clause-outcome g c tells all =
     by_place g.H.NodeHash.half (nodes_of c.args.store.now) (nodes_of c.place.new.store) c.args.target.now c.args.kind c.args.id.now
@@ -17,6 +18,7 @@ returns-clause-outcome g c tells all =
     (c.in_ok-spot.ensures.spot (tells, stored_notes g.H.NodeHash.half c.args.store.now all)) c.in-Ok.ensures.node
     ∙ c.in_ok-offer_to.ensures.outcome tells
 
+-- finding the place only reads, so a node that isn't judged leaves what it leaves of the store as it was
 pub returns-in_err-offer_to-clause-err : goal.returns-in_err-offer_to-clause-err
 returns-in_err-offer_to-clause-err g c tells all =
     handed_on _ _ _ c.from_residual-in_err-offer_to.ensures.1
@@ -25,6 +27,7 @@ returns-in_err-offer_to-clause-err g c tells all =
     (c.place.ensures.read.same tells) all (c.in_ok-spot.ensures.spot (tells, stored_notes g.H.NodeHash.half c.args.store.now all)) c.in-Ok.ensures.node
     (c.in_err-offer_to.ensures.err tells))
 
+-- the form of a node that came by wire reads back as that node, so a note of it is true
 pub returns-in_err-offer_to-clause-notes : goal.returns-in_err-offer_to-clause-notes
 returns-in_err-offer_to-clause-notes g c told =
     let half = g.H.NodeHash.half in
@@ -32,6 +35,7 @@ returns-in_err-offer_to-clause-notes g c told =
     let is : IsHeld half n = read_wire_held half c.args.blob.now n c.known_half.ensures c.in-Ok.ensures.node in
     c.in_err-offer_to.ensures.notes (held_back half n (form_of n) (is, refl)) (c.place.ensures.read.notes told)
 
+-- finding the place keeps true notes, and the form of a node that came by wire reads back, so its own note is true
 pub returns-clause-notes : goal.returns-clause-notes
 returns-clause-notes g c told =
     let half = g.H.NodeHash.half in

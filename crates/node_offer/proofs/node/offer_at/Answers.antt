@@ -4,6 +4,7 @@ use Rattle.node_offer.specs.Ways.{hashes_of_parent}
 use Rattle.node_offer.proofs.Storing.{refused_at, handed_on}
 use Rattle.node_offer.proofs.node.offer_at.Goals as goal
 
+-- what is put is the node's own form, so a clash of the put is the outcome, and at most that form is stored
 pub returns-in_err-stored-clause-err : goal.returns-in_err-stored-clause-err
 returns-in_err-stored-clause-err g c tells =
     handed_on _ _ _ c.from_residual-in_err-stored.ensures.1

@@ -16,6 +16,7 @@ below_is : (nodes : Lookup) (kind : Kind) (path : List ℕ) (o : Option Bytes)
 below_is nodes kind path None = refl
 below_is nodes kind path (Some header) = refl
 
+-- the way begins at the root that the held header names, and reading the header changes nothing that is held
 pub returns-in_ok-walk-in-Some-clause-spot : goal.returns-in_ok-walk-in-Some-clause-spot
 returns-in_ok-walk-in-Some-clause-spot g c tells =
     let half = g.H.NodeHash.half in

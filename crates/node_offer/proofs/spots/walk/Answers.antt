@@ -8,6 +8,7 @@ use Rattle.node_offer.specs.Ways.{hashes_of_parent}
 use Rattle.node_offer.proofs.Walking.{goes_on, ends, step_at}
 use Rattle.node_offer.proofs.spots.walk.Goals as goal
 
+-- the way so far leads to this place, and what stands in the way there is what the whole way comes to
 pub returns-in-Err-clause-spot : goal.returns-in-Err-clause-spot
 returns-in-Err-clause-spot g c tells =
     let lt : c.loop-depth.depth < length c.args.id.now = omega arith in
@@ -23,6 +24,7 @@ returns-in-Err-clause-spot g c tells =
     (c.loop-depth.invariant.0.notes tells)))
     (c.loop-depth.invariant.1 tells)
 
+-- the inner node at this depth names the hash of the next place by the key's nibble, and the way goes on from there
 pub loop-depth-preserved : goal.loop-depth-preserved
 loop-depth-preserved g c = (
   read_then _ _ _ _ _ c.loop-depth.invariant.0 c.step.ensures.read,

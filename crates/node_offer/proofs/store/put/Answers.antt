@@ -4,6 +4,7 @@ use Rattle.rotating_store.specs.declared.store.Put.TheVariants as put
 use Rattle.node_offer.proofs.Notes.{put_notes, put_noted, new_there, same_there}
 use Rattle.node_offer.proofs.store.put.Goals as goal
 
+-- the form now stands under its own hash, so the note of it is true, and no other hash's form has changed
 pub returns-in-Ok-New-clause-notes : goal.returns-in-Ok-New-clause-notes
 returns-in-Ok-New-clause-notes g c held told =
     let half = g.H.NodeHash.half in
@@ -19,6 +20,7 @@ returns-in-Ok-New-clause-notes g c held told =
           (put_notes half s c.args.hash.now c.args.form.now s' held c.in-Ok-New.ensures.rest.2 told.1 (Ok put.New) puts own),
     )
 
+-- the very form stood under its own hash before, so the note of it is true, and what is held is as it was
 pub returns-in-Ok-Same-clause-notes : goal.returns-in-Ok-Same-clause-notes
 returns-in-Ok-Same-clause-notes g c held told =
     let half = g.H.NodeHash.half in
@@ -35,6 +37,7 @@ returns-in-Ok-Same-clause-notes g c held told =
           (put_notes half s c.args.hash.now c.args.form.now s' held c.in-Ok-Same.ensures.rest.2 told.1 (Ok put.Same) puts own),
     )
 
+-- nothing is noted, and at most the form was stored, under its own hash, so each note is as true as before
 pub returns-in-Err-clause-notes : goal.returns-in-Err-clause-notes
 returns-in-Err-clause-notes g c held told = (
   told.0,

@@ -6,6 +6,7 @@ use Rattle.node_wire.proofs.Taking.{all_read, chunk_refused, chunk_taken}
 use Rattle.node_wire.proofs.Wires.{inner_is, inner_none}
 use Rattle.node_wire.proofs.chunks.compressed_inner.Goals as goal
 
+-- all chunks before this one were taken, so it is the first to be refused, and for its cause the node is
 pub returns-in_err-take_chunk-clause-cause : goal.returns-in_err-take_chunk-clause-cause
 returns-in_err-take_chunk-clause-cause c =
     let p = err_from_is_err_and c.from_residual.result c.from_residual.ensures.1 in
@@ -16,6 +17,7 @@ returns-in_err-take_chunk-clause-cause c =
     in
     rw (p.1, p.2) (read.0, c.in_err-take_chunk.ensures.cause.1)
 
+-- all chunks before this one were taken, so its position is that of the first chunk that is refused
 pub returns-in_err-take_chunk-clause-tells : goal.returns-in_err-take_chunk-clause-tells
 returns-in_err-take_chunk-clause-tells c =
     let p = err_from_is_err_and c.from_residual.result c.from_residual.ensures.1 in
@@ -26,6 +28,7 @@ returns-in_err-take_chunk-clause-tells c =
     in
     rw (p.1, p.2) read.1
 
+-- the chunk has filled its branch, so the chunks behind it make of the branches now what all make of empty ones
 pub loop-rest-preserved : goal.loop-rest-preserved
 loop-rest-preserved c =
     let next = chunk_taken c.args.front.now c.loop-rest.hashes c.loop-rest.rest.now c.if-front-ne0.false c.loop-rest.invariant.whole
@@ -35,6 +38,7 @@ loop-rest-preserved c =
     in
     record { whole = next.0; same = next.1 }
 
+-- no chunk is left, so the branches are what all chunks make, and one of them isn't empty
 pub returns-in-Some-clause-inner : goal.returns-in-Some-clause-inner
 returns-in-Some-clause-inner c =
     all_read c.args.front.now c.loop-rest.hashes c.loop-rest.rest.now c.if-front-ne0.false c.loop-rest.invariant.whole
@@ -42,6 +46,7 @@ returns-in-Some-clause-inner c =
     (sym c.is_empty.ensures ∙ c.loop-rest-test.false)
     ∙ inner_is c.loop-rest.hashes c.in-Some.ensures.1 ∙ ap (λ hs. Ok (inner hs)) (sym c.in-Some.ensures.0)
 
+-- no chunk is left, so the branches are what all chunks make, and an inner node can't have all of them empty
 pub returns-in-None-clause-cause : goal.returns-in-None-clause-cause
 returns-in-None-clause-cause c = (
   all_read c.args.front.now c.loop-rest.hashes c.loop-rest.rest.now c.if-front-ne0.false c.loop-rest.invariant.whole

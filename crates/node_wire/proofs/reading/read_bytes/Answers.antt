@@ -8,6 +8,7 @@ pub returns-then-is_empty-clause-cause : goal.returns-then-is_empty-clause-cause
 returns-then-is_empty-clause-cause g c =
     λ other. read_empty g.H.NodeHash.half c.args.bytes.now (sym c.is_empty.ensures ∙ c.if-is_empty.true)
 
+-- bytes that aren't empty are a front and a type byte, so what is wrong with the two is what is wrong with the bytes
 pub returns-in_err-typed_node-clause-cause : goal.returns-in_err-typed_node-clause-cause
 returns-in_err-typed_node-clause-cause g c =
     let p = err_from_is_err_and c.from_residual.result c.from_residual.ensures.1 in

@@ -4,6 +4,7 @@ use Rattle.half_hash.specs.Zero.{zero_hash}
 use Rattle.ledger_spec.proofs.Hashes.{concat_more}
 use Rattle.node_wire.proofs.writing.full.Goals as goal
 
+-- the next branch's hash comes behind those of the branches before it
 pub loop-b-preserved : goal.loop-b-preserved
 loop-b-preserved c =
     let lt : c.loop-b.b < length c.args.inner.now.hashes = omega (arith, c.args.inner.now.valid.count, c.loop-b-test.true) in

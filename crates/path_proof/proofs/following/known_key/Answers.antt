@@ -3,6 +3,7 @@ use Rattle.std.proofs.lemmas.List.{take_all}
 use Rattle.nib_path.specs.Paths.{IsPath, nibbles, length-nibbles}
 use Rattle.path_proof.proofs.following.known_key.Goals as goal
 
+-- 32 bytes have 64 nibbles, so the place at depth 64 on the way to the key is all of the key
 pub returns : goal.returns
 returns c =
     let whole : length (nibbles c.args.key.now) ≤ 64 = omega (arith, length-nibbles c.args.key.now, c.known.ensures) in

@@ -6,6 +6,7 @@ use Rattle.path_proof.specs.Paths.{held_nodes, hashes_kept}
 use Rattle.path_proof.proofs.Steps.{from_root, cut_short}
 use Rattle.path_proof.proofs.following.path_says.Goals as goal
 
+-- nodes follow behind this one, which is no inner node, so nothing can lead on to them
 pub returns-in_default-deref : goal.returns-in_default-deref
 returns-in_default-deref g c =
     cut_short g.H.NodeHash.half c.args.kind c.args.key.now c.loop-node.waypoint.depth (hashes_kept c.loop-node.waypoint.parent)

@@ -3,6 +3,7 @@ use Rattle.std.specs.FinMap as map
 use Rattle.path_proof.proofs.Walks.{goes_further, comes_to_end}
 use Rattle.path_proof.proofs.reading.read_path.Goals as goal
 
+-- the node fits its place and the way goes on below it, so with it the nodes used lead to the next place
 pub loop-used-preserved : goal.loop-used-preserved
 loop-used-preserved g c = record {
   leads =
@@ -15,6 +16,7 @@ loop-used-preserved g c = record {
   later = omega arith;
 }
 
+-- the nodes before lead to this place, and the last one fits it and ends the path with this outcome
 pub returns-in-Err-clause-path : goal.returns-in-Err-clause-path
 returns-in-Err-clause-path g c =
     comes_to_end g.H.NodeHash.half c.args.kind c.args.root.now c.args.key.now g.S.NodeSource.tells

@@ -7,6 +7,7 @@ use Rattle.peer_set.specs.Keys.{key_of}
 use Rattle.peer_set.proofs.Finding.{first_ones, one_more}
 use Rattle.peer_set.proofs.asked.index_from.Goals as goal
 
+-- a refused insertion leaves the index, which finds all places up to here, so those before the first one too
 pub returns-in_err-insert-clause-err : goal.returns-in_err-insert-clause-err
 returns-in_err-insert-clause-err c =
     let exit = err_from_is_err_and c.from_residual.result c.from_residual.ensures.1 in
@@ -14,6 +15,7 @@ returns-in_err-insert-clause-err c =
     rw (exit.1, c.in_err-insert.ensures.err)
     (first_ones c.loop-at.index.entries c.args.places.now c.args.first c.loop-at.at le c.loop-at.invariant)
 
+-- the new entry tells where this place stands, and a place of another key is found as before
 pub loop-at-preserved : goal.loop-at-preserved
 loop-at-preserved c =
     let p = c.index-places-at.result in

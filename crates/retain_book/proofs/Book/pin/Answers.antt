@@ -5,6 +5,7 @@ use Rattle.ledger_spec.specs.Maps.{hash_cmp}
 use Rattle.ledger_spec.specs.Retaining.{pin_count}
 use Rattle.retain_book.proofs.Book.pin.Goals as goal
 
+-- the count is how often the ledger is pinned, 0 where it isn't, and the caller left room for one more
 pub overflow_add-count : goal.overflow_add-count
 overflow_add-count c =
     let counted : c.unwrap_or-count.result ≡ pin_count c.self.inside.pins.entries c.args.h.now =
@@ -12,6 +13,7 @@ overflow_add-count c =
     let room : pin_count c.self.inside.pins.entries c.args.h.now + 1 < 2 ^ 32 = rw (← c.self.view_is) at c.requires.room in
     omega (arith, counted, room)
 
+-- a count with one added isn't zero, and the other pins are as they were
 pub invariant_of-self-2 : goal.invariant_of-self-2
 invariant_of-self-2 c =
     let one_more : 0 < c.unwrap_or-count.result + 1 = omega arith in

@@ -1,6 +1,7 @@
 use Rattle.retain_book.proofs.Counts.{less_pinned}
 use Rattle.retain_book.proofs.Book.unpin.Goals as goal
 
+-- the last pin of a ledger is removed with its entry, and a higher count falls by one, so no entry counts zero
 pub invariant_of-self : goal.invariant_of-self
 invariant_of-self c = record {
   high = c.self.invariant.high;

@@ -4,6 +4,7 @@ use Rattle.std.proofs.lemmas.Result.{err_from_is_err_and}
 use Rattle.run_io.proofs.Bytes.{reading_start, reading_step, reading_full, reading_ended, rose_later, took_ended, took_full, took_part}
 use Rattle.run_io.proofs.io.read_all.Goals as goal
 
+-- nothing was read yet, so nothing is held and the whole input is left
 pub loop-held-init : goal.loop-held-init
 loop-held-init g c = record {
   reading = rw c.new-held.ensures.items (reading_start (g.S.Source.left c.args.source.now));
@@ -13,6 +14,7 @@ loop-held-init g c = record {
   later = omega arith;
 }
 
+-- what this read took goes behind what is held, and it asked for no more than is still wanted
 pub loop-held-preserved : goal.loop-held-preserved
 loop-held-preserved g c =
     let i = c.loop-held.invariant in
@@ -37,6 +39,7 @@ returns-in_err-n-clause-cause g c =
     let p = err_from_is_err_and c.from_residual-in_err-n.result c.from_residual-in_err-n.ensures.1 in
     rw (p.1, p.2) (λ e. rose_later _ _ _ c.loop-held.invariant.later (c.in_err-n.ensures.cause e))
 
+-- a read of nothing into room for some is the end of input, so what is held is all of it, and no more than was wanted
 pub returns-then-n-eq0-clause-read : goal.returns-then-n-eq0-clause-read
 returns-then-n-eq0-clause-read g c =
     let i = c.loop-held.invariant in
@@ -63,6 +66,7 @@ pub returns-clause-rest : goal.returns-clause-rest
 returns-clause-rest g c = took_full _ _ c.loop-held.held.items _
     (omega (arith, c.loop-held-test.false, c.len.ensures, c.loop-held.invariant.most, c.loop-held.held.ok.0)) c.loop-held.invariant.reading
 
+-- at the end of input all of it is held, no more than was wanted, so nothing is left behind that many bytes
 pub returns-then-n-eq0-clause-rest : goal.returns-then-n-eq0-clause-rest
 returns-then-n-eq0-clause-rest g c =
     let i = c.loop-held.invariant in
@@ -79,6 +83,7 @@ returns-then-n-eq0-clause-rest g c =
       c.len.ensures,
     )) (omega (arith, i.most, c.loop-held.held.ok.0))
 
+-- behind what is held, the failed read took at most the room that was left, so together no more than was wanted
 pub returns-in_err-n-clause-part : goal.returns-in_err-n-clause-part
 returns-in_err-n-clause-part g c =
     let p = err_from_is_err_and c.from_residual-in_err-n.result c.from_residual-in_err-n.ensures.1 in

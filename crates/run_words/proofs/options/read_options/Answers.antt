@@ -7,6 +7,7 @@ use Rattle.run_words.proofs.options.read_options.Goals as goal
 pub loop-word-init : goal.loop-word-init
 loop-word-init c = so_far_start c.args.words.now c.none.result c.none.ensures
 
+-- a word that is read moves from what is left into the options, so what all words give is the same
 pub loop-word-preserved : goal.loop-word-preserved
 loop-word-preserved c =
     let i = c.loop-word.word-index in
@@ -15,6 +16,7 @@ loop-word-preserved c =
     c.loop-word.reader.awaiting c.read_word.new.self.awaiting
     lt c.in_ok-read_word.ensures.gives c.loop-word.invariant
 
+-- what is left, this word first, gives nothing beside the options so far, so all words give nothing
 pub returns-in_err-read_word : goal.returns-in_err-read_word
 returns-in_err-read_word c =
     let i = c.loop-word.word-index in

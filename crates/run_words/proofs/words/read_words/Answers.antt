@@ -10,6 +10,7 @@ returns-in_err-read_options-in-replay-clause-says c =
     rw p.1 (no_options_say (texts c.args.words.now) (texts c.in-Some.options.now) c.in-Some.command.now.now
     (ap texts c.in-Some.ensures.cases.0) c.in_err-read_options-in-replay.ensures)
 
+-- the words behind the command are no options, so the line says nothing whatever its command is
 pub returns-in_err-read_options-in-swarm-clause-says : goal.returns-in_err-read_options-in-swarm-clause-says
 returns-in_err-read_options-in-swarm-clause-says c =
     let p = err_from_is_err_and c.from_residual-in_err-read_options-in-swarm.result

@@ -2,6 +2,7 @@ use Rattle.std.proofs.Common.{refl}
 use Rattle.script_form.proofs.Said.{none_before, all_met}
 use Rattle.script_form.proofs.judging.first_cause.Goals as goal
 
+-- this cause stands, and each one before it in the order was tried and doesn't
 pub returns-then-branch : goal.returns-then-branch
 returns-then-branch c = record {
   has = rw c.if-branch.true at c.in_ok-text_has.ensures;

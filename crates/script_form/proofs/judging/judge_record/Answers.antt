@@ -5,6 +5,7 @@ use Rattle.script_form.specs.Records.{earlier_in, StoreHas}
 use Rattle.script_form.proofs.Stores.{behind_store, record_fine}
 use Rattle.script_form.proofs.judging.judge_record.Goals as goal
 
+-- the text is printable and not too long, and the words behind `store` have no cause, so none is left for the line
 pub returns-clause-fine : goal.returns-clause-fine
 returns-clause-fine g c =
     let F : List Bytes → Type 0 =

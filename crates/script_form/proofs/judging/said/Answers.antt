@@ -5,6 +5,7 @@ use Rattle.script_form.proofs.judging.said.Goals as goal
 use Rattle.script_form.proofs.judging.said.Goals.{then-not-is_printable-via-then-not-is_printable}
 use Rattle.script_form.proofs.judging.said.Goals.{then-not-is_printable-via-else-not-is_printable+then-text-gt-MOST_TEXT}
 
+-- either a byte isn't printable or the text is too long, and each of these is a cause
 pub returns-then-not-is_printable : goal.returns-then-not-is_printable
 returns-then-not-is_printable c fine =
     elim c.then-not-is_printable.branch [
@@ -19,6 +20,7 @@ returns-then-earlier-ge-MOST_COMMANDS c fine =
     (command_words _ c.args.text.now c.requires.words (sym c.is_skipped.ensures ∙ c.if-is_skipped.false) c.requires.command)
     c.if-earlier-ge-MOST_COMMANDS.true)
 
+-- the words say a line, and the text is printable, not too long and not one command too many, so it has no cause
 pub returns-in-Some : goal.returns-in-Some
 returns-in-Some c =
     says_line c.args.earlier.now _ c.args.text.now c.args.n c.in-Some.line

@@ -3,6 +3,7 @@ use Rattle.std.proofs.lemmas.List.{take_all, drop_all}
 use Rattle.script_form.proofs.Cuts.{line_at, text_at, line_end, text_end}
 use Rattle.script_form.proofs.script.first_line.Goals as goal
 
+-- no newline is found, so the whole rest is the text of its line
 pub returns-then-end-bytes-clause-text : goal.returns-then-end-bytes-clause-text
 returns-then-end-bytes-clause-text c =
     let bytes = c.args.bytes.now in
@@ -10,6 +11,7 @@ returns-then-end-bytes-clause-text c =
     rw (take_all c.piece_end-end.result bytes (omega (arith, c.if-end-bytes.true)))
     (sym (text_end bytes (λ k lt. found.before k (omega (arith, c.if-end-bytes.true, lt)))))
 
+-- no newline is found, so the bytes are one line and nothing is behind it
 pub returns-then-end-bytes-clause-cut : goal.returns-then-end-bytes-clause-cut
 returns-then-end-bytes-clause-cut c =
     let bytes = c.args.bytes.now in

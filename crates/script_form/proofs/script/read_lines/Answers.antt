@@ -7,6 +7,7 @@ use Rattle.script_form.proofs.script.read_lines.Goals as goal
 use Rattle.script_form.proofs.script.read_lines.Goals.{in-Nothing, in-Record+in_ok-push-in-Record}
 use Rattle.script_form.proofs.script.read_lines.Goals.{in-Line+in_ok-push-in-Line+in_ok-push-in-Line-2}
 
+-- the line is fine behind those before it, and what it says is nothing, or is added as a record or a command line
 pub loop-rest-preserved : goal.loop-rest-preserved
 loop-rest-preserved g c =
     let now = c.loop-rest in
@@ -35,6 +36,7 @@ loop-rest-preserved g c =
           first.text first.cut first.some first.within w.in-Line.line small c.if-bytes-rest-gt-MOST_BYTES.false fine says.0 says.1))
     ]
 
+-- the lines before it are fine, and with this one the script is too long, which is the first of all causes
 pub returns-then-bytes-rest-gt-MOST_BYTES-clause-refused : goal.returns-then-bytes-rest-gt-MOST_BYTES-clause-refused
 returns-then-bytes-rest-gt-MOST_BYTES-clause-refused g c =
     let now = c.loop-rest in
@@ -44,6 +46,7 @@ returns-then-bytes-rest-gt-MOST_BYTES-clause-refused g c =
     c.first_line-size.result.0.now c.first_line-size.result.1 first.text first.cut first.some first.within
     c.if-bytes-rest-gt-MOST_BYTES.true)
 
+-- the lines before it are fine, and it keeps within the script's limit, so the first cause of its text is the line's
 pub returns-in-Err-Cause-clause-refused : goal.returns-in-Err-Cause-clause-refused
 returns-in-Err-Cause-clause-refused g c =
     let now = c.loop-rest in

@@ -9,6 +9,7 @@ returns-then-is_some g c =
     header_is_form g.H.NodeHash.half c.one_form.ensures.held c.known_half.ensures.size c.args.form.now c.from_form.result _
     (sym c.is_some.ensures ∙ c.if-is_some.true) c.from_form.ensures.exact
 
+-- no header has this form, so it is a form exactly where a node is read from it
 pub returns : goal.returns
 returns g c =
     elim c.match-decode_form.branch [

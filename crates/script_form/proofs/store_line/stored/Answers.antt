@@ -6,6 +6,7 @@ use Rattle.script_form.proofs.store_line.stored.Goals.{then-not-is_empty-via-the
 use Rattle.script_form.proofs.store_line.stored.Goals.{then-not-is_empty-via-else-not-is_empty+in_ok-is_fit+then-not-branch}
 use Rattle.script_form.proofs.store_line.stored.Goals.{then-not-is_empty-via-else-not-is_empty+in_ok-is_fit+else-not-branch+then-has}
 
+-- the record stands behind a command line, is unfit, or has the hash of an earlier one, and each of these makes it bad
 pub returns-then-not-is_empty-clause-cause : goal.returns-then-not-is_empty-clause-cause
 returns-then-not-is_empty-clause-cause g c =
     let says = rw c.in-Some.is at c.in_ok-record.ensures in
@@ -24,6 +25,7 @@ returns-clause-own g c =
     let says = rw c.in-Some.is at c.in_ok-record.ensures in
     stored_at g.H.NodeHash.half nothing_earlier _ c.in-Some.record says (rw c.if-not-branch.false at c.in_ok-is_fit.ensures)
 
+-- the words say a fit record, with no command line and no record of its hash before it, so no cause is left
 pub returns-clause-fine : goal.returns-clause-fine
 returns-clause-fine g c =
     let says = rw c.in-Some.is at c.in_ok-record.ensures in

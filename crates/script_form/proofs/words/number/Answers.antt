@@ -2,6 +2,7 @@ use Rattle.std.proofs.Common.{◌+◌, ◌*◌, ◌<◌, arith, rules, length, a
 use Rattle.script_form.proofs.Numbers.{decimal_more, digits_more, too_much}
 use Rattle.script_form.proofs.words.number.Goals as goal
 
+-- one digit more makes the value ten times itself and the digit, which is still at most the bound
 pub loop-digit-preserved : goal.loop-digit-preserved
 loop-digit-preserved c =
     let i = c.loop-digit.invariant in
@@ -14,6 +15,7 @@ loop-digit-preserved c =
       digits = digits_more c.args.word.now c.loop-digit.digit-index lt i.digits (search rules);
     }
 
+-- the digits up to here already pass the bound, and more digits never make a number less
 pub returns-then-next-from : goal.returns-then-next-from
 returns-then-next-from c n =
     let i = c.loop-digit.invariant in

@@ -6,6 +6,7 @@ use Rattle.script_form.proofs.Cuts.{cuts_word, cuts_none, cuts_end, cuts_over}
 use Rattle.script_form.proofs.words.words_of.Goals as goal
 use Rattle.script_form.proofs.words.words_of.Goals.{then-not-is_empty+in_ok-push, else-not-is_empty}
 
+-- the piece before the next space is a word unless it is empty, and the words of what is behind that space are left
 pub loop-words-preserved : goal.loop-words-preserved
 loop-words-preserved c =
     let found = c.piece_end-end.ensures in
@@ -29,6 +30,7 @@ loop-words-preserved c =
           c.loop-words.invariant lt found.before (found.at lt) parts.front none)
     ]
 
+-- no space is left, so the rest of the text is the last word, or there is none in it
 pub returns-then-is_empty : goal.returns-then-is_empty
 returns-then-is_empty c =
     let found = c.piece_end-end.ensures in

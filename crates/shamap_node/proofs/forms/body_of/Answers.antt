@@ -2,6 +2,7 @@ use Rattle.std.proofs.Common.{arith, refl, ◌≡◌, ◌≤◌, ◌+◌, ◌-�
 use Rattle.ledger_spec.proofs.Hashes.{write_step, write_all, write_size}
 use Rattle.shamap_node.proofs.forms.body_of.Goals as goal
 
+-- a hash has 32 bytes, so the next one is written just where the hashes before it end
 pub loop-b-preserved : goal.loop-b-preserved
 loop-b-preserved c =
     let count : length c.args.inner.now.hashes ≡ 16 = omega arith in

@@ -4,6 +4,7 @@ use Rattle.shamap_node.proofs.forms.inner_behind.Goals as goal
 pub returns-then-form-ne516-clause-cause : goal.returns-then-form-ne516-clause-cause
 returns-then-form-ne516-clause-cause c = inner_length_cause c.args.form.now c.if-form-ne516.true
 
+-- behind the prefix stand 512 bytes, sixteen hashes of 32, so joined again they are these bytes
 pub returns-in-Some-clause-inner : goal.returns-in-Some-clause-inner
 returns-in-Some-clause-inner c = (
   c.in-Some.inner.valid,

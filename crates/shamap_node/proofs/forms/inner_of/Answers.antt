@@ -5,6 +5,7 @@ use Rattle.shamap_node.proofs.forms.inner_of.Goals as goal
 use Rattle.shamap_node.proofs.forms.inner_of.Goals.{then-form-ne516-via-then-form-ne516}
 use Rattle.shamap_node.proofs.forms.inner_of.Goals.{then-form-ne516-via-else-form-ne516+then-not-begins}
 
+-- an inner node's form has 516 bytes and begins with its prefix, and these bytes fail in one of the two
 pub returns-then-form-ne516 : goal.returns-then-form-ne516
 returns-then-form-ne516 c =
     elim c.then-form-ne516.branch [

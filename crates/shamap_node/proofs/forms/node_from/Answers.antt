@@ -13,6 +13,7 @@ returns-in_err-inner_behind-clause-cause g c =
     rw (p.1, p.2) (λ other. cause_min g.H.NodeHash.half c.args.bytes.now c.if-bytes-lt4.false (sym c.begins.ensures ∙ c.if-begins.true)
     ∙ c.in_err-inner_behind.ensures.cause)
 
+-- the bytes begin with an account state's prefix, so the cause is what is wrong with its data and key
 pub returns-in_err-item-clause-cause : goal.returns-in_err-item-clause-cause
 returns-in_err-item-clause-cause g c =
     let p = err_from_is_err_and c.from_residual-in_err-item.result c.from_residual-in_err-item.ensures.1 in
@@ -20,6 +21,7 @@ returns-in_err-item-clause-cause g c =
     (sym c.begins-2.ensures ∙ c.if-begins-2.true)
     ∙ c.in_err-item.ensures.cause other)
 
+-- the bytes begin with the prefix of a transaction with metadata, so the cause is what is wrong with its data and key
 pub returns-in_err-item-2-clause-cause : goal.returns-in_err-item-2-clause-cause
 returns-in_err-item-2-clause-cause g c =
     let p = err_from_is_err_and c.from_residual-in_err-item-2.result c.from_residual-in_err-item-2.ensures.1 in
@@ -27,6 +29,7 @@ returns-in_err-item-2-clause-cause g c =
     (sym c.begins-2.ensures ∙ c.if-begins-2.false)
     (sym c.begins-3.ensures ∙ c.if-begins-3.true) ∙ c.in_err-item-2.ensures.cause other)
 
+-- the bytes begin with a bare transaction's prefix, so the cause is what is wrong with its data, or its hash as key
 pub returns-in_err-item-3-clause-cause : goal.returns-in_err-item-3-clause-cause
 returns-in_err-item-3-clause-cause g c =
     let p = err_from_is_err_and c.from_residual-in_err-item-3.result c.from_residual-in_err-item-3.ensures.1 in
@@ -34,6 +37,7 @@ returns-in_err-item-3-clause-cause g c =
     (sym c.begins-2.ensures ∙ c.if-begins-2.false)
     (sym c.begins-3.ensures ∙ c.if-begins-3.false) (sym c.begins-4.ensures ∙ c.if-begins-4.true) ∙ c.in_err-item-3.ensures.cause other)
 
+-- none of the four prefixes stands there, so the cause is the first four bytes, read as a number
 pub returns-clause-cause : goal.returns-clause-cause
 returns-clause-cause g c = λ other.
     cause_prefix g.H.NodeHash.half c.args.bytes.now c.if-bytes-lt4.false (sym c.begins.ensures ∙ c.if-begins.false)

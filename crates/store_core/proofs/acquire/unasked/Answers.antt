@@ -6,6 +6,7 @@ use Rattle.store_core.proofs.acquire.unasked.Goals.{then-len-lt-MOST_ASKED+then-
 use Rattle.store_core.proofs.acquire.unasked.Goals.{else-len-lt-MOST_ASKED-via-then-len-lt-MOST_ASKED+else-not-is_among}
 use Rattle.store_core.proofs.acquire.unasked.Goals.{else-len-lt-MOST_ASKED-via-else-len-lt-MOST_ASKED}
 
+-- a place is taken where there is room and it wasn't asked; an asked one is none of them, and a full list takes no more
 pub loop-place-preserved : goal.loop-place-preserved
 loop-place-preserved c =
     let items : Vec Place Global → List Place = λ v. v.items in

@@ -6,6 +6,7 @@ use Rattle.store_core.specs.Dumping.{Follows}
 use Rattle.store_core.proofs.Numbering.{later_if, not_later}
 use Rattle.store_core.proofs.records.if_after.Goals as goal
 
+-- the hash compares greater than the last one, so it comes after it
 pub returns-then-is_gt : goal.returns-then-is_gt
 returns-then-is_gt c = (
   refl,

@@ -10,6 +10,7 @@ use Rattle.store_core.proofs.Numbering.{left_falls, follows_then}
 use Rattle.store_core.proofs.Dumps.{no_next, next_is, next_some, next_from, follows_of}
 use Rattle.store_core.proofs.records.next_record.Goals as goal
 
+-- where the store tells what it holds, this is the next hash in it, and the form under it is its own
 pub returns-in-Some-3-clause-next : goal.returns-in-Some-3-clause-next
 returns-in-Some-3-clause-next g c tells =
     let before = c.loop-hash.invariant.read in
@@ -36,6 +37,7 @@ loop-hash-smaller g c =
     left_falls c.loop-hash.last c.in-Some-2.hash c.loop-hash.invariant.hash
     (follows_of _ c.loop-hash.last _ c.in-Some-2.hash c.as_ref.ensures.value c.in-Some-2.is c.in_ok-hash.ensures.follows)
 
+-- only a store that doesn't tell what it holds goes on, since under the next hash stands an own form; and it was only read
 pub loop-hash-preserved : goal.loop-hash-preserved
 loop-hash-preserved g c =
     let before = c.loop-hash.invariant.read in
@@ -56,6 +58,7 @@ loop-hash-preserved g c =
       later = λ h f. c.loop-hash.invariant.later h (follows_then c.loop-hash.last c.in-Some-2.hash h follows f);
     }
 
+-- the store has no hash behind the given one, so no record comes after
 pub returns-clause-next : goal.returns-clause-next
 returns-clause-next g c tells =
     no_next (nodes_of c.args.store.now) (option_copied c.args.after)

@@ -6,6 +6,7 @@ use Rattle.store_core.proofs.records.put_records.Goals as goal
 pub loop-one-init : goal.loop-one-init
 loop-one-init g c = record { put = none_put _ c.args.records.now c.args.store.now c.requires.empty; later = later_same c.args.store.now }
 
+-- the record's hash is none of the others', so with it put the hashes of those behind it are still absent
 pub loop-one-preserved : goal.loop-one-preserved
 loop-one-preserved g c =
     let lt : c.loop-one.one-index < length c.args.records.now = omega (arith, c.loop-one-test.true) in

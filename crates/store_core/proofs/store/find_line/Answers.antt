@@ -14,6 +14,7 @@ returns-then-line-number c =
     let lt : c.first_from-at.result < length c.args.lines.now = grind (arith, at.within, c.if-at-lines.false) in
     line_there c.args.lines.now c.first_from-at.result c.args.number _ lt at.below c.index-lines-at.is c.if-line-number.true
 
+-- lines before it are lower, this one has another number, and those behind it are higher still, so none has the number
 pub returns-else-line-number : goal.returns-else-line-number
 returns-else-line-number c =
     let at = c.first_from-at.ensures in

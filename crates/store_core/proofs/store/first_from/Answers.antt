@@ -2,6 +2,7 @@ use Rattle.std.proofs.Common.{◌+◌, ◌-◌, ◌/◌, ◌<◌, length, arith}
 use Rattle.store_core.proofs.Finding.{below_middle, above_middle}
 use Rattle.store_core.proofs.store.first_from.Goals as goal
 
+-- the middle line has a lower number, and numbers rise, so all lines up to it are lower
 pub loop-low-preserved-then-lines-middle : goal.loop-low-preserved-then-lines-middle
 loop-low-preserved-then-lines-middle c =
     let i = c.loop-low.invariant in
@@ -15,6 +16,7 @@ loop-low-preserved-then-lines-middle c =
       above = i.above;
     }
 
+-- the middle line has no lower number, and numbers rise, so no line from it on is lower
 pub loop-low-preserved : goal.loop-low-preserved
 loop-low-preserved c =
     let i = c.loop-low.invariant in

@@ -3,6 +3,7 @@ use Rattle.ledger_machine.specs.declared.commands.Line.{Line}
 use Rattle.store_core.proofs.Journals.{next_found, read_actor}
 use Rattle.store_core.proofs.store.next_of.Goals as goal
 
+-- this line is the actor's, and those between the starting place and it are of others
 pub returns-then-line-actor : goal.returns-then-line-actor
 returns-then-line-actor c =
     let i = c.loop-line.invariant in

@@ -4,6 +4,7 @@ use Rattle.swarm_gen.specs.Adding.{Adds}
 use Rattle.swarm_gen.proofs.Making.{some_case}
 use Rattle.swarm_gen.proofs.make.add_next.Goals as goal
 
+-- the ledger that was made is the plan's of this sequence, so the lines that were added are its lines
 pub returns-clause-lines : goal.returns-clause-lines
 returns-clause-lines g c =
     let m = some_case _ _ _ c.in-Some.next c.in-Some.is c.in_ok-next.ensures.made in

@@ -7,6 +7,7 @@ use Rattle.swarm_gen.specs.Ledgers.{owners_of}
 use Rattle.swarm_gen.proofs.Owners.{on, data_in, state_is, advance_step, split_more, split_on, split_end}
 use Rattle.swarm_gen.proofs.make.advance.Goals as goal
 
+-- no owner was visited yet, so all have the data that they had in the ledger before
 pub loop-key-init : goal.loop-key-init
 loop-key-init g c =
     let half = g.H.NodeHash.half in
@@ -20,6 +21,7 @@ loop-key-init g c =
       split = start;
     }
 
+-- one owner more is brought to this ledger, at its own place behind those visited and before the others
 pub loop-key-preserved : goal.loop-key-preserved
 loop-key-preserved g c =
     let half = g.H.NodeHash.half in
@@ -45,6 +47,7 @@ loop-key-preserved g c =
       split = ap (λ (x : List (Hash × ℕ)). x ++ rest) more ∙ split_on c.args.owners.now.entries ys rest e split;
     }
 
+-- no owner is left, so all have this ledger's data, and an account state is just the owners with their data
 pub returns-clause-items : goal.returns-clause-items
 returns-clause-items g c =
     let half = g.H.NodeHash.half in

@@ -7,6 +7,7 @@ use Rattle.swarm_gen.specs.Ledgers.{owners_of}
 use Rattle.swarm_gen.proofs.Owners.{on, data_in, state_is, first_step, split_more, split_on, split_end}
 use Rattle.swarm_gen.proofs.make.first_state.Goals as goal
 
+-- the owners' keys rise, so each item is set behind all that were set, with ledger 1's data
 pub loop-key-preserved : goal.loop-key-preserved
 loop-key-preserved g c =
     let half = g.H.NodeHash.half in
@@ -28,6 +29,7 @@ loop-key-preserved g c =
       split = ap (λ (x : List (Hash × ℕ)). x ++ rest) more ∙ split_on c.args.owners.now.entries ys rest e split;
     }
 
+-- no owner is left, so each has ledger 1's data, and an account state is just the owners with their data
 pub returns : goal.returns
 returns g c =
     let half = g.H.NodeHash.half in

@@ -4,6 +4,7 @@ use Rattle.swarm_gen.specs.Standing.{IsLeft}
 use Rattle.swarm_gen.proofs.Standing.{left_start, left_more, left_stop, added_as}
 use Rattle.swarm_gen.proofs.make.make_over.Goals as goal
 
+-- ledger 1 is made, so its lines begin the script, and the state is that ledger's
 pub loop-j-init : goal.loop-j-init
 loop-j-init g c =
     let half = g.H.NodeHash.half in
@@ -21,6 +22,7 @@ loop-j-init g c =
       left = left_more half plan 0 _ c.new-lines.result _ 0 _ some keys made added start;
     }
 
+-- the next ledger is made, so its lines come next in the script, and those of the ledgers behind it are left
 pub loop-j-preserved : goal.loop-j-preserved
 loop-j-preserved g c =
     let half = g.H.NodeHash.half in
@@ -38,6 +40,7 @@ loop-j-preserved g c =
       left = left_more half plan j _ c.loop-j.lines _ c.loop-j.behind.waits _ lt keys made added i.left;
     }
 
+-- a script ends before the first ledger that isn't made, so with this one nothing is left to add
 pub returns-then-not-more : goal.returns-then-not-more
 returns-then-not-more g c =
     let half = g.H.NodeHash.half in

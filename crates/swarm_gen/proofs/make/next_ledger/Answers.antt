@@ -13,6 +13,7 @@ use Rattle.swarm_gen.proofs.Making.{Known, some_case, root_as, not_empty_as, nod
 use Rattle.swarm_gen.proofs.Making.{state_made, ledger_is}
 use Rattle.swarm_gen.proofs.make.next_ledger.Goals as goal
 
+-- a changed node or the header has the zero hash, so the ledger isn't made
 pub returns-then-not-is_fine-clause-made : goal.returns-then-not-is_fine-clause-made
 returns-then-not-is_fine-clause-made g c =
     let half = g.H.NodeHash.half in
@@ -43,6 +44,7 @@ returns-then-not-is_fine-clause-made g c =
     && list_all (λ (p : PlacedNode). is_nonzero p.hash) (c.deref-2.ensures.value i) && is_nonzero c.hash-hash.result) in
     made ∙ sym fine ∙ c.if-not-is_fine.true
 
+-- both maps have entries and no node, old or changed, has the zero hash, nor has the header, so just this ledger is made
 pub returns-clause-made : goal.returns-clause-made
 returns-clause-made g c =
     let half = g.H.NodeHash.half in
@@ -79,6 +81,7 @@ returns-clause-made g c =
           c.in_ok-state_nodes-2.ensures c.in_ok-tx_nodes-2.ensures,
     )
 
+-- the changes were taken, so all nodes of the state are shown, and in a ledger that is made none has the zero hash
 pub returns-clause-shown : goal.returns-clause-shown
 returns-clause-shown g c =
     let half = g.H.NodeHash.half in

@@ -8,6 +8,7 @@ use Rattle.swarm_gen.proofs.Adds.{mapped_more_from}
 use Rattle.swarm_gen.proofs.Making.{map_from_more}
 use Rattle.swarm_gen.proofs.make.owners.Goals as goal
 
+-- one item more takes its key over from any item before it, and one with a zero key is left out
 pub loop-i-preserved : goal.loop-i-preserved
 loop-i-preserved g c =
     let half = g.H.NodeHash.half in

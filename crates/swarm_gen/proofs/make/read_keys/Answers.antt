@@ -5,6 +5,7 @@ use Rattle.ledger_spec.specs.Bytes.{is_nonzero}
 use Rattle.swarm_gen.specs.Ledgers.{key}
 use Rattle.swarm_gen.proofs.make.read_keys.Goals as goal
 
+-- one key more comes behind the others just where it isn't zero
 pub loop-i-preserved : goal.loop-i-preserved
 loop-i-preserved g c =
     let half = g.H.NodeHash.half in

@@ -9,6 +9,7 @@ use Rattle.swarm_gen.proofs.Adds.{mapped_more}
 use Rattle.swarm_gen.proofs.Making.{map_from_more}
 use Rattle.swarm_gen.proofs.make.txs.Goals as goal
 
+-- one transaction more is set in the map of those before, and one with a zero key is left out
 pub loop-m-preserved : goal.loop-m-preserved
 loop-m-preserved g c =
     let i = c.loop-m.invariant in

@@ -10,6 +10,7 @@ use Rattle.swarm_gen.proofs.Walking.{shared_say, walk_is, branch_changes, branch
 use Rattle.swarm_gen.proofs.walk.+walk.Goals as goal
 use Rattle.swarm_gen.proofs.walk.+walk.Goals.{in-Some-child+in_ok-walk, in_default-child}
 
+-- both maps have the same node here, so the same nodes below it, and none has changed
 pub returns-then-is_shared : goal.returns-then-is_shared
 returns-then-is_shared g t c =
     let yes : IsTrue true = search rules in
@@ -20,6 +21,7 @@ returns-then-is_shared g t c =
     ∙ changed_same (nodes c.args.old c.args.place) in
     sym (append-nil c.args.out.now.items) ∙ ap (λ (x : List Placed). c.args.out.now.items ++ map (given g.H.NodeHash.half) x) (sym none)
 
+-- a branch adds what has changed below it, and below depth 64 no branch has nodes
 pub loop-b-preserved : goal.loop-b-preserved
 loop-b-preserved g t c =
     let half = g.H.NodeHash.half in
@@ -46,6 +48,7 @@ loop-b-preserved g t c =
           (ap (λ (v : Vec PlacedNode Global). v.items) w.out-is ∙ c.loop-b.invariant) empty
     ]
 
+-- the changes here are the node itself, if the old one has another form, and then those of its sixteen branches
 pub returns : goal.returns
 returns g t c =
     let half = g.H.NodeHash.half in
@@ -65,6 +68,7 @@ returns g t c =
     c.in_ok-list_itself.ensures
     (c.loop-b.invariant ∙ ap (λ n. c.list_itself.new.out.items ++ map (given half) (flat_map xs (range_with_len 0 n))) (sym all))
 
+-- the map has no node here or below, so there is none that could have changed
 pub returns-in_default : goal.returns-in_default
 returns-in_default g t c =
     let nodes = shared_nodes (g.T.Shared.held c.args.tree.now) (g.T.Shared.kid c.args.tree.now) in

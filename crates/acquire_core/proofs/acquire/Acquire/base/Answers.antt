@@ -4,6 +4,7 @@ use Rattle.acquire_core.specs.Parts.{shown}
 use Rattle.acquire_core.proofs.Wanting.{stays}
 use Rattle.acquire_core.proofs.acquire.Acquire.base.Goals as goal
 
+-- parts that have the wanted hashes have no bad outcome, so none of the three charges falls on the peer
 pub returns-clause-wanted : goal.returns-clause-wanted
 returns-clause-wanted g c tells all are =
     stays g.H.NodeHash.half (forms_in c.args.store.now) c.args.self.now c.self.inside.target c.self.inside.seq c.self.inside.peers

@@ -25,6 +25,7 @@ push_inner-requires c =
     subst (λ (ls : List Link). (b : ℕ) → IsBelow (length c.args.self.now) (slice_index_or ls b Empty)) (sym c.in_ok-moved-in-Inner.ensures)
     (links_move c.args.n c.args.at (length c.args.self.now) c.in-Inner.links body (omega arith))
 
+-- a leaf has no links that would move, so the other list's own leaf can stand here shared
 pub returns-in_ok-push-in-Leaf : goal.returns-in_ok-push-in-Leaf
 returns-in_ok-push-in-Leaf c body at =
     let told = body_told c.other.inside.nodes.items c.args.other.now c.args.at c.index.result.now _ c.other.view_is c.requires.place

@@ -6,6 +6,7 @@ use Rattle.cow_map.specs.Bodies.{Body, IsBelow}
 use Rattle.cow_map.proofs.Pushing.{pushed}
 use Rattle.cow_map.proofs.arena.Arena.push_inner.Goals as goal
 
+-- the new node stands last, and its sixteen links name nodes that were there before it
 pub invariant_of-self-2 : goal.invariant_of-self-2
 invariant_of-self-2 c =
     pushed _ _ c.in_ok-new.field-0 (Inner c.args.links) c.in_ok-push.ensures.items c.in_ok-new.ensures.ok c.self.invariant (

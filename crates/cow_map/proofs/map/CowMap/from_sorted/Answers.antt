@@ -6,6 +6,7 @@ use Rattle.cow_map.specs.Gathered.{entries_of, nothing_held}
 use Rattle.cow_map.proofs.Gathered.{one_before, whole_before, nothing_left, stands_anywhere}
 use Rattle.cow_map.proofs.map.CowMap.from_sorted.Goals as goal
 
+-- items are taken from the end, so each is set in front of those already in the map, whose keys are greater
 pub loop-item-preserved : goal.loop-item-preserved
 loop-item-preserved c =
     let inv = c.loop-item.invariant in
@@ -13,6 +14,7 @@ loop-item-preserved c =
     c.loop-item.map c.put_alone.new.self c.requires inv.1 c.in-Some.ensures.items c.in_ok-put_alone.ensures.stands inv.2 in
     (c.in-Some.item ∷ inv.0, done.0, done.1, c.in_ok-put_alone.ensures.kind ∙ inv.3)
 
+-- no item is left, so the map has them all, and as it leaves nothing to a source it stands for them over each
 pub returns-clause-stands : goal.returns-clause-stands
 returns-clause-stands c half stored =
     let inv = c.loop-item.invariant in

@@ -8,6 +8,7 @@ use Rattle.cow_map.proofs.Putting.{changed_below}
 use Rattle.cow_map.proofs.Shifting.{get_told, gathered_more}
 use Rattle.cow_map.proofs.map.CowMap.gather.Goals as goal
 
+-- the part's nodes stand behind those before with their links moved, and the link that is set leads to its branch there
 pub loop-b-preserved : goal.loop-b-preserved
 loop-b-preserved c = record {
   below = changed_below c.loop-b.nodes c.append_to.new.nodes _ c.loop-b.links c.with-links.result c.loop-b.b c.in_ok-link.link

@@ -6,6 +6,7 @@ use Rattle.cow_map.specs.Trees.{StandsFor}
 use Rattle.cow_map.proofs.Freeing.{way_free}
 use Rattle.cow_map.proofs.map.CowMap.get.Goals as goal
 
+-- where the map stands for items nothing is in the way, so a read that fails met a fault of the source or want of memory
 pub returns-clause-free : goal.returns-clause-free
 returns-clause-free g c tells items stands =
     let N = map.get (g.S.NodeSource.stored c.args.source.now) in

@@ -9,6 +9,7 @@ use Rattle.cow_map.proofs.Needing.{set_keeps}
 use Rattle.cow_map.proofs.Maps.{cut_back, none_more}
 use Rattle.cow_map.proofs.map.CowMap.put.Goals as goal
 
+-- the nodes that the failed put has added are cut off again, so the list is the old one
 pub returns-in-Err-clause-grows : goal.returns-in-Err-clause-grows
 returns-in-Err-clause-grows g c = (
   [],
@@ -17,6 +18,7 @@ returns-in-Err-clause-grows g c = (
   omega arith,
 )
 
+-- where the map stands for items nothing is in the way, so a put that fails met a fault of the source or want of memory
 pub returns-in-Err-clause-free : goal.returns-in-Err-clause-free
 returns-in-Err-clause-free g c tells items stands =
     let N = map.get (g.S.NodeSource.stored c.args.source.now) in
@@ -24,6 +26,7 @@ returns-in-Err-clause-free g c tells items stands =
     way_free Link g.H.NodeHash.half N c.self.inside.kind c.self.inside.nodes c.self.inside.top c.root-root.result c.args.item.key items
     (Err c.in-Err.fault) c.root-root.ensures inside (c.in-Err.ensures.way tells)
 
+-- the new map stands also over just that part of the source which the old one reaches, so it leaves nothing besides
 pub returns-in-Ok-clause-reach : goal.returns-in-Ok-clause-reach
 returns-in-Ok-clause-reach g c tells =
     let N = map.get (g.S.NodeSource.stored c.args.source.now) in

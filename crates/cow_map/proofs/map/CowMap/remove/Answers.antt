@@ -12,6 +12,7 @@ use Rattle.cow_map.specs.Bodies.{CowTree}
 use Rattle.cow_map.proofs.Maps.{cut_back, none_more}
 use Rattle.cow_map.proofs.map.CowMap.remove.Goals as goal
 
+-- the key isn't there, and the list is cut back to its old length, so no node is new
 pub returns-in-Ok-None-clause-grows : goal.returns-in-Ok-None-clause-grows
 returns-in-Ok-None-clause-grows g c = (
   [],
@@ -20,6 +21,7 @@ returns-in-Ok-None-clause-grows g c = (
   omega arith,
 )
 
+-- the nodes that the failed removal has added are cut off again, so the list is the old one
 pub returns-in-Err-clause-grows : goal.returns-in-Err-clause-grows
 returns-in-Err-clause-grows g c = (
   [],
@@ -28,6 +30,7 @@ returns-in-Err-clause-grows g c = (
   omega arith,
 )
 
+-- the items have nothing at the key, so without it they are the same, and so is the map
 pub returns-in-Ok-None-clause-stands : goal.returns-in-Ok-None-clause-stands
 returns-in-Ok-None-clause-stands g c tells small sub items stands =
     let N = map.get (g.S.NodeSource.stored c.args.source.now) in
@@ -44,6 +47,7 @@ returns-in-Ok-None-clause-stands g c tells small sub items stands =
           (subst (λ ns. StandsAt g.H.NodeHash.half small c.self.inside.kind ns 64 [] c.self.inside.top items) (sym cut) inside),
     )
 
+-- where the map stands for items nothing on the way or beside the leaf stops one, so the source failed or memory was refused
 pub returns-in-Err-clause-free : goal.returns-in-Err-clause-free
 returns-in-Err-clause-free g c tells items stands =
     let N = map.get (g.S.NodeSource.stored c.args.source.now) in
@@ -51,6 +55,7 @@ returns-in-Err-clause-free g c tells items stands =
     removal_free (Option Link) g.H.NodeHash.half N c.self.inside.kind c.self.inside.nodes c.self.inside.top c.root-root.result
     c.args.key.now items (Err c.in-Err.fault) c.root-root.ensures inside (c.in-Err.ensures.way tells)
 
+-- without the key the map stands also over just what the old one reaches, so it leaves nothing besides to the source
 pub returns-in-Ok-Some-clause-reach : goal.returns-in-Ok-Some-clause-reach
 returns-in-Ok-Some-clause-reach g c tells =
     let N = map.get (g.S.NodeSource.stored c.args.source.now) in
@@ -61,6 +66,7 @@ returns-in-Ok-Some-clause-reach g c tells =
     (removed_keeps g.H.NodeHash.half N c.self.inside.kind c.self.inside.nodes c.remove_at.new.arena c.self.inside.top c.in-Ok-Some.next
     c.root-root.result c.args.key.now c.root-root.ensures removes)
 
+-- the list is cut back and the top stays, so the map leaves to the source what it left before
 pub returns-in-Ok-None-clause-reach : goal.returns-in-Ok-None-clause-reach
 returns-in-Ok-None-clause-reach g c tells =
     let N = map.get (g.S.NodeSource.stored c.args.source.now) in

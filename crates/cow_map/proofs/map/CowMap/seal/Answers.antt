@@ -6,6 +6,7 @@ use Rattle.cow_map.proofs.Sealing.{root_law}
 use Rattle.cow_map.proofs.Picking.{made_law}
 use Rattle.cow_map.proofs.map.CowMap.seal.Goals as goal
 
+-- the hash is made of the top's form, where a link to the source counts as its hash, and so is the root hash of the items
 pub returns-clause-root : goal.returns-clause-root
 returns-clause-root g c stored items proper stands =
     let inside = subst (λ (m : CowTree). StandsFor g.H.NodeHash.half stored m items) (sym c.self.view_is) stands in

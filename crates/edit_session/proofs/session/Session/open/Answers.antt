@@ -5,6 +5,7 @@ use Rattle.ledger_spec.specs.Findings.{items_of}
 use Rattle.edit_session.proofs.Leaving.{opened, none_left}
 use Rattle.edit_session.proofs.session.Session.open.Goals as goal
 
+-- the state stands for the leaves of the parent's whole tree and leaves only its root to the source; no transaction is there
 pub returns-clause-maps : goal.returns-clause-maps
 returns-clause-maps c half stored sized clean =
     let stands = c.over.ensures.stands half stored sized clean in (

@@ -8,6 +8,7 @@ use Rattle.edit_session.specs.Changes.{SetsAccount}
 use Rattle.edit_session.proofs.Leaving.{set, on_both}
 use Rattle.edit_session.proofs.session.Session.put.Goals as goal
 
+-- only the state's map is another, which has the item set and leaves to the source only what the old one reached
 pub returns-clause-sets : goal.returns-clause-sets
 returns-clause-sets g c told =
     let half = g.H.NodeHash.half in

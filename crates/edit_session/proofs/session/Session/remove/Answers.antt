@@ -8,6 +8,7 @@ use Rattle.edit_session.specs.Changes.{RemovesAccount}
 use Rattle.edit_session.proofs.Leaving.{removed, if_both}
 use Rattle.edit_session.proofs.session.Session.remove.Goals as goal
 
+-- only the state's map is another, which lacks the key and leaves to the source only what the old one reached
 pub returns-clause-removes : goal.returns-clause-removes
 returns-clause-removes g c told =
     let half = g.H.NodeHash.half in

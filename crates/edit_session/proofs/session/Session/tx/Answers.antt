@@ -8,6 +8,7 @@ use Rattle.edit_session.specs.Changes.{SetsTx}
 use Rattle.edit_session.proofs.Leaving.{alone_still, set_tx, on_ok}
 use Rattle.edit_session.proofs.session.Session.tx.Goals as goal
 
+-- a put over no source leaves the transactions needing none, and one that fails leaves them as they were
 pub invariant_of-self : goal.invariant_of-self
 invariant_of-self g c = record {
   next = c.self.invariant.next;
@@ -18,6 +19,7 @@ invariant_of-self g c = record {
       (c.put.ensures.stands refl) c.put.ensures.err c.self.invariant.alone;
 }
 
+-- the transactions need no source, so the item that is set over none is set over each, and the state stays
 pub returns-clause-sets : goal.returns-clause-sets
 returns-clause-sets g c =
     let half = g.H.NodeHash.half in

@@ -15,6 +15,7 @@ invariant_of-self-else-found c =
     c.self.inside.undone.items c.unlist-found.new.live.items c.self.invariant.0 c.self.invariant.1
     c.self.invariant.2 c.unlist-found.ensures.gone
 
+-- the number moves from the first list to the second, so both together are no longer, and the room that was there suffices
 pub invariant_of-self-then-found : goal.invariant_of-self-then-found
 invariant_of-self-then-found c =
     moved_over c.self.inside.made c.args.old.number (vec_capacity c.self.inside.undone) (vec_capacity c.keep_undone.new.undone)

@@ -1,6 +1,7 @@
 use Rattle.node_backend.proofs.Lists.{listed_all}
 use Rattle.node_backend.proofs.shelf.MemShelfShelf.fresh.Goals as goal
 
+-- the new number is one above all that were handed out, and its room among those whose discard fails was reserved
 pub invariant_of-self-2 : goal.invariant_of-self-2
 invariant_of-self-2 c =
     let e = listed_all c.self.inside.made c.self.inside.live.items c.self.inside.undone.items c.list_number.new.live.items

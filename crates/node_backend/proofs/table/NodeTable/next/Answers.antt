@@ -6,6 +6,7 @@ use Rattle.ledger_spec.specs.Bytes.{Bytes, Hash}
 use Rattle.node_backend.proofs.Next.{none_next, first_next, start_after}
 use Rattle.node_backend.proofs.table.NodeTable.next.Goals as goal
 
+-- the range of all entries is empty, so no hash is stored
 pub returns-in_err-hash-in-None : goal.returns-in_err-hash-in-None
 returns-in_err-hash-in-None c =
     let r : IsRangeOf hash_cmp (start_after None) Unbounded c.self.inside.entries [] =
@@ -13,6 +14,7 @@ returns-in_err-hash-in-None c =
     (c.in_err-hash-in-None.ensures.steps.0) (c.range.ensures.in_range tt) in
     rw (c.from_residual.ensures, c.in-None.is, ← c.self.view_is) (none_next c.self.inside.entries None r)
 
+-- the range behind the last hash is empty, so no stored hash comes after it
 pub returns-in_err-hash-in-Some : goal.returns-in_err-hash-in-Some
 returns-in_err-hash-in-Some c =
     let r : IsRangeOf hash_cmp (start_after (Some c.in-Some.last.now)) Unbounded c.self.inside.entries [] =
@@ -21,6 +23,7 @@ returns-in_err-hash-in-Some c =
     rw (c.from_residual-in_err-hash-in-Some.ensures, c.in-Some.is, ← c.self.view_is)
     (none_next c.self.inside.entries (Some c.in-Some.last.now) r)
 
+-- entries rise, so the first of all has the least hash that is stored
 pub returns-in_ok-hash-in-None : goal.returns-in_ok-hash-in-None
 returns-in_ok-hash-in-None c =
     let r : IsRangeOf hash_cmp (start_after None) Unbounded c.self.inside.entries
@@ -29,6 +32,7 @@ returns-in_ok-hash-in-None c =
     (c.in_ok-hash-in-None.ensures.steps) (c.range.ensures.in_range tt) in
     rw (c.in-None.is, ← c.self.view_is) (first_next c.self.inside.entries None _ _ r)
 
+-- entries rise, so the first one behind the last hash has the least of those that come after it
 pub returns-in_ok-hash-in-Some : goal.returns-in_ok-hash-in-Some
 returns-in_ok-hash-in-Some c =
     let r : IsRangeOf hash_cmp (start_after (Some c.in-Some.last.now)) Unbounded c.self.inside.entries

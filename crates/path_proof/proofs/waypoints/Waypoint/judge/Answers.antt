@@ -5,6 +5,7 @@ use Rattle.shamap_node.specs.Nodes.{held, hashes_above}
 use Rattle.path_proof.proofs.Steps.{judged_above}
 use Rattle.path_proof.proofs.waypoints.Waypoint.judge.Goals as goal
 
+-- an inner node at depth 64 breaks a rule of shape, so one that breaks none stands higher
 pub returns-clause-above : goal.returns-clause-above
 returns-clause-above c =
     judged_above c.shape.result (held c.args.node.now) (hashes_above c.as_ref.result) c.args.kind c.args.key.now c.args.self.now.depth

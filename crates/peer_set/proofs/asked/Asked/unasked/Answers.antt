@@ -6,6 +6,7 @@ use Rattle.peer_set.proofs.asked.Asked.unasked.Goals.{then-len-lt-MOST_ASKED+the
 use Rattle.peer_set.proofs.asked.Asked.unasked.Goals.{else-len-lt-MOST_ASKED-via-then-len-lt-MOST_ASKED+else-not-has}
 use Rattle.peer_set.proofs.asked.Asked.unasked.Goals.{else-len-lt-MOST_ASKED-via-else-len-lt-MOST_ASKED}
 
+-- with room, a place that wasn't asked goes behind the others and an asked one is skipped; without room the front stays
 pub loop-place-preserved : goal.loop-place-preserved
 loop-place-preserved c =
     let items : Vec Place Global → List Place = λ v. v.items in

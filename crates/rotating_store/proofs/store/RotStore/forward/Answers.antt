@@ -3,6 +3,7 @@ use Rattle.node_backend.specs.declared.back.BackFault.{BackFault}
 use Rattle.rotating_store.proofs.Keeping.{numbered_as, keeps_as, keeps_copy, moved_keeps, moved_there}
 use Rattle.rotating_store.proofs.store.RotStore.forward.Goals as goal
 
+-- also a copy that failed stores, or leaves in doubt, only the archive's own form, so the two maps still agree
 pub invariant_of-self : goal.invariant_of-self
 invariant_of-self g c = (
   numbered_as _ _ _ _ _ _ _ c.self.invariant.0 c.copy_over.ensures.numbers.1 c.copy_over.ensures.numbers.0,
@@ -14,6 +15,7 @@ pub returns-in_err-moved-clause-nodes : goal.returns-in_err-moved-clause-nodes
 returns-in_err-moved-clause-nodes g c tells = rw (← c.self.view_is)
     (moved_keeps _ _ _ _ c.args.h.now c.copy_over.result (c.copy_over.ensures.moves tells) (c.copy_over.ensures.second tells))
 
+-- what is copied to the writable backend is the archive's own form, so the two maps still agree
 pub invariant_of-self-2 : goal.invariant_of-self-2
 invariant_of-self-2 g c = (
   numbered_as _ _ _ _ _ _ _ c.self.invariant.0 c.copy_over.ensures.numbers.1 c.copy_over.ensures.numbers.0,

@@ -2,6 +2,7 @@ use Rattle.std.proofs.Common.{refl}
 use Rattle.rotating_store.proofs.Notes.{found_then}
 use Rattle.rotating_store.proofs.store.RotStore.note.Goals as goal
 
+-- the hash is in the set afterwards, or memory was refused and the set is as it was; nothing else is touched
 pub returns : goal.returns
 returns g c = record {
   noted = rw (← c.self.view_is) record {

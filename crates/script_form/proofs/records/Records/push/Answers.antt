@@ -7,6 +7,7 @@ use Rattle.script_form.specs.Finding.{Finds}
 use Rattle.script_form.proofs.Finding.{at_ok, one_more}
 use Rattle.script_form.proofs.records.Records.push.Goals as goal
 
+-- the hash went into the set as the record went into the list, so the set still tells the records' hashes
 pub invariant_of-self-else-is_err : goal.invariant_of-self-else-is_err
 invariant_of-self-else-is_err c =
     let old = c.self.inside.records.items in

@@ -13,6 +13,7 @@ use Rattle.store_core.proofs.Founds.{check_found, finds_own, found_seq_is}
 use Rattle.store_core.proofs.Listing.{checked_few}
 use Rattle.store_core.proofs.machine.Machine.check.Goals as goal
 
+-- all that is stored are own forms, so the search finds what is missing of the ledger, and that decides the reply
 pub returns-clause-reply : goal.returns-clause-reply
 returns-clause-reply g c told =
     let half = g.H.NodeHash.half in
@@ -27,6 +28,7 @@ returns-clause-reply g c told =
     (ap (λ (d : Desk). d.state.wanted) c.self.view_is) (ap (λ (d : Desk). d.state.floor) c.self.view_is) finds
     (c.in_ok-reply.ensures.reply finds.header.reads)
 
+-- the search only read, so the state changes as the reply says, with the sequence of the stored header
 pub returns-clause-after : goal.returns-clause-after
 returns-clause-after g c told =
     let half = g.H.NodeHash.half in
@@ -41,6 +43,7 @@ returns-clause-after g c told =
     ∙ same_over c.self.inside.store c.whole.new.store s is (c.whole.ensures.read.same told))
     ∙ ap (λ n. after_check s t n c.in_ok-reply.reply) (found_seq_is half s t c.in_ok-found.found finds)
 
+-- a reply lists one ledger at most, and neither the search nor the judgement takes a fault back
 pub returns-clause-grows : goal.returns-clause-grows
 returns-clause-grows g c = record {
   later = omega (arith, c.whole.ensures.read.later.faults, ap (λ (d : Desk). d.faults) c.self.view_is, c.judge.ensures.faults);
@@ -51,6 +54,7 @@ returns-clause-grows g c = record {
       (ap (λ (d : Desk). over c.whole.new.store d.state) c.self.view_is)) refl;
 }
 
+-- the search only read the store, so without an answer the state is as it was
 pub returns-in_err-found-clause-err : goal.returns-in_err-found-clause-err
 returns-in_err-found-clause-err g c told =
     let s : State = c.args.self.now.state in
@@ -63,6 +67,7 @@ returns-in_err-found-clause-fault g c =
     handed_on _ _ _ c.from_residual.ensures.1
     (λ f. subst (λ n. Rose n c.whole.new.store.faults) (ap (λ (d : Desk). d.faults) c.self.view_is) (c.in_err-found.ensures.fault f))
 
+-- the search only read the store, and a judgement without memory changes nothing, so the state is as it was
 pub returns-in_err-reply-clause-err : goal.returns-in_err-reply-clause-err
 returns-in_err-reply-clause-err g c told =
     let s : State = c.args.self.now.state in

@@ -48,6 +48,7 @@ returns-clause-reply g c reads =
     (λ a at. c.in_ok-ask.ensures.reply ∙ ap (λ (o : Option Acquisition). asked_reply o c.as_slice.result.now) at
     ∙ ap (missing_reply a) same ∙ sym (ap (place_reply a c.args.found) c.in_default-broken.is))
 
+-- places are missing, so at most the acquisition changes, by what it asks, and nothing is listed
 pub returns-clause-after : goal.returns-clause-after
 returns-clause-after g c =
     let some : c.as_slice.result.now ≢ [] = search (rules, common_steps) in

@@ -9,6 +9,7 @@ use Rattle.store_core.specs.Refusals.{Leaves}
 use Rattle.store_core.proofs.Tables.{IsOver, node_outcome_over, node_after_over, node_leaves_over, filed_over}
 use Rattle.store_core.proofs.machine.Machine.offer.Goals as goal
 
+-- the state has the nodes of the store, so the outcome over the one is the outcome over the other
 pub returns-clause-outcome : goal.returns-clause-outcome
 returns-clause-outcome g c told =
     let is : IsOver c.self.inside.store c.args.self.now.state =
@@ -19,6 +20,7 @@ returns-clause-outcome g c told =
     c.offer.result is (c.offer.ensures.outcome told
     (filed_over g.H.NodeHash.half c.self.inside.store c.args.self.now.state is (c.requires told))))
 
+-- the form that the store takes is the one that the machine adds to its nodes, and nothing else of the state changes
 pub returns-clause-after : goal.returns-clause-after
 returns-clause-after g c told =
     let half = g.H.NodeHash.half in
@@ -31,6 +33,7 @@ returns-clause-after g c told =
     c.offer.result is
     (c.offer.ensures.outcome told (filed_over half c.self.inside.store s is (c.requires told))) (c.offer.ensures.stored told)))
 
+-- where nothing was judged the store is as before or has the node's form besides, and so has the state over it
 pub returns-clause-err : goal.returns-clause-err
 returns-clause-err g c told =
     let half = g.H.NodeHash.half in

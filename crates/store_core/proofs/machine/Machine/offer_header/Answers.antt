@@ -8,6 +8,7 @@ use Rattle.store_core.specs.Refusals.{Leaves}
 use Rattle.store_core.proofs.Tables.{IsOver, head_outcome_over, head_after_over, head_leaves_over}
 use Rattle.store_core.proofs.machine.Machine.offer_header.Goals as goal
 
+-- the state has the nodes of the store, so the header's outcome over the one is its outcome over the other
 pub returns-clause-outcome : goal.returns-clause-outcome
 returns-clause-outcome g c told =
     let is : IsOver c.self.inside.store c.args.self.now.state =
@@ -17,6 +18,7 @@ returns-clause-outcome g c told =
     c.offer_header.result is
     (c.offer_header.ensures.outcome told))
 
+-- only a good header is stored, under its hash, and that is what the machine adds to its nodes
 pub returns-clause-after : goal.returns-clause-after
 returns-clause-after g c told =
     let half = g.H.NodeHash.half in
@@ -29,6 +31,7 @@ returns-clause-after g c told =
     (head_after_over half c.self.inside.store c.offer_header.new.store s c.args.target.now c.bytes.result.now c.offer_header.result is
     (c.offer_header.ensures.outcome told) (c.offer_header.ensures.stored told)))
 
+-- where nothing was judged the store is as before or has the header's form besides, and so has the state over it
 pub returns-clause-err : goal.returns-clause-err
 returns-clause-err g c told =
     let half = g.H.NodeHash.half in

@@ -12,6 +12,7 @@ offer_root-requires-after_bounds g c =
     c.args.state.now
     c.args.tx.now c.requires.offered (c.requires.filed told) c.offer_header.new.self.state (c.in_ok-header.ensures.after told)
 
+-- the header and the state root store only forms under their own hashes, so all that is held is still such
 pub offer_root-requires-2-after_bounds : goal.offer_root-requires-2-after_bounds
 offer_root-requires-2-after_bounds g c =
     λ κs within told. part_filed g.H.NodeHash.half c.known_half.ensures c.offer_header.new.self.state c.args.target.now kinds.State
@@ -21,6 +22,7 @@ offer_root-requires-2-after_bounds g c =
     c.args.tx.now c.requires.offered (c.requires.filed told) c.offer_header.new.self.state (c.in_ok-header.ensures.after told))
     c.offer_root.new.self.state (c.in_ok-state.ensures.after told)
 
+-- the header was judged, so where the state root has no outcome the whole has none, and no form but theirs is stored
 pub returns-in_err-state-clause-err : goal.returns-in_err-state-clause-err
 returns-in_err-state-clause-err g c told =
     refused_by g.H.NodeHash.half _ _ c.args.self.now.state c.offer_root.new.self.state c.in_err-state.field-0.0
@@ -30,6 +32,7 @@ returns-in_err-state-clause-err g c told =
     c.in_err-state.field-0.0 c.offer_root.new.self.state (c.in_err-state.ensures.err told))
     c.from_residual-in_err-state.ensures.1
 
+-- the header and the state root were judged, so where the transaction root has no outcome the whole has none
 pub returns-in_err-tx-clause-err : goal.returns-in_err-tx-clause-err
 returns-in_err-tx-clause-err g c told =
     let half = g.H.NodeHash.half in

@@ -5,6 +5,7 @@ use Rattle.ledger_machine.specs.Ticks.{tick_given}
 use Rattle.ledger_machine.specs.declared.replies.TickReply.TheVariants.{Timeout, GaveUp}
 use Rattle.store_core.proofs.machine.Machine.tick.Goals as goal
 
+-- there were six ticks before, so this is the seventh, which gives the acquisition up
 pub returns-then-ticks-eq-LAST_TICK-clause-reply : goal.returns-then-ticks-eq-LAST_TICK-clause-reply
 returns-then-ticks-eq-LAST_TICK-clause-reply g c =
     let at : get_in hash_cmp c.args.self.now.state.wanted c.args.target.now ≡ Some c.in-Some.acquire.now =
@@ -16,6 +17,7 @@ returns-then-ticks-eq-LAST_TICK-clause-reply g c =
 pub returns-then-ticks-eq-LAST_TICK-clause-after : goal.returns-then-ticks-eq-LAST_TICK-clause-after
 returns-then-ticks-eq-LAST_TICK-clause-after g c = rw (← c.self.view_is, c.remove.ensures.entries) refl
 
+-- an open acquisition has had at most six ticks, and here not six, so fewer
 pub wait-requires-after_bounds : goal.wait-requires-after_bounds
 wait-requires-after_bounds g c =
     let at : get_in hash_cmp c.args.self.now.state.wanted c.args.target.now ≡ Some c.in-Some.acquire.now =

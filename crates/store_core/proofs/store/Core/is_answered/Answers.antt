@@ -9,6 +9,7 @@ use Rattle.store_core.proofs.Waiting.{none_there}
 use Rattle.store_core.proofs.Journals.{kept_answered, kept_unknown}
 use Rattle.store_core.proofs.store.Core.is_answered.Goals as goal
 
+-- every line has a lower number, so none has this one and no entry answers it
 pub returns-then-at-len : goal.returns-then-at-len
 returns-then-at-len g c =
     let P : List Line → Type 0 = λ w. AllBefore w c.first_from-at.result c.args.number in
@@ -17,6 +18,7 @@ returns-then-at-len g c =
     (λ j d lt same. omega
     (arith, below j d (omega (arith, lt, c.len.ensures, c.if-at-len.true, c.self.inside.script.lines.ok.0)) lt, same))))
 
+-- a line has its entry exactly where its actor's cursor stands behind it
 pub returns-then-line-number : goal.returns-then-line-number
 returns-then-line-number g c =
     let k = c.self.invariant in
@@ -38,6 +40,7 @@ returns-then-line-number g c =
     ∙ sym (ap (is_answered c.self.inside.journal.items) (sym c.if-line-number.true)
     ∙ kept_answered _ _ _ _ _ _ _ _ _ _ _ _ k c.first_from-at.result line lt (sym c.index-line.ensures)))
 
+-- the first line that isn't lower has another number, and later ones are higher still, so no entry answers this number
 pub returns-else-line-number : goal.returns-else-line-number
 returns-else-line-number g c =
     let k = c.self.invariant in

@@ -13,6 +13,7 @@ told_by None false P D Q is found none some = absurd (false≢true is)
 told_by (Some at) true P D Q is found none some = absurd (false≢true (sym is))
 told_by (Some at) false P D Q is found none some = ((λ t. absurd (false≢true t)), (λ d. absurd (some at found d)))
 
+-- the lines are those of 64 actors, so an actor past the last one has none
 pub returns-then-actor-len : goal.returns-then-actor-len
 returns-then-actor-len g c = (
   (λ _. rw (← c.self.view_is)
@@ -21,6 +22,7 @@ returns-then-actor-len g c = (
   (λ _. refl),
 )
 
+-- the actor has answered its lines before its cursor, so it is done exactly where none of its lines stands from there on
 pub returns : goal.returns
 returns g c =
     let k = c.self.invariant in
@@ -28,8 +30,8 @@ returns g c =
     told_by c.next_of.result c.is_none.result _ _ _ c.is_none.ensures c.next_of.ensures
     (λ none. rw (← c.self.view_is)
     (kept_done _ _ _ _ _ _ _ _ _ _ _ _ k c.args.actor lt
-    (moved_end _ _ c.self.inside.cursors.items _ _ c.deref.ensures.value c.index-from.ensures
+    (moved_end c.self.inside.cursors.items c.deref.ensures.value c.index-from.ensures refl refl
     (omega (arith, k.cursor_count, lt)) none)))
     (λ at next done. kept_undone _ _ _ _ _ _ _ _ _ _ _ _ k c.args.actor at lt
-    (moved _ _ c.self.inside.cursors.items _ _ at c.deref.ensures.value c.index-from.ensures (omega (arith, k.cursor_count, lt)) next)
+    (moved c.self.inside.cursors.items c.deref.ensures.value c.index-from.ensures refl refl (omega (arith, k.cursor_count, lt)) next)
     (rw (← c.self.view_is) at done))

@@ -8,6 +8,7 @@ use Rattle.store_core.proofs.store.Core.journal.Goals as goal
 pub returns-clause-few : goal.returns-clause-few
 returns-clause-few g c = rw (← c.self.view_is) (kept_few _ _ _ _ _ _ _ _ _ _ _ _ c.self.invariant)
 
+-- each entry was a step of the machine, so its laws hold along the run and in the state that it led to
 pub returns-clause-kept : goal.returns-clause-kept
 returns-clause-kept g c =
     let k = c.self.invariant in

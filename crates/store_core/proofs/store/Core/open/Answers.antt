@@ -16,6 +16,7 @@ returns-clause-state g c told =
     (stored.0 ∙ ap (with_records map.empty) c.deref.ensures.value) stored.1
     (c.put_records.ensures.later.past.0 ∙ c.in_ok-store.ensures.state.0)
 
+-- nothing was answered and every cursor stands before the first line, which fits the empty journal and the opening state
 pub invariant_of-result : goal.invariant_of-result
 invariant_of-result g c =
     kept_open g.H.NodeHash.half c.args.script.records.items c.args.script.lines.items c.in-Ok-vec.cursors.items

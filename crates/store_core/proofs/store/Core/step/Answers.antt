@@ -12,13 +12,14 @@ use Rattle.store_core.proofs.store.Core.step.Goals as goal
 use Rattle.store_core.proofs.store.Core.step.Goals.{else-after-ne0-via-then-after-ne0+else-not-is_answered}
 use Rattle.store_core.proofs.store.Core.step.Goals.{else-after-ne0-via-else-after-ne0}
 
+-- the actor has no line from its cursor on, and those before it are answered, so it is done
 pub returns-in_default-clause-finished : goal.returns-in_default-clause-finished
 returns-in_default-clause-finished g c =
     let k = c.self.invariant in (
       (λ _. rw (← c.self.view_is)
           (kept_done _ _ _ _ _ _ _ _ _ _ _ _ k c.args.actor (omega (arith, k.cursor_count, c.len.ensures, c.if-actor-len.false))
-          (moved_end _ _ c.self.inside.cursors.items _ _ c.deref.ensures.value c.index-from.ensures
-          (omega (arith, c.len.ensures, c.if-actor-len.false)) (c.in_default.ensures)))),
+          (moved_end c.self.inside.cursors.items c.deref.ensures.value c.index-from.ensures c.self.inside.cursors.ok.0 c.len.ensures
+          c.if-actor-len.false c.in_default.ensures))),
       (λ _. refl),
     )
 
@@ -26,37 +27,41 @@ pub returns-in_default-clause-blocked : goal.returns-in_default-clause-blocked
 returns-in_default-clause-blocked g c =
     ((λ e. cc), (λ blocked. absurd (done_free _ _ c.args.actor ((returns-in_default-clause-finished g c).0 refl) blocked)))
 
+-- each line of the script is one that a core serves, so the one that was found is
 pub answer-reply-requires-clause-served : goal.answer-reply-requires-clause-served
 answer-reply-requires-clause-served g c _ _ =
     let k = c.self.invariant in
-    let next = moved _ _ c.self.inside.cursors.items _ _ _ c.deref.ensures.value c.index-from.ensures
-    (omega (arith, c.len.ensures, c.if-actor-len.false)) c.in-Some.ensures in
+    let next = moved c.self.inside.cursors.items c.deref.ensures.value c.index-from.ensures
+    c.self.inside.cursors.ok.0 c.len.ensures c.if-actor-len.false c.in-Some.ensures in
     kept_served _ _ _ _ _ _ _ _ _ _ _ _ k _ next.within c.index-line.result.now c.index-line.ensures
 
+-- each line of the script is in range, so the one that was found is
 pub answer-reply-requires-clause-in_range : goal.answer-reply-requires-clause-in_range
 answer-reply-requires-clause-in_range g c _ _ =
     let k = c.self.invariant in
-    let next = moved _ _ c.self.inside.cursors.items _ _ _ c.deref.ensures.value c.index-from.ensures
-    (omega (arith, c.len.ensures, c.if-actor-len.false)) c.in-Some.ensures in
+    let next = moved c.self.inside.cursors.items c.deref.ensures.value c.index-from.ensures
+    c.self.inside.cursors.ok.0 c.len.ensures c.if-actor-len.false c.in-Some.ensures in
     kept_in_range _ _ _ _ _ _ _ _ _ _ _ _ k _ next.within c.index-line.result.now c.index-line.ensures
 
 pub answer-reply-requires-clause-filed : goal.answer-reply-requires-clause-filed
 answer-reply-requires-clause-filed g c _ _ = λ t. (c.self.invariant.sound t).forms
 
+-- room for an entry of each line was reserved, and this line has none yet, so the push succeeds
 pub unwrap-requires : goal.unwrap-requires
 unwrap-requires g c =
     let k = c.self.invariant in
-    let next = moved _ _ c.self.inside.cursors.items _ _ _ c.deref.ensures.value c.index-from.ensures
-    (omega (arith, c.len.ensures, c.if-actor-len.false)) c.in-Some.ensures in
+    let next = moved c.self.inside.cursors.items c.deref.ensures.value c.index-from.ensures
+    c.self.inside.cursors.ok.0 c.len.ensures c.if-actor-len.false c.in-Some.ensures in
     c.push.ensures.succeeds (let less = kept_less _ _ _ _ _ _ _ _ _ _ _ _ k c.args.actor _
     (omega (arith, k.cursor_count, c.len.ensures, c.if-actor-len.false)) next c.index-line.result.now c.index-line.ensures in omega
     (arith, k.room, c.self.inside.journal.ok.0))
 
+-- the line that was found is the actor's next one, and the line that it waits for has no entry
 pub returns-then-not-is_answered-clause-blocked : goal.returns-then-not-is_answered-clause-blocked
 returns-then-not-is_answered-clause-blocked g c =
     let k = c.self.invariant in
-    let next = moved _ _ c.self.inside.cursors.items _ _ _ c.deref.ensures.value c.index-from.ensures
-    (omega (arith, c.len.ensures, c.if-actor-len.false)) c.in-Some.ensures in (
+    let next = moved c.self.inside.cursors.items c.deref.ensures.value c.index-from.ensures
+    c.self.inside.cursors.ok.0 c.len.ensures c.if-actor-len.false c.in-Some.ensures in (
       (λ _. rw (← c.self.view_is) (blocked_by c.self.inside.script.lines.items c.self.inside.journal.items c.args.actor c.index.result.now
           (kept_next _ _ _ _ _ _ _ _ _ _ _ _ k c.args.actor _
           (omega (arith, k.cursor_count, c.len.ensures, c.if-actor-len.false)) next c.index.result.now c.index.ensures)
@@ -71,19 +76,21 @@ returns-then-not-is_answered-clause-finished g c =
 pub returns-then-not-is_answered-clause-few : goal.returns-then-not-is_answered-clause-few
 returns-then-not-is_answered-clause-few g c = kept_few _ _ _ _ _ _ _ _ _ _ _ _ c.self.invariant
 
+-- no line of the actor stands between its old cursor and this place, so moving the cursor there skips none
 pub invariant_of-self-then-not-is_answered : goal.invariant_of-self-then-not-is_answered
 invariant_of-self-then-not-is_answered g c =
     let k = c.self.invariant in
-    let next = moved _ _ c.self.inside.cursors.items _ _ _ c.deref.ensures.value c.index-from.ensures
-    (omega (arith, c.len.ensures, c.if-actor-len.false)) c.in-Some.ensures in
+    let next = moved c.self.inside.cursors.items c.deref.ensures.value c.index-from.ensures
+    c.self.inside.cursors.ok.0 c.len.ensures c.if-actor-len.false c.in-Some.ensures in
     kept_moved _ _ _ _ _ _ _ _ _ _ _ _ k c.args.actor _ (omega (arith, k.cursor_count, c.len.ensures, c.if-actor-len.false))
     (omega (arith, next.within)) next.none
 
+-- the line waits for none, or for one that is answered, so the actor is not blocked
 pub returns-clause-blocked : goal.returns-clause-blocked
 returns-clause-blocked g c =
     let k = c.self.invariant in
-    let next = moved _ _ c.self.inside.cursors.items _ _ _ c.deref.ensures.value c.index-from.ensures
-    (omega (arith, c.len.ensures, c.if-actor-len.false)) c.in-Some.ensures in
+    let next = moved c.self.inside.cursors.items c.deref.ensures.value c.index-from.ensures
+    c.self.inside.cursors.ok.0 c.len.ensures c.if-actor-len.false c.in-Some.ensures in
     let free : c.index-line.result.now.after ≢ 0 → is_answered c.self.inside.journal.items c.index-line.result.now.after ≡ true =
     (let same = same_line c.self.inside.script.lines.items _ c.index-line.result.now c.index.result.now next.within c.index-line.ensures
     c.index.ensures in λ waits.
@@ -102,11 +109,12 @@ returns-clause-blocked g c =
           false≢true (sym by.1 ∙ free by.0))),
     )
 
+-- a line of the actor was left, so it is not done
 pub returns-clause-finished : goal.returns-clause-finished
 returns-clause-finished g c =
     let k = c.self.invariant in
-    let next = moved _ _ c.self.inside.cursors.items _ _ _ c.deref.ensures.value c.index-from.ensures
-    (omega (arith, c.len.ensures, c.if-actor-len.false)) c.in-Some.ensures in (
+    let next = moved c.self.inside.cursors.items c.deref.ensures.value c.index-from.ensures
+    c.self.inside.cursors.ok.0 c.len.ensures c.if-actor-len.false c.in-Some.ensures in (
       (λ e. cc),
       (λ done. absurd (next_left c.self.inside.script.lines.items c.self.inside.journal.items c.args.actor c.index-line.result.now
           (kept_next _ _ _ _ _ _ _ _ _ _ _ _ k c.args.actor _
@@ -114,11 +122,12 @@ returns-clause-finished g c =
           (rw (← c.self.view_is) at done))),
     )
 
+-- the entry is that of the next line, by a step of the machine from the state before, so the run goes on by it
 pub invariant_of-self-2 : goal.invariant_of-self-2
 invariant_of-self-2 g c =
     let k = c.self.invariant in
-    let next = moved _ _ c.self.inside.cursors.items _ _ _ c.deref.ensures.value c.index-from.ensures
-    (omega (arith, c.len.ensures, c.if-actor-len.false)) c.in-Some.ensures in
+    let next = moved c.self.inside.cursors.items c.deref.ensures.value c.index-from.ensures
+    c.self.inside.cursors.ok.0 c.len.ensures c.if-actor-len.false c.in-Some.ensures in
     let line = c.index-line.result.now in
     let served = served_acquires _ (kept_served _ _ _ _ _ _ _ _ _ _ _ _ k _ next.within line c.index-line.ensures) in
     let range = kept_in_range _ _ _ _ _ _ _ _ _ _ _ _ k _ next.within line c.index-line.ensures in
@@ -139,11 +148,12 @@ invariant_of-self-2 g c =
     c.answer-reply.ensures.grows.few c.push.ensures.capacity c.answer-reply.ensures.grows.later
     c.answer-reply.ensures.fault)
 
+-- one entry more: the actor's next line with the machine's reply, and a fault only where the store's count rose
 pub returns-clause-answered : goal.returns-clause-answered
 returns-clause-answered g c _ =
     let k = c.self.invariant in
-    let next = moved _ _ c.self.inside.cursors.items _ _ _ c.deref.ensures.value c.index-from.ensures
-    (omega (arith, c.len.ensures, c.if-actor-len.false)) c.in-Some.ensures in
+    let next = moved c.self.inside.cursors.items c.deref.ensures.value c.index-from.ensures
+    c.self.inside.cursors.ok.0 c.len.ensures c.if-actor-len.false c.in-Some.ensures in
     rw (← c.self.view_is) (record {
       line = c.index-line.result.now;
       next = kept_next _ _ _ _ _ _ _ _ _ _ _ _ k c.args.actor _
@@ -167,23 +177,25 @@ returns-clause-answered g c _ =
 pub returns-in_default-clause-few : goal.returns-in_default-clause-few
 returns-in_default-clause-few g c = kept_few _ _ _ _ _ _ _ _ _ _ _ _ c.self.invariant
 
+-- the actor has no line from its cursor on, so moving the cursor to the end skips none
 pub invariant_of-self : goal.invariant_of-self
 invariant_of-self g c =
     let k = c.self.invariant in
     let lines = c.self.inside.script.lines.items in
-    let none = moved_end lines _ c.self.inside.cursors.items _ c.args.actor c.deref.ensures.value c.index-from.ensures
-    (omega (arith, c.len.ensures, c.if-actor-len.false)) c.in_default.ensures in
+    let none = moved_end c.self.inside.cursors.items c.deref.ensures.value c.index-from.ensures
+    c.self.inside.cursors.ok.0 c.len.ensures c.if-actor-len.false c.in_default.ensures in
     let end : c.len-in_default.result ≡ length lines = omega (arith, c.len-in_default.ensures, c.self.inside.script.lines.ok.0) in
     kept_moved _ _ _ _ _ _ _ _ _ _ _ _ k c.args.actor _ (omega (arith, k.cursor_count, c.len.ensures, c.if-actor-len.false))
     (omega (arith, end))
     (ap (λ (n : ℕ). numbers_of c.args.actor (take n lines)) end
     ∙ kept_end c.args.actor (slice_index c.self.inside.cursors.items c.args.actor) lines none)
 
+-- the line had no entry before, so there were fewer entries than lines
 pub returns-clause-few : goal.returns-clause-few
 returns-clause-few g c =
     let k = c.self.invariant in
-    let next = moved _ _ c.self.inside.cursors.items _ _ _ c.deref.ensures.value c.index-from.ensures
-    (omega (arith, c.len.ensures, c.if-actor-len.false)) c.in-Some.ensures in
+    let next = moved c.self.inside.cursors.items c.deref.ensures.value c.index-from.ensures
+    c.self.inside.cursors.ok.0 c.len.ensures c.if-actor-len.false c.in-Some.ensures in
     let less = kept_less _ _ _ _ _ _ _ _ _ _ _ _ k c.args.actor _
     (omega (arith, k.cursor_count, c.len.ensures, c.if-actor-len.false)) next c.index-line.result.now c.index-line.ensures in
     omega (
@@ -194,6 +206,7 @@ returns-clause-few g c =
           (ap length (pushed c.push.result _ _ _ _ c.push.ensures.items c.unwrap.ensures)),
     )
 
+-- the lines are those of 64 actors, so an actor past the last one has none
 pub returns-then-actor-len-clause-finished : goal.returns-then-actor-len-clause-finished
 returns-then-actor-len-clause-finished g c = (
   λ _. rw (← c.self.view_is)

@@ -1,0 +1,28 @@
+use Rattle.std.proofs.Common.{Ok}
+use Rattle.script_form.specs.declared.forms.Form.TheVariants as form
+use Rattle.script_form.proofs.Calls.{read_as, base_read, texts}
+use Rattle.script_form.proofs.call.said_by.Goals as goal
+
+pub returns-in-Want : goal.returns-in-Want
+returns-in-Want c = read_as c.args.form form.Want (texts c.args.arguments.now) (Ok c.want_of.result) c.in-Want.is c.want_of.ensures
+
+pub returns-in-Peer : goal.returns-in-Peer
+returns-in-Peer c = read_as c.args.form form.Peer (texts c.args.arguments.now) (Ok c.peer_of.result) c.in-Peer.is c.peer_of.ensures
+
+pub returns-in-Base : goal.returns-in-Base
+returns-in-Base c = read_as c.args.form form.Base _ _ c.in-Base.is (base_read c.args.arguments.now (rw c.in-Base.is at c.requires) _ c.base_of.ensures)
+
+pub returns-in-BaseState : goal.returns-in-BaseState
+returns-in-BaseState c = read_as c.args.form form.BaseState _ _ c.in-BaseState.is c.base_state_of.ensures
+
+pub returns-in-BaseTx : goal.returns-in-BaseTx
+returns-in-BaseTx c = read_as c.args.form form.BaseTx _ _ c.in-BaseTx.is c.base_tx_of.ensures
+
+pub returns-in-Node : goal.returns-in-Node
+returns-in-Node c = read_as c.args.form form.Node _ _ c.in-Node.is c.node_of.ensures
+
+pub returns-in-Check : goal.returns-in-Check
+returns-in-Check c = read_as c.args.form form.Check (texts c.args.arguments.now) (Ok c.check_of.result) c.in-Check.is c.check_of.ensures
+
+pub returns-in-Tick : goal.returns-in-Tick
+returns-in-Tick c = read_as c.args.form form.Tick (texts c.args.arguments.now) (Ok c.tick_of.result) c.in-Tick.is c.tick_of.ensures

@@ -1,0 +1,188 @@
+//! The command that the words behind the actor say: the form of its word is found first, and then its arguments are read.
+ghost use Rattle.std.specs.Prelude.{◌≡◌, ℕ, List, map, length, IfOk, MatchOption};
+ghost use Rattle.ledger_machine.specs.declared.commands.Command.{Command};
+ghost use Rattle.script_form.specs.declared.forms.Form.{Form};
+ghost use Rattle.script_form.specs.Commands.{arguments_in, CallSays, FormSays, SaysHead};
+
+use crate::forms::{Form, form_of};
+use crate::words::{blob_word, id_word, kind_word, number, target_word};
+use half_hash::{Blob, Memory};
+use ledger_machine::Command;
+use std::alloc::Global;
+
+/// The command that a command's word and its arguments say.
+pub(crate) fn command_of(alloc: Global, call: &[&[u8]]) -> Result<Option<Command>, Memory>
+    ensures { IfOk result (λ found.
+        MatchOption found ((c : Command) → CallSays (map (λ w. w.now) call.now) c → ⊥) (CallSays (map (λ w. w.now) call.now))) }
+{
+    let [word, arguments @ ..] = call else {
+        return Ok(None);
+    };
+    match form_of(word, arguments.len()) {
+        Some(form) => said_by(alloc, form, arguments),
+        None => Ok(None),
+    }
+}
+
+// The command that a form's arguments say.
+fn said_by(alloc: Global, form: Form, arguments: &[&[u8]]) -> Result<Option<Command>, Memory>
+    requires { length arguments.now ≡ length (arguments_in form) }
+    ensures { IfOk result (λ found. MatchOption found ((c : Command) → FormSays form (map (λ w. w.now) arguments.now) c → ⊥)
+        (FormSays form (map (λ w. w.now) arguments.now))) }
+{
+    match form {
+        Form::Want => Ok(want_of(arguments)),
+        Form::Peer => Ok(peer_of(arguments)),
+        Form::Base => base_of(alloc, arguments, None, None),
+        Form::BaseState => base_state_of(alloc, arguments),
+        Form::BaseTx => base_tx_of(alloc, arguments),
+        Form::Node => node_of(alloc, arguments),
+        Form::Check => Ok(check_of(arguments)),
+        Form::Tick => Ok(tick_of(arguments)),
+    }
+}
+
+fn want_of(arguments: &[&[u8]]) -> Option<Command>
+    ensures { MatchOption result ((c : Command) → FormSays Form.Want (map (λ w. w.now) arguments.now) c → ⊥)
+        (FormSays Form.Want (map (λ w. w.now) arguments.now)) }
+{
+    let [target, seq] = arguments else {
+        return None;
+    };
+    let target = target_word(target)?;
+    let seq = number(seq, 4_294_967_295)?;
+    Some(Command::Want {
+        target,
+        seq: seq as u32,
+    })
+}
+
+fn peer_of(arguments: &[&[u8]]) -> Option<Command>
+    ensures { MatchOption result ((c : Command) → FormSays Form.Peer (map (λ w. w.now) arguments.now) c → ⊥)
+        (FormSays Form.Peer (map (λ w. w.now) arguments.now)) }
+{
+    let [peer, target] = arguments else {
+        return None;
+    };
+    let peer = number(peer, 65_535)?;
+    let target = target_word(target)?;
+    Some(Command::Peer {
+        peer: peer as u16,
+        target,
+    })
+}
+
+fn check_of(arguments: &[&[u8]]) -> Option<Command>
+    ensures { MatchOption result ((c : Command) → FormSays Form.Check (map (λ w. w.now) arguments.now) c → ⊥)
+        (FormSays Form.Check (map (λ w. w.now) arguments.now)) }
+{
+    let [target] = arguments else {
+        return None;
+    };
+    let target = target_word(target)?;
+    Some(Command::Check { target })
+}
+
+fn tick_of(arguments: &[&[u8]]) -> Option<Command>
+    ensures { MatchOption result ((c : Command) → FormSays Form.Tick (map (λ w. w.now) arguments.now) c → ⊥)
+        (FormSays Form.Tick (map (λ w. w.now) arguments.now)) }
+{
+    let [target] = arguments else {
+        return None;
+    };
+    let target = target_word(target)?;
+    Some(Command::Tick { target })
+}
+
+// The base reply of a peer, a target and a header, with these roots.
+fn base_of(
+    alloc: Global,
+    arguments: &[&[u8]],
+    state: Option<Blob>,
+    tx: Option<Blob>,
+) -> Result<Option<Command>, Memory>
+    ensures { IfOk result (λ found. MatchOption found
+        ((p : ℕ) (t head : List ℕ) → SaysHead (map (λ w. w.now) arguments.now) p t head → ⊥)
+        (λ c. (p : ℕ) × (t : List ℕ) × (head : List ℕ) × SaysHead (map (λ w. w.now) arguments.now) p t head
+        × (c ≡ Command.Base p t head state tx))) }
+{
+    let [peer, target, header, ..] = arguments else {
+        return Ok(None);
+    };
+    let Some(peer) = number(peer, 65_535) else {
+        return Ok(None);
+    };
+    let Some(target) = target_word(target) else {
+        return Ok(None);
+    };
+    let Some(header) = blob_word(alloc, header)? else {
+        return Ok(None);
+    };
+    Ok(Some(Command::Base {
+        peer: peer as u16,
+        target,
+        header,
+        state,
+        tx,
+    }))
+}
+
+fn base_state_of(alloc: Global, arguments: &[&[u8]]) -> Result<Option<Command>, Memory>
+    ensures { IfOk result (λ found. MatchOption found ((c : Command) → FormSays Form.BaseState (map (λ w. w.now) arguments.now) c → ⊥)
+        (FormSays Form.BaseState (map (λ w. w.now) arguments.now))) }
+{
+    let [_, _, _, state] = arguments else {
+        return Ok(None);
+    };
+    match blob_word(alloc, state)? {
+        Some(state) => base_of(alloc, arguments, Some(state), None),
+        None => Ok(None),
+    }
+}
+
+fn base_tx_of(alloc: Global, arguments: &[&[u8]]) -> Result<Option<Command>, Memory>
+    ensures { IfOk result (λ found. MatchOption found ((c : Command) → FormSays Form.BaseTx (map (λ w. w.now) arguments.now) c → ⊥)
+        (FormSays Form.BaseTx (map (λ w. w.now) arguments.now))) }
+{
+    let [_, _, _, state, tx] = arguments else {
+        return Ok(None);
+    };
+    let Some(state) = blob_word(alloc, state)? else {
+        return Ok(None);
+    };
+    match blob_word(alloc, tx)? {
+        Some(tx) => base_of(alloc, arguments, Some(state), Some(tx)),
+        None => Ok(None),
+    }
+}
+
+fn node_of(alloc: Global, arguments: &[&[u8]]) -> Result<Option<Command>, Memory>
+    ensures { IfOk result (λ found. MatchOption found ((c : Command) → FormSays Form.Node (map (λ w. w.now) arguments.now) c → ⊥)
+        (FormSays Form.Node (map (λ w. w.now) arguments.now))) }
+{
+    let [peer, target, kind, id, blob] = arguments else {
+        return Ok(None);
+    };
+    let Some(peer) = number(peer, 65_535) else {
+        return Ok(None);
+    };
+    let Some(target) = target_word(target) else {
+        return Ok(None);
+    };
+    let Some(kind) = kind_word(kind) else {
+        return Ok(None);
+    };
+    let Some(id) = id_word(id) else {
+        return Ok(None);
+    };
+    let Some(blob) = blob_word(alloc, blob)? else {
+        return Ok(None);
+    };
+    Ok(Some(Command::Node {
+        peer: peer as u16,
+        target,
+        kind,
+        id,
+        blob,
+    }))
+}
