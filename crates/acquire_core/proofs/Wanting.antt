@@ -68,7 +68,8 @@ none_bad : (p : ℕ) (a b c : Bool) (s : Peers) → a ≡ false → b ≡ false 
 none_bad p a b c s x y z = rw (x, y, z) refl
 
 -- no outcome is bad, so nothing is charged
-nobody_charged : (half : Half) (nodes : Lookup) (t : Hash) (header : Bytes) (state tx : Option Bytes) (p : ℕ) (j : Judged) (peers : Peers)
+pub nobody_charged : (half : Half) (nodes : Lookup) (t : Hash) (header : Bytes) (state tx : Option Bytes) (p : ℕ) (j : Judged)
+    (peers : Peers)
     → AreWanted half nodes t header state tx → base_outcome half nodes t header state tx ≡ Ok j → after_judging p j peers ≡ peers
 nobody_charged half nodes t header state tx p j peers are e =
     let parts : AreJudged _ _ _ j = joined_parts _ _ _ j e in

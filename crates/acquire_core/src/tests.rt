@@ -1,4 +1,5 @@
-//! One acquisition of ledger 10, whose hash is [DD] under the byte sum: header, root [DE], leaf [FA] at 1.
+//! One acquisition of ledger 10, whose hash is [DD] under the byte sum: header, root [DE], leaf [FA] at 1. A test is a text of steps, a
+//! letter each, and a text of their answers.
 ghost use Rattle.std.specs.Prelude.{◌≡◌, IfOk};
 
 use super::*;
@@ -26,11 +27,6 @@ fn tiny(first: u8) -> Hash32 {
     let mut bytes = [0; 32];
     bytes[0] = first;
     Hash32 { bytes }
-}
-
-// The place at a depth on the way to a key of this byte and zeros.
-fn at(first: u8, depth: u8) -> NodeId {
-    NodeId::of_key(&tiny(first).bytes, depth % 65)
 }
 
 // An acquisition of [DD].
@@ -71,109 +67,155 @@ fn leaf(first: u8, second: u8) -> [u8; 35] {
     bytes
 }
 
-fn offered(outcome: &Offered) -> (&'static str, u8) {
+fn node_letter(outcome: &Offered) -> char {
     match outcome {
-        Offered::Good => ("good", 0),
-        Offered::Duplicate => ("duplicate", 0),
-        Offered::BadWire(cause) => ("bad wire", *cause),
-        Offered::BadHash { found, .. } => ("bad hash", found.bytes[0]),
-        Offered::NoBase => ("no base", 0),
-        Offered::NoParent(place) => ("no parent", place.depth()),
-        Offered::EmptyBranch(place) => ("empty branch", place.depth()),
-        Offered::UnderLeaf(place) => ("under leaf", place.depth()),
-        Offered::Malformed(rule) => ("malformed", *rule),
+        Offered::Good => 'g',
+        Offered::Duplicate => 'd',
+        Offered::BadWire(_) => 'w',
+        Offered::BadHash { .. } => 'h',
+        Offered::NoBase => 'b',
+        Offered::NoParent(_) => 'p',
+        Offered::EmptyBranch(_) => 'e',
+        Offered::UnderLeaf(_) => 'u',
+        Offered::Malformed(_) => 'm',
     }
 }
 
-fn root_offered(outcome: &Option<Offered>) -> &'static str {
+fn root_letter(outcome: &Option<Offered>) -> char {
     match outcome {
-        Some(outcome) => offered(outcome).0,
-        None => "",
+        Some(outcome) => node_letter(outcome),
+        None => '-',
     }
 }
 
-fn head_offered(outcome: &HeadOffered) -> &'static str {
+fn head_letter(outcome: &HeadOffered) -> char {
     match outcome {
-        HeadOffered::Good => "good",
-        HeadOffered::Duplicate => "duplicate",
-        HeadOffered::BadLength(_) => "bad length",
-        HeadOffered::BadHash { .. } => "bad hash",
+        HeadOffered::Good => 'g',
+        HeadOffered::Duplicate => 'd',
+        HeadOffered::BadLength(_) => 'l',
+        HeadOffered::BadHash { .. } => 'h',
     }
 }
 
-fn fault(fault: &OfferFault) -> &'static str {
+fn fault_letter(fault: &OfferFault) -> char {
     match fault {
-        OfferFault::Fault => "fault",
-        OfferFault::Clash { .. } => "clash",
-        OfferFault::Memory => "memory",
+        OfferFault::Fault => 'F',
+        OfferFault::Clash { .. } => 'C',
+        OfferFault::Memory => 'M',
     }
 }
 
-fn check_word(reply: &CheckReply) -> (&'static str, usize) {
+// What a check says: whom it asks, or its letter.
+fn check_letter(reply: &CheckReply) -> char {
     match reply {
-        CheckReply::Complete => ("complete", 0),
-        CheckReply::Need { peer, places } => ("need", *peer as usize * 10 + places.len() % 10),
-        CheckReply::Waiting(places) => ("waiting", *places),
-        CheckReply::NoPeer => ("no peer", 0),
-        CheckReply::SeqDiffers { found, .. } => ("seq differs", *found as usize),
-        CheckReply::ZeroState => ("zero state", 0),
-        CheckReply::BelowFloor(floor) => ("below floor", *floor as usize),
-        CheckReply::Malformed { rule, .. } => ("malformed", rule.number() as usize),
-        CheckReply::NotOpen => ("not open", 0),
+        CheckReply::Complete => 'c',
+        CheckReply::Need { peer, .. } if *peer == 5 => '5',
+        CheckReply::Need { .. } => '6',
+        CheckReply::Waiting(_) => 'w',
+        CheckReply::NoPeer => 'n',
+        CheckReply::SeqDiffers { .. } => 's',
+        _ => 'x',
     }
 }
 
-// What a check says: of `need` ten times the peer and the places.
 fn checked(
     alloc: Global,
     acquire: &mut Acquire,
     store: &mut RotStore<MemShelf>,
-) -> Result<(&'static str, usize), Fail>
+) -> Result<char, Fail>
     ensures { acquire.new.peers.ticks ≡ acquire.old.peers.ticks }
 {
     let found = whole::<TinyHash, MemShelf>(alloc, store, &tiny(0xDD));
     let found = found.ok().ok_or("no search")?;
     let reply = acquire.check(alloc, &found, 0)?;
-    Ok(check_word(&reply))
+    Ok(check_letter(&reply))
 }
 
-// What becomes of a base reply's three parts.
+// What becomes of a base reply of peer 5: three letters, or one.
 fn based(
     alloc: Global,
     acquire: &mut Acquire,
     store: &mut RotStore<MemShelf>,
-    peer: u16,
     header: &[u8],
     state: Option<&[u8]>,
     tx: Option<&[u8]>,
-) -> [&'static str; 3] {
-    match acquire.base::<TinyHash, MemShelf>(alloc, store, peer, header, state, tx) {
-        Ok(BaseReply::Parts { header, state, tx }) => [
-            head_offered(&header),
-            root_offered(&state),
-            root_offered(&tx),
-        ],
-        Ok(BaseReply::Unasked) => ["unasked", "", ""],
-        Ok(BaseReply::NotOpen) => ["not open", "", ""],
-        Err(refusal) => [fault(&refusal), "", ""],
+    said: &mut String,
+) -> Result<(), Fail> {
+    match acquire.base::<TinyHash, MemShelf>(alloc, store, 5, header, state, tx) {
+        Ok(BaseReply::Parts { header, state, tx }) => {
+            said.push(head_letter(&header))?;
+            said.push(root_letter(&state))?;
+            said.push(root_letter(&tx))?;
+        }
+        Ok(_) => said.push('.')?,
+        Err(fault) => said.push(fault_letter(&fault))?,
     }
+    Ok(())
 }
 
-// What becomes of a node of the account state.
+// What becomes of a leaf of peer 5 at a depth on the way to [10].
 fn noded(
     alloc: Global,
     acquire: &mut Acquire,
     store: &mut RotStore<MemShelf>,
-    peer: u16,
-    place: &NodeId,
+    depth: u8,
     blob: &[u8],
-) -> (&'static str, u8) {
-    match acquire.node::<TinyHash, MemShelf>(alloc, store, peer, Kind::State, place, blob) {
-        Ok(NodeReply::One(outcome)) => offered(&outcome),
-        Ok(NodeReply::Unasked) => ("unasked", 0),
-        Ok(NodeReply::NotOpen) => ("not open", 0),
-        Err(refusal) => (fault(&refusal), 0),
+) -> char {
+    let id = NodeId::of_key(&tiny(0x10).bytes, depth % 65);
+    match acquire.node::<TinyHash, MemShelf>(alloc, store, 5, Kind::State, &id, blob) {
+        Ok(NodeReply::One(outcome)) => node_letter(&outcome),
+        Ok(_) => '.',
+        Err(fault) => fault_letter(&fault),
     }
+}
+
+fn joined(reply: PeerReply) -> char {
+    match reply {
+        PeerReply::Added => 'a',
+        PeerReply::Known => 'k',
+        PeerReply::NotOpen => 'x',
+    }
+}
+
+// One step: a peer joins, peer 5 sends a base reply or a leaf, or a check.
+fn step(
+    alloc: Global,
+    acquire: &mut Acquire,
+    store: &mut RotStore<MemShelf>,
+    letter: u8,
+    said: &mut String,
+) -> Result<(), Fail> {
+    match letter {
+        b'5' => said.push(joined(acquire.peer(5)?))?,
+        b'6' => said.push(joined(acquire.peer(6)?))?,
+        b'?' => said.push(checked(alloc, acquire, store)?)?,
+        b'H' => based(alloc, acquire, store, &header(), None, Some(&root()), said)?,
+        b'R' => based(alloc, acquire, store, &header(), Some(&root()), None, said)?,
+        b'B' => based(
+            alloc,
+            acquire,
+            store,
+            &[0; 118],
+            Some(&[]),
+            Some(&[3]),
+            said,
+        )?,
+        b'S' => based(alloc, acquire, store, &[0; 4], Some(&root()), None, said)?,
+        b'C' => said.push(noded(alloc, acquire, store, 1, &leaf(2, 1)))?,
+        digit => said.push(noded(alloc, acquire, store, digit & 3, &leaf(1, 2)))?,
+    }
+    Ok(())
+}
+
+// The answers to these steps.
+fn answers(alloc: Global, seq: u32, failing: &[u64], steps: &str) -> Result<String, Fail> {
+    let mut store = opened(alloc, failing)?;
+    let mut acquire = acquiring(alloc, seq)?;
+    let mut said = String::new(alloc);
+    for letter in steps.bytes() {
+        step(alloc, &mut acquire, &mut store, letter, &mut said)?;
+    }
+    Ok(said)
 }
 
 #[test]
@@ -183,128 +225,19 @@ fn peers_take_turns(rt: HostRuntime) -> Result<(), Fail> {
     let mut acquire = acquiring(alloc, 10)?;
     assert_eq!(rt; acquire.peer(5)?, PeerReply::Added);
     assert_eq!(rt; acquire.peer(6)?, PeerReply::Added);
-    assert_eq!(rt; checked(alloc, &mut acquire, &mut store)?, ("need", 51));
-    assert_eq!(rt; checked(alloc, &mut acquire, &mut store)?, ("waiting", 1));
+    assert_eq!(rt; checked(alloc, &mut acquire, &mut store)?, '5');
+    assert_eq!(rt; checked(alloc, &mut acquire, &mut store)?, 'w');
     assert_eq!(rt; acquire.tick(), TickReply::Timeout(1));
-    assert_eq!(rt; checked(alloc, &mut acquire, &mut store)?, ("need", 61));
+    assert_eq!(rt; checked(alloc, &mut acquire, &mut store)?, '6');
     Ok(())
 }
 
-// What becomes of nodes of peer 5 at the place [10] of a depth, each a leaf of two bytes: the table's answers.
-fn answers(
-    alloc: Global,
-    acquire: &mut Acquire,
-    store: &mut RotStore<MemShelf>,
-    steps: &[(u8, u8, u8, &str)],
-) -> bool {
-    for (depth, first, second, want) in steps {
-        let blob = leaf(*first, *second);
-        let got = noded(alloc, acquire, store, 5, &at(0x10, *depth), &blob);
-        if got.0 != *want {
-            return false;
-        }
-    }
-    true
-}
-
+// The smallest whole ledger; a liar who is dropped at the fourth charge; a device that fails, and another sequence.
 #[test]
-fn the_smallest_whole_ledger(rt: HostRuntime) -> Result<(), Fail> {
+fn acquisitions_answer(rt: HostRuntime) -> Result<(), Fail> {
     let alloc = rt.alloc();
-    let mut store = opened(alloc, &[])?;
-    let mut acquire = acquiring(alloc, 10)?;
-    assert_eq!(rt; acquire.peer(5)?, PeerReply::Added);
-    let base = based(
-        alloc,
-        &mut acquire,
-        &mut store,
-        5,
-        &header(),
-        Some(&root()),
-        None,
-    );
-    assert!(rt; base == ["good", "good", ""]);
-    let steps = [
-        (1, 1, 2, "good"),
-        (1, 1, 2, "duplicate"),
-        (2, 1, 2, "under leaf"),
-        (1, 2, 1, "clash"),
-    ];
-    assert!(rt; answers(alloc, &mut acquire, &mut store, &steps));
-    assert_eq!(rt; checked(alloc, &mut acquire, &mut store)?, ("complete", 0));
-    Ok(())
-}
-
-#[test]
-fn a_liar_is_dropped_at_the_fourth_charge(rt: HostRuntime) -> Result<(), Fail> {
-    let alloc = rt.alloc();
-    let mut store = opened(alloc, &[])?;
-    let mut acquire = acquiring(alloc, 10)?;
-    let joined = [acquire.peer(5)?, acquire.peer(6)?];
-    assert!(rt; joined == [PeerReply::Added, PeerReply::Added]);
-    // three bad parts are three charges
-    let base = based(
-        alloc,
-        &mut acquire,
-        &mut store,
-        5,
-        &[0; 118],
-        Some(&[]),
-        Some(&[3, 3]),
-    );
-    assert!(rt; base == ["bad hash", "bad wire", "bad wire"]);
-    // what stands in the way charges nobody
-    let base = based(
-        alloc,
-        &mut acquire,
-        &mut store,
-        5,
-        &header(),
-        None,
-        Some(&root()),
-    );
-    assert!(rt; base == ["good", "", "empty branch"]);
-    let steps = [
-        (1, 1, 2, "no parent"),
-        (0, 1, 2, "bad hash"),
-        (0, 1, 2, "unasked"),
-    ];
-    assert!(rt; answers(alloc, &mut acquire, &mut store, &steps));
-    assert_eq!(rt; acquire.peer(5)?, PeerReply::Known);
-    assert_eq!(rt; checked(alloc, &mut acquire, &mut store)?, ("need", 61));
-    Ok(())
-}
-
-#[test]
-fn another_sequence_and_a_device_that_fails(rt: HostRuntime) -> Result<(), Fail> {
-    let alloc = rt.alloc();
-    let mut store = opened(alloc, &[1])?;
-    let mut acquire = acquiring(alloc, 9)?;
-    assert_eq!(rt; acquire.peer(5)?, PeerReply::Added);
-    let base = based(
-        alloc,
-        &mut acquire,
-        &mut store,
-        5,
-        &header(),
-        Some(&[]),
-        None,
-    );
-    assert!(rt; base == ["fault", "", ""]);
-    let base = based(
-        alloc,
-        &mut acquire,
-        &mut store,
-        5,
-        &[0; 4],
-        Some(&root()),
-        None,
-    );
-    assert!(rt; base == ["bad length", "no base", ""]);
-    let base = based(alloc, &mut acquire, &mut store, 5, &header(), None, None);
-    assert!(rt; base == ["good", "", ""]);
-    assert_eq!(rt;
-        checked(alloc, &mut acquire, &mut store)?,
-        ("seq differs", 10)
-    );
+    assert!(rt; answers(alloc, 10, &[], "5R112C?")?.as_str() == "agg-gduCc");
+    assert!(rt; answers(alloc, 10, &[], "56BH100?5")?.as_str() == "aahwwg-eph.6k");
+    assert!(rt; answers(alloc, 9, &[1], "5RSH?")?.as_str() == "aFlb-g-es");
     Ok(())
 }

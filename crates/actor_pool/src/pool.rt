@@ -7,6 +7,7 @@ ghost use Rattle.actor_pool.specs.Order.{IsOf, IsSameRun, AreAnswered};
 use crate::gate::{Gate, Point};
 use crate::shared::{Pinned, Shared, answered_locked, is_left_locked, step_locked, unlocked};
 use half_hash::NodeHash;
+use ledger_machine::Line;
 use node_backend::Shelf;
 use std::alloc::Global;
 use std::marker::Brand;
@@ -21,8 +22,8 @@ const ACTORS: u8 = 64;
 /// How often a worker tries a line that waits before it leaves it to the next round.
 const TRIES: u32 = 64;
 
-/// Answers every line of the core's script: each actor's by a worker of its own, over the core
-/// under one lock, and what the workers leave undone here, in line order.
+/// Answers every line of the core's script: each actor's by a worker of its own, over the core under one lock, and what the workers leave
+/// undone here, in line order. Where only one actor has lines no thread is started.
 pub fn run_actors<R: Threads + Wait + Sync, H: NodeHash, Sh: Shelf, G: Gate>(
     rt: &R,
     alloc: Global,
@@ -34,11 +35,22 @@ pub fn run_actors<R: Threads + Wait + Sync, H: NodeHash, Sh: Shelf, G: Gate>(
     ensures kept { IsJournal H.half Sh.B.tells result }
     ensures full { IsFull result.lines result.journal }
 {
-    let mut core = run_workers::<R, H, Sh, G, Brand>(rt, alloc, core, gate);
+    let mut core = core;
+    if are_several(&core.script().lines) {
+        core = run_workers::<R, H, Sh, G, Brand>(rt, alloc, core, gate);
+    }
     run_rest(alloc, &mut core, gate);
     // For its contract.
     let _ = core.journal();
     core
+}
+
+/// Whether more than one actor has lines. A single one needs no thread.
+fn are_several(lines: &[Line]) -> bool {
+    let Some(first) = lines.first() else {
+        return false;
+    };
+    lines.iter().any(|line| line.actor != first.actor)
 }
 
 /// What the workers do of the lines, in rounds: while lines are left, and the last round answered

@@ -37,6 +37,7 @@ pub(crate) fn get_at<H: NodeHash, S: NodeSource<H>>(
     ensures way { IsTrue S.tells →
         Goes (stop_at H.half (map.get (S.stored source.old)) kind arena.now (64 - length id.now) lone id.now link.now key.now) result }
     ensures same { IsTrue S.tells → S.stored source.new ≡ S.stored source.old }
+    ensures rest { S.rest source.new ≡ S.rest source.old }
     ensures later { S.faults source.old ≤ S.faults source.new }
     ensures cause { IfErr result (λ e. e ≡ causes.Fault → Rose (S.faults source.old) (S.faults source.new)) }
     ensures formless { IfErr result NamesNoForm }

@@ -48,6 +48,7 @@ pub(crate) fn look<H: NodeHash, S: NodeSource<H>>(
         Looks id.now (lone_or lone id.now (found_at H.half (map.get (S.stored source.old)) kind arena.now id.now link.now)) result }
     ensures placed { IfOk result (IsPlaced (length arena.now) id.now) }
     ensures same { IsTrue S.tells → S.stored source.new ≡ S.stored source.old }
+    ensures rest { S.rest source.new ≡ S.rest source.old }
     ensures later { S.faults source.old ≤ S.faults source.new }
     ensures cause { IfErr result (λ e. e ≡ causes.Fault → Rose (S.faults source.old) (S.faults source.new)) }
     ensures formless { IfErr result NamesNoForm }
@@ -69,6 +70,7 @@ fn through<H: NodeHash, S: NodeSource<H>>(
     ensures seen { IsTrue S.tells → Looks id.now (found_at H.half (map.get (S.stored source.old)) kind arena.now id.now link.now) result }
     ensures placed { IfOk result (IsPlaced (length arena.now) id.now) }
     ensures same { IsTrue S.tells → S.stored source.new ≡ S.stored source.old }
+    ensures rest { S.rest source.new ≡ S.rest source.old }
     ensures later { S.faults source.old ≤ S.faults source.new }
     ensures cause { IfErr result (λ e. e ≡ causes.Fault → Rose (S.faults source.old) (S.faults source.new)) }
     ensures formless { IfErr result NamesNoForm }
@@ -162,6 +164,7 @@ fn load<H: NodeHash, S: NodeSource<H>>(
         (let sight = sight_of H.half (λ n. fault_of n None kind id.now) (map.get (S.stored source.old) hash.now) in
         Stops id.now (found_seen hash.now sight)) }
     ensures same { IsTrue S.tells → S.stored source.new ≡ S.stored source.old }
+    ensures rest { S.rest source.new ≡ S.rest source.old }
     ensures later { S.faults source.old ≤ S.faults source.new }
     ensures cause { IfErr result (λ e. e ≡ causes.Fault → Rose (S.faults source.old) (S.faults source.new)) }
     ensures formless { IfErr result NamesNoForm }

@@ -209,6 +209,7 @@ impl CowMap {
         ensures free { IsTrue S.tells → (items : Items) →
             StandsFor H.half (map.get (S.stored source.old)) self.now items → IfErr result IsFailure }
         ensures same { IsTrue S.tells → S.stored source.new ≡ S.stored source.old }
+        ensures rest { S.rest source.new ≡ S.rest source.old }
         ensures later { S.faults source.old ≤ S.faults source.new }
         ensures cause { IfErr result (λ e. e ≡ causes.Fault → Rose (S.faults source.old) (S.faults source.new)) }
         ensures formless { IfErr result NamesNoForm }
@@ -253,6 +254,7 @@ impl CowMap {
             StandsFor H.half (map.get (S.stored source.old)) self.old items → IfErr result IsFailure }
         ensures err { OnErr result (self.new ≡ self.old) }
         ensures same { IsTrue S.tells → S.stored source.new ≡ S.stored source.old }
+        ensures rest { S.rest source.new ≡ S.rest source.old }
         ensures later { S.faults source.old ≤ S.faults source.new }
         ensures cause { IfErr result (λ e. e ≡ causes.Fault → Rose (S.faults source.old) (S.faults source.new)) }
         ensures formless { IfErr result NamesNoForm }
@@ -309,6 +311,7 @@ impl CowMap {
             StandsFor H.half (map.get (S.stored source.old)) self.old items → IfErr result IsFailure }
         ensures err { OnErr result (self.new ≡ self.old) }
         ensures same { IsTrue S.tells → S.stored source.new ≡ S.stored source.old }
+        ensures rest { S.rest source.new ≡ S.rest source.old }
         ensures later { S.faults source.old ≤ S.faults source.new }
         ensures cause { IfErr result (λ e. e ≡ causes.Fault → Rose (S.faults source.old) (S.faults source.new)) }
         ensures formless { IfErr result NamesNoForm }

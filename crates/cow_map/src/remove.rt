@@ -48,6 +48,7 @@ pub(crate) fn remove_at<H: NodeHash, S: NodeSource<H>>(
         (let there = found_at H.half (map.get (S.stored source.old)) kind in
         Leaves (there arena.new id.now) lone id.now key.now (there arena.old id.now link.now)) }
     ensures same { IsTrue S.tells → S.stored source.new ≡ S.stored source.old }
+    ensures rest { S.rest source.new ≡ S.rest source.old }
     ensures later { S.faults source.old ≤ S.faults source.new }
     ensures cause { IfErr result (λ e. e ≡ causes.Fault → Rose (S.faults source.old) (S.faults source.new)) }
     ensures formless { IfErr result NamesNoForm }
@@ -114,6 +115,7 @@ pub(crate) fn settle<H: NodeHash, S: NodeSource<H>>(
         stop_here id.now (found_at H.half (map.get (S.stored source.old)) kind arena.new id.now link) ≡ None) }
     ensures some { IfOk result (λ link. link ≡ empty_link → (c : ℕ) → slice_index_or links c empty_link ≡ empty_link) }
     ensures same { IsTrue S.tells → S.stored source.new ≡ S.stored source.old }
+    ensures rest { S.rest source.new ≡ S.rest source.old }
     ensures later { S.faults source.old ≤ S.faults source.new }
     ensures cause { IfErr result (λ e. e ≡ causes.Fault → Rose (S.faults source.old) (S.faults source.new)) }
     ensures formless { IfErr result NamesNoForm }
@@ -149,6 +151,7 @@ fn one_left<H: NodeHash, S: NodeSource<H>>(
         stop_here id.now (found_at H.half (map.get (S.stored source.old)) kind arena.new id.now link) ≡ None) }
     ensures some { IfOk result (λ link. link ≡ empty_link → (c : ℕ) → slice_index_or links c empty_link ≡ empty_link) }
     ensures same { IsTrue S.tells → S.stored source.new ≡ S.stored source.old }
+    ensures rest { S.rest source.new ≡ S.rest source.old }
     ensures later { S.faults source.old ≤ S.faults source.new }
     ensures cause { IfErr result (λ e. e ≡ causes.Fault → Rose (S.faults source.old) (S.faults source.new)) }
     ensures formless { IfErr result NamesNoForm }
@@ -180,6 +183,7 @@ fn is_leaf<H: NodeHash, S: NodeSource<H>>(
     ensures way { IsTrue S.tells →
         Goes (stop_here id.now (found_at H.half (map.get (S.stored source.old)) kind arena.now id.now link.now)) result }
     ensures same { IsTrue S.tells → S.stored source.new ≡ S.stored source.old }
+    ensures rest { S.rest source.new ≡ S.rest source.old }
     ensures later { S.faults source.old ≤ S.faults source.new }
     ensures cause { IfErr result (λ e. e ≡ causes.Fault → Rose (S.faults source.old) (S.faults source.new)) }
     ensures formless { IfErr result NamesNoForm }

@@ -87,6 +87,7 @@ impl Session {
             GoesBy H.half stored self.old (stop_of H.half stored self.old.state item.key) result }
         ensures err { OnErr result (self.new ≡ self.old) }
         ensures source { OnlyReads S.tells (S.stored source.old) (S.stored source.new) (S.faults source.old) (S.faults source.new) result }
+        ensures asked { S.rest source.new ≡ S.rest source.old }
     {
         what_is_left_is_whole();
         self.state.put::<H, S>(alloc, source, item)
@@ -109,6 +110,7 @@ impl Session {
             GoesBy H.half stored self.old (removal_stop_of H.half stored self.old.state key.now) result }
         ensures err { OnErr result (self.new ≡ self.old) }
         ensures source { OnlyReads S.tells (S.stored source.old) (S.stored source.new) (S.faults source.old) (S.faults source.new) result }
+        ensures asked { S.rest source.new ≡ S.rest source.old }
     {
         what_is_left_is_whole();
         self.state.remove::<H, S>(alloc, source, key)

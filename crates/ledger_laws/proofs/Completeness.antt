@@ -1,13 +1,12 @@
 -- A check is complete exactly where nothing that the header reaches is absent and the ledger is acceptable.
 use Rattle.std.proofs.Common.{◌≡◌, ◌⊎◌, inl, inr, ⊎_elim, ◌↔◌, ◌≢◌, ℕ, Bool, true, false, not, if◌then◌else◌, ◌==◌, ◌&&◌, nat_lt, List}
-use Rattle.std.proofs.Common.{[], ◌∷◌, Option, None, Some, Contains, refl, sym, ap, ◌∙◌, subst, IsSomeAnd}
-use Rattle.std.specs.Option.{option_map_or, option_and_then}
+use Rattle.std.proofs.Common.{[], ◌∷◌, Option, None, Some, filter_map, Contains, refl, sym, ap, ◌∙◌, subst, IsSomeAnd}
+use Rattle.std.specs.Option.{option_map, option_map_or}
 use Rattle.std.proofs.lemmas.Bool.{eq-eqb, le-ltb}
-use Rattle.ledger_spec.specs.declared.Place.TheVariants.{Header}
 use Rattle.ledger_spec.specs.Maps.{hash_cmp, get_in}
 use Rattle.ledger_spec.specs.Bytes.{Bytes, Hash, Half, is_zero}
 use Rattle.ledger_spec.specs.Header.{seq_of, state_root_of}
-use Rattle.ledger_spec.specs.Forms.{Held, header_of}
+use Rattle.ledger_spec.specs.Forms.{Held}
 use Rattle.ledger_spec.specs.Spots.{header_in}
 use Rattle.ledger_spec.specs.Findings.{Finding, findings, up_to, seen, Whole}
 use Rattle.ledger_machine.specs.declared.replies.CheckReply.{CheckReply}
@@ -18,9 +17,12 @@ use Rattle.ledger_machine.specs.declared.commands.Line.{Line}
 use Rattle.ledger_machine.specs.declared.journal.Entry.{Entry}
 use Rattle.ledger_machine.specs.declared.replies.Reply.{Reply}
 use Rattle.ledger_machine.specs.declared.replies.Reply.TheVariants as says
-use Rattle.ledger_machine.specs.State.{State, Acquisition, form_in, retained}
-use Rattle.ledger_machine.specs.Check.{search_reply, header_verdict, form_verdict, check_given, check_reply}
-use Rattle.ledger_spec.specs.Findings.{first_broken}
+use Rattle.ledger_machine.specs.State.{State, form_in, retained}
+use Rattle.ledger_machine.specs.Check.{told_by, check_said, check_given, check_reply}
+use Rattle.ledger_spec.specs.Findings.{missing_of, first_broken}
+use Rattle.ledger_spec.specs.Peers.{Peers}
+use Rattle.ledger_spec.specs.Acquiring.{Acquiring, Verdict, complete, seq_differs, zero_state, below_floor}
+use Rattle.ledger_spec.specs.Acquiring.{place_verdict, header_verdict}
 use Rattle.ledger_machine.specs.Sound.{Sound}
 use Rattle.ledger_machine.specs.Steps.{Step, Outcomes}
 use Rattle.ledger_machine.specs.Runs.{Run, used_by}
@@ -30,7 +32,8 @@ use Rattle.ledger_laws.proofs.SoundCheck.{IsWholeFor, check_complete}
 use Rattle.ledger_laws.proofs.Closure.{stored_whole, whole_all, whole_unbroken}
 
 -- an acceptable header decides nothing alone
-header_accepts : (asked floor : ℕ) (h : Bytes) (rest : CheckReply) → IsAcceptable asked floor h → header_verdict asked floor h rest ≡ rest
+header_accepts : (asked floor : ℕ) (h : Bytes) (rest : Verdict) → IsAcceptable asked floor h
+    → header_verdict asked floor (seq_of h) (state_root_of h) rest ≡ rest
 header_accepts asked floor h rest fit =
     at (asked == 0) (asked == seq_of h) (is_zero (state_root_of h)) (nat_lt (seq_of h) floor)
     (⊎_elim (λ any. inl (eq-eqb asked 0 any)) (λ own. inr (eq-eqb asked (seq_of h) own)) fit.seq)
@@ -41,8 +44,7 @@ header_accepts asked floor h rest fit =
     not_true false e = refl
 
     at : (a b z l : Bool) → (a ≡ true) ⊎ (b ≡ true) → z ≡ false → l ≡ false
-        → (if not a && not b then check.SeqDiffers asked (seq_of h) else if z then check.ZeroState else if l then check.BelowFloor floor
-        else rest) ≡ rest
+        → (if not a && not b then seq_differs asked (seq_of h) else if z then zero_state else if l then below_floor floor else rest) ≡ rest
     at true b false false asked z l = refl
     at false true false false asked z l = refl
     at false false z l (inl e) p q = cc
@@ -51,36 +53,35 @@ header_accepts asked floor h rest fit =
     at a b false true asked z p = cc
 
 -- nothing is found of a whole ledger
-none_seen : (fs : List Finding) → fs ≡ [] → (a : Acquisition) → search_reply a (up_to 256 fs) (first_broken (up_to 256 fs)) ≡ check.Complete
-none_seen fs e a = ap (λ x. search_reply a (up_to 256 x) (first_broken (up_to 256 x))) e
+none_seen : (fs : List Finding) → fs ≡ [] → (s : Peers)
+    → place_verdict s (first_broken (up_to 256 fs)) (filter_map missing_of (up_to 256 fs)) ≡ complete
+none_seen fs e s = ap (λ x. place_verdict s (first_broken (up_to 256 x)) (filter_map missing_of (up_to 256 x))) e
 
 -- a complete ledger's check is complete
-pub complete_checks : (half : Half) (s : State) (t : Hash) (a : Acquisition) → get_in hash_cmp s.wanted t ≡ Some a
+pub complete_checks : (half : Half) (s : State) (t : Hash) (a : Acquiring) → get_in hash_cmp s.wanted t ≡ Some a
     → IsComplete half s t a.seq → check_reply half s t ≡ check.Complete
 complete_checks half s t a is c =
     let whole : Whole half (form_in s) t = stored_whole half (form_in s) t c.stored c.shape in
-    let found : CheckReply = search_reply a (seen half (form_in s) t) (first_broken (seen half (form_in s) t)) in
-    ap (check_given half s t (form_in s t)) is ∙ judged found (form_in s t) c.header ∙ none_seen (findings half (form_in s) t) whole a
+    ap (check_given half s t) is
+    ∙ ap check_said (read places (header_in (form_in s) t) c.header ∙ none_seen (findings half (form_in s) t) whole a.peers)
   where
-    read : (rest : CheckReply) (h : Option Bytes) → IsSomeAnd h (IsAcceptable a.seq s.floor)
-        → option_map_or (λ x. header_verdict a.seq s.floor x rest) h (check.Malformed Header 6) ≡ rest
+    places : Verdict
+    places = place_verdict a.peers (first_broken (seen half (form_in s) t)) (filter_map missing_of (seen half (form_in s) t))
+
+    read : (rest : Verdict) (h : Option Bytes) → IsSomeAnd h (IsAcceptable a.seq s.floor)
+        → option_map_or (λ (x : ℕ × Hash). header_verdict a.seq s.floor x.0 x.1 rest) (option_map told_by h) rest ≡ rest
     read rest None fit = absurd fit
     read rest (Some h) fit = header_accepts a.seq s.floor h rest fit
 
-    judged : (rest : CheckReply) (held : Option Bytes) → IsSomeAnd (option_and_then header_of held) (IsAcceptable a.seq s.floor)
-        → option_map_or (λ form. form_verdict a.seq s.floor form rest) held rest ≡ rest
-    judged rest None fit = absurd fit
-    judged rest (Some form) fit = read rest (header_of form) fit
-
 -- and a check that is complete is of a complete ledger
-pub checked_complete : (half : Half) (s : State) (t : Hash) (a : Acquisition) → get_in hash_cmp s.wanted t ≡ Some a
+pub checked_complete : (half : Half) (s : State) (t : Hash) (a : Acquiring) → get_in hash_cmp s.wanted t ≡ Some a
     → check_reply half s t ≡ check.Complete → IsComplete half s t a.seq
 checked_complete half s t a is e =
-    let own : (b : Acquisition) × (get_in hash_cmp s.wanted t ≡ Some b) × IsWholeFor half s t (form_in s t) b = check_complete half s t e in
+    let own : (b : Acquiring) × (get_in hash_cmp s.wanted t ≡ Some b) × IsWholeFor half s t b = check_complete half s t e in
     let same : own.0 ≡ a = some_same (sym own.1 ∙ is) in
     record {
       stored = whole_all half (form_in s) t own.2.whole;
-      header = subst (λ (x : Acquisition). IsSomeAnd (header_in (form_in s) t) (IsAcceptable x.seq s.floor)) same own.2.header;
+      header = subst (λ (x : Acquiring). IsSomeAnd (header_in (form_in s) t) (IsAcceptable x.seq s.floor)) same own.2.header;
       shape = whole_unbroken half (form_in s) t own.2.whole;
     }
 
@@ -99,7 +100,7 @@ row_says half s actor t (says.ZeroHash form) used s' o fault memory = absurd o.0
 row_says half s actor t reply used s' o fault memory = o.says
 
 -- a check is complete exactly where the ledger is
-pub complete_exactly : (half : Half) (s s' : State) (actor : ℕ) (t : Hash) (a : Acquisition) (reply : Reply) (used : List Held)
+pub complete_exactly : (half : Half) (s s' : State) (actor : ℕ) (t : Hash) (a : Acquiring) (reply : Reply) (used : List Held)
     → get_in hash_cmp s.wanted t ≡ Some a
     → Step half s actor (command.Check t) reply used s' → reply ≢ says.Fault → reply ≢ says.Memory
     → (reply ≡ says.Check check.Complete) ↔ IsComplete half s t a.seq

@@ -1,10 +1,12 @@
 pub mod SoundTables
+pub mod Charges
 pub mod Soundness
 pub mod RunLaws
 pub mod SoundKeeps
 pub mod SoundForms
 pub mod SoundCheck
 pub mod SoundOffers
+pub mod SoundViews
 pub mod SoundSteps
 pub mod Ways
 pub mod Receipts
@@ -12,3 +14,5 @@ pub mod Closure
 pub mod Completeness
 pub mod Openings
 pub mod Collisions
+pub mod EveryMaps
+pub mod WholeMaps

@@ -28,8 +28,6 @@ use Rattle.ledger_spec.specs.declared.outcomes.HeadOffered.{HeadOffered}
 use Rattle.ledger_spec.specs.declared.outcomes.HeadOffered.TheVariants as head
 use Rattle.ledger_machine.specs.declared.replies.WantReply.{WantReply}
 use Rattle.ledger_machine.specs.declared.replies.WantReply.TheVariants as want
-use Rattle.ledger_machine.specs.declared.replies.PeerReply.{PeerReply}
-use Rattle.ledger_machine.specs.declared.replies.PeerReply.TheVariants as peer
 use Rattle.ledger_machine.specs.declared.replies.CheckReply.{CheckReply}
 use Rattle.ledger_machine.specs.declared.replies.CheckReply.TheVariants as check
 use Rattle.ledger_machine.specs.declared.replies.BaseReply.TheVariants as base
@@ -39,20 +37,28 @@ use Rattle.ledger_machine.specs.declared.replies.TickReply.TheVariants as tick
 use Rattle.ledger_machine.specs.Ticks.{tick_reply, after_tick}
 use Rattle.ledger_machine.specs.declared.replies.Reply.{Reply}
 use Rattle.ledger_machine.specs.declared.replies.Reply.TheVariants as says
-use Rattle.ledger_machine.specs.State.{State, Acquisition, form_in, roots, with_form, with_forms, stored_seq}
+use Rattle.ledger_machine.specs.State.{State, form_in, roots, with_form, with_forms, stored_seq}
 use Rattle.ledger_machine.specs.Want.{want_reply, after_want}
-use Rattle.ledger_machine.specs.Peer.{peer_reply, after_peer, with_peer}
-use Rattle.ledger_machine.specs.Check.{check_reply, after_check, after_ask}
-use Rattle.ledger_machine.specs.Offers.{after_head, after_node}
-use Rattle.ledger_spec.specs.Offers.{Clash, head_given, head_outcome, node_given, spot_outcome, wire_outcome, node_outcome, stored_by}
-use Rattle.ledger_machine.specs.Base.{is_present, part_outcome, given_part, after_part, all_parts, base_outcomes, base_for, base_reply}
-use Rattle.ledger_machine.specs.Base.{after_parts, after_base, one_reply, node_for, node_reply, after_offer}
-use Rattle.ledger_machine.specs.Scripts.{IsAcquiring}
+use Rattle.ledger_machine.specs.Peer.{after_peer}
+use Rattle.ledger_machine.specs.Check.{check_reply, after_check}
+use Rattle.ledger_spec.specs.Offers.{Clash, head_given, head_outcome, head_forms, node_given, spot_outcome, wire_outcome, node_outcome}
+use Rattle.ledger_spec.specs.Offers.{stored_by}
+use Rattle.ledger_spec.specs.Bases as lookup
+use Rattle.ledger_spec.specs.Bases.{Judged, given, root_outcome, root_forms, joined, unless_clash, behind_header, behind_state}
+use Rattle.ledger_spec.specs.Bases.{base_outcome, base_forms}
+use Rattle.ledger_spec.specs.Peers.{is_present}
+use Rattle.ledger_spec.specs.Acquiring.{Acquiring}
+use Rattle.ledger_machine.specs.Base.{base_said, base_for, base_reply, after_base, node_said, node_for, node_reply, node_forms, after_node}
+use Rattle.ledger_machine.specs.Views.{view_reply, after_view, after_unview}
+use Rattle.ledger_machine.specs.Reading.{view_root}
+use Rattle.ledger_laws.proofs.SoundViews.{view_nodes}
+use Rattle.ledger_laws.proofs.SoundSteps.{gets_after, pages_after}
+use Rattle.ledger_machine.specs.Scripts.{IsCovered}
 use Rattle.ledger_machine.specs.Steps.{Step, IsAfter, Answered, Gives}
 use Rattle.ledger_machine.specs.Runs.{Run, used_by}
 use Rattle.ledger_machine.specs.Receipts.{IsReceived, IsHeadReceived, IsReceivedPart, Receives, IsKept, Stays, AllStay}
-use Rattle.ledger_laws.proofs.SoundKeeps.{shaded_same, with_wanted_grow}
-use Rattle.ledger_laws.proofs.SoundForms.{get_more, old_stays, in_head}
+use Rattle.ledger_laws.proofs.SoundKeeps.{shaded_same}
+use Rattle.ledger_laws.proofs.SoundForms.{get_more, old_stays, in_head, forms_looked_up, with_forms-append}
 use Rattle.ledger_spec.proofs.Storing.{in_one}
 use Rattle.ledger_laws.proofs.SoundSteps.{outcome_cases, line_at}
 use Rattle.ledger_laws.proofs.Ways.{IsNamed, named_reached, wanted_named}
@@ -80,87 +86,84 @@ with_forms_grow half s (form ∷ forms) = grows_on (with_form_grows half s form)
 after_grows : (t s' : State) → IsAfter t s' → Grows (form_in t) (form_in s')
 after_grows t s' e h form x = ap (λ (n : Nodes). finite.get n h) (shaded_same t s' e).nodes ∙ x
 
-head_grows : (half : Half) (s : State) (bytes : Bytes) (r : Result HeadOffered Clash)
-    → Grows (form_in s) (form_in (after_head half s bytes r))
-head_grows half s bytes (Ok head.Good) = with_form_grows half s (header_prefix ++ bytes)
-head_grows half s bytes (Ok head.Duplicate) = λ h was x. x
-head_grows half s bytes (Ok (head.BadLength n)) = λ h was x. x
-head_grows half s bytes (Ok (head.BadHash found)) = λ h was x. x
-head_grows half s bytes (Err c) = λ h was x. x
-
-part_grows : (half : Half) (s : State) (t : Hash) (kind : Kind) (blob : Option Bytes)
-    → Grows (form_in s) (form_in (after_part half s t kind blob))
-part_grows half s t kind None = λ h was x. x
-part_grows half s t kind (Some blob) =
-    with_forms_grow half s (stored_by (read_wire half blob) (node_outcome half (form_in s) t kind [] blob))
-
 -- no answer to a command that acquires a ledger takes a form away
 want_grows : (s : State) (t : Hash) (seq : ℕ) (r : WantReply) → Grows (form_in s) (form_in (after_want s t seq r))
 want_grows s t seq want.Opened = λ h was x. x
 want_grows s t seq _ = λ h was x. x
 
-peer_grows : (half : Half) (s : State) (p : ℕ) (t : Hash) (r : PeerReply) → Grows (form_in s) (form_in (after_peer s p t r))
-peer_grows half s p t peer.Added = with_wanted_grow s t (with_peer p)
-peer_grows half s p t _ = λ h was x. x
+peer_grows : (s : State) (p : ℕ) (t : Hash) → Grows (form_in s) (form_in (after_peer s p t))
+peer_grows s p t = λ h was x. x
 
+-- a check stores nothing and takes nothing away
 check_grows : (half : Half) (s : State) (t : Hash) (seq : ℕ) (r : CheckReply) → Grows (form_in s) (form_in (after_check s t seq r))
 check_grows half s t seq check.Complete = λ h was x. x
-check_grows half s t seq (check.Need peer places) = with_wanted_grow s t (after_ask (check.Need peer places))
+check_grows half s t seq (check.Need peer places) = λ h was x. x
 check_grows half s t seq (check.SeqDiffers asked found) = λ h was x. x
 check_grows half s t seq check.ZeroState = λ h was x. x
 check_grows half s t seq (check.BelowFloor f) = λ h was x. x
 check_grows half s t seq (check.Malformed place rule) = λ h was x. x
 check_grows half s t seq _ = λ h was x. x
 
+-- the parts' forms come, and a charge takes nothing away
 base_grows : (half : Half) (s : State) (p : ℕ) (t : Hash) (bytes : Bytes) (state tx : Option Bytes) (reply : Reply)
     → Grows (form_in s) (form_in (after_base half s p t bytes state tx reply))
 base_grows half s p t bytes state tx (says.Base (base.Parts h a b)) =
-    let r : Result HeadOffered Clash = head_outcome half (form_in s) t bytes in
-    let s1 : State = after_head half s bytes r in
-    let s2 : State = after_part half s1 t kinds.State state in
-    grows_on (head_grows half s bytes r) (grows_on (part_grows half s1 t kinds.State state) (part_grows half s2 t kinds.Tx tx))
+    with_forms_grow half s (base_forms half (form_in s) t bytes state tx)
 base_grows half s p t bytes state tx _ = λ h was x. x
 
+-- and so do a node's
 node_grows : (half : Half) (s : State) (p : ℕ) (t : Hash) (kind : Kind) (path : List ℕ) (blob : Bytes) (reply : Reply)
-    → Grows (form_in s) (form_in (after_offer half s p t kind path blob reply))
+    → Grows (form_in s) (form_in (after_node half s p t kind path blob reply))
 node_grows half s p t kind path blob (says.Node (node.One o)) =
-    with_forms_grow half s (stored_by (read_wire half blob) (node_outcome half (form_in s) t kind path blob))
+    with_forms_grow half s (node_forms half s t kind path blob)
 node_grows half s p t kind path blob _ = λ h was x. x
 
 tick_grows : (s : State) (t : Hash) (r : TickReply) → Grows (form_in s) (form_in (after_tick s t r))
-tick_grows s t (tick.Timeout n) = with_wanted_grow s t (λ a. record a { ticks = n; asked = [] })
+tick_grows s t (tick.Timeout n) = λ h was x. x
 tick_grows s t (tick.GaveUp n) = λ h was x. x
 tick_grows s t tick.NotOpen = λ h was x. x
 
+-- the same forms
+same_grows : (s s' : State) → s'.nodes ≡ s.nodes → Grows (form_in s) (form_in s')
+same_grows s s' same h form e = ap (λ (n : Nodes). finite.get n h) same ∙ e
+
 -- the answer of a row
-answer_grows : (half : Half) (s : State) (a : ℕ) (c : Command) (reply : Reply) (used : List Held) (s' : State) → IsAcquiring c
+answer_grows : (half : Half) (s : State) (a : ℕ) (c : Command) (reply : Reply) (used : List Held) (s' : State) → IsCovered c
     → Answered half s a c reply used s' → Grows (form_in s) (form_in s')
-answer_grows half s a (command.Want t seq) reply used s' acquiring g =
+answer_grows half s a (command.Want t seq) reply used s' covered g =
     grows_on (want_grows s t seq (want_reply s t seq)) (after_grows (after_want s t seq (want_reply s t seq)) s' g.after)
-answer_grows half s a (command.Peer p t) reply used s' acquiring g =
-    grows_on (peer_grows half s p t (peer_reply s p t)) (after_grows (after_peer s p t (peer_reply s p t)) s' g.after)
-answer_grows half s a (command.Base p t bytes state tx) reply used s' acquiring g =
+answer_grows half s a (command.Peer p t) reply used s' covered g =
+    grows_on (peer_grows s p t) (after_grows (after_peer s p t) s' g.after)
+answer_grows half s a (command.Base p t bytes state tx) reply used s' covered g =
     grows_on (base_grows half s p t bytes state tx reply) (after_grows (after_base half s p t bytes state tx reply) s' g.after)
-answer_grows half s a (command.Node p t kind path blob) reply used s' acquiring g =
-    grows_on (node_grows half s p t kind path blob reply) (after_grows (after_offer half s p t kind path blob reply) s' g.after)
-answer_grows half s a (command.Check t) reply used s' acquiring g =
+answer_grows half s a (command.Node p t kind path blob) reply used s' covered g =
+    grows_on (node_grows half s p t kind path blob reply) (after_grows (after_node half s p t kind path blob reply) s' g.after)
+answer_grows half s a (command.Check t) reply used s' covered g =
     grows_on (check_grows half s t (stored_seq s t) (check_reply half s t))
     (after_grows (after_check s t (stored_seq s t) (check_reply half s t)) s' g.after)
-answer_grows half s a (command.Tick t) reply used s' acquiring g =
+answer_grows half s a (command.Tick t) reply used s' covered g =
     grows_on (tick_grows s t (tick_reply s t)) (after_grows (after_tick s t (tick_reply s t)) s' g.after)
-answer_grows half s a _ reply used s' acquiring g = absurd acquiring
+answer_grows half s a (command.View v t) reply used s' covered g =
+    grows_on (same_grows s (after_view s (a, v) t (view_reply s (a, v) t)) (view_nodes s (a, v) t (view_reply s (a, v) t)))
+    (after_grows (after_view s (a, v) t (view_reply s (a, v) t)) s' g.after)
+answer_grows half s a (command.Unview v) reply used s' covered g = after_grows (after_unview s (a, v)) s' g.after
+answer_grows half s a (command.Get v kind key) reply used s' covered g =
+    after_grows s s' (gets_after half s kind key (view_root s kind (a, v)) reply used s' g)
+answer_grows half s a (command.Page v kind key n) reply used s' covered g =
+    after_grows s s' (pages_after half s kind key n (view_root s kind (a, v)) reply used s' g)
+answer_grows half s a _ reply used s' covered g = absurd covered
 
--- what is stored stays at each step of a command that acquires a ledger
-pub step_grows : (half : Half) (s s' : State) (a : ℕ) (c : Command) (reply : Reply) (used : List Held) → IsAcquiring c
+-- what is stored stays at each step of such a command
+pub step_grows : (half : Half) (s s' : State) (a : ℕ) (c : Command) (reply : Reply) (used : List Held) → IsCovered c
     → Step half s a c reply used s' → Grows (form_in s) (form_in s')
-step_grows half s s' a c reply used acquiring step =
+step_grows half s s' a c reply used covered step =
     ⊎_elim (λ r. grows_on (with_forms_grow half s r.forms) (after_grows (with_forms half s r.forms) s' r.same))
-    (λ g. answer_grows half s a c reply used s' acquiring g)
+    (λ g. answer_grows half s a c reply used s' covered g)
     (outcome_cases half s a c reply used s' step.outcome)
 
 -- and along each run of such commands
 pub run_grows : (half : Half) (lines : List Line) (s : State) (entries : List Entry) (s' : State)
-    → ((l : Line) → Contains lines l → IsAcquiring l.command)
+    → ((l : Line) → Contains lines l → IsCovered l.command)
     → Run half lines s entries s' → Grows (form_in s) (form_in s')
 run_grows half lines s [] s' each run = subst (λ (x : State). Grows (form_in s) (form_in x)) (sym run) (λ h was x. x)
 run_grows half lines s (e ∷ rest) s' each run =
@@ -260,21 +263,28 @@ read_kept half s t kind path (Ok m) n o is e received =
 
 node_kept : (half : Half) (s : State) (t : Hash) (kind : Kind) (path : List ℕ) (blob : Bytes) (n : Held) (o : Offered)
     → node_outcome half (form_in s) t kind path blob ≡ Ok o
-    → IsReceivedPart half (Some blob) (Some o) n → IsKept half (after_node half s t kind path blob) (t ∷ []) n
+    → IsReceivedPart half (Some blob) (Some o) n → IsKept half (with_forms half s (node_forms half s t kind path blob)) (t ∷ []) n
 node_kept half s t kind path blob n o e received = read_kept half s t kind path (read_wire half blob) n o received.1 e received.0
 
--- a part that is given, and answered so
-part_given : (r : Result Offered Clash) (o : Offered) → given_part r ≡ Ok (Some o) → r ≡ Ok o
-part_given (Ok x) o e = cc
-part_given (Err c) o e = absurd (err_ok e)
+-- a root that is given, and answered so
+root_given : (r : Result Offered Clash) (o : Offered) → given r ≡ Ok (Some o) → r ≡ Ok o
+root_given (Ok x) o e = cc
+root_given (Err c) o e = absurd (err_ok e)
 
-part_kept : (half : Half) (s : State) (t : Hash) (kind : Kind) (blob : Option Bytes) (a : Option Offered) (n : Held)
-    → part_outcome half (form_in s) t kind blob ≡ Ok a
-    → IsReceivedPart half blob a n → IsKept half (after_part half s t kind blob) (t ∷ []) n
-part_kept half s t kind None a n e received = absurd received
-part_kept half s t kind (Some blob) None n e received = absurd received
-part_kept half s t kind (Some blob) (Some o) n e received =
-    node_kept half s t kind [] blob n o (part_given (node_outcome half (form_in s) t kind [] blob) o e) received
+-- a root that is received over what a state holds is kept
+root_kept : (half : Half) (s : State) (nodes : Lookup) (t : Hash) (kind : Kind) (blob : Option Bytes) (a : Option Offered) (n : Held)
+    → form_in s ≡ nodes → root_outcome half nodes t kind blob ≡ Ok a → IsReceivedPart half blob a n
+    → IsKept half (with_forms half s (root_forms half nodes t kind blob)) (t ∷ []) n
+root_kept half s nodes t kind blob a n is =
+    subst (λ x. root_outcome half x t kind blob ≡ Ok a → IsReceivedPart half blob a n
+    → IsKept half (with_forms half s (root_forms half x t kind blob)) (t ∷ []) n) is (own blob a)
+  where
+    own : (blob : Option Bytes) (a : Option Offered) → root_outcome half (form_in s) t kind blob ≡ Ok a → IsReceivedPart half blob a n
+        → IsKept half (with_forms half s (root_forms half (form_in s) t kind blob)) (t ∷ []) n
+    own None a e received = absurd received
+    own (Some blob) None e received = absurd received
+    own (Some blob) (Some o) e received =
+        node_kept half s t kind [] blob n o (root_given (node_outcome half (form_in s) t kind [] blob) o e) received
 
 -- an answer to a header behind the tests of its length and its hash
 past_tests : (a b : Bool) (n : ℕ) (found : Hash) (r : Result HeadOffered Clash) (h : HeadOffered)
@@ -283,6 +293,10 @@ past_tests : (a b : Bool) (n : ℕ) (found : Hash) (r : Result HeadOffered Clash
 past_tests false b n found r h e received = absurd (subst IsHeadReceived (sym (ok_same e)) received)
 past_tests true false n found r h e received = absurd (subst IsHeadReceived (sym (ok_same e)) received)
 past_tests true true n found r h e received = (refl, e)
+
+-- the state behind a header
+abbrev after_head : Half → State → Bytes → Result HeadOffered Clash → State
+after_head half s bytes r = with_forms half s (head_forms r bytes)
 
 -- a header of the right hash is stored, now or before
 head_stored : (half : Half) (s : State) (bytes : Bytes) (held : Option Bytes) (h : HeadOffered)
@@ -318,96 +332,140 @@ head_kept half s t bytes h e received =
     (head_stored half s bytes (form_in s (half form)) h refl (as_given ∙ past.1)) in
     record { stored = there; reached = root (subst (λ x. Contains (t ∷ []) x) (sym same) (in_head t [])) (form, there) }
 
--- the parts of an answer
-parts_are : (x : Result HeadOffered Clash) (y z : Result (Option Offered) Clash) (h : HeadOffered) (a b : Option Offered)
-    → all_parts x y z ≡ says.Base (base.Parts h a b)
-    → (x ≡ Ok h) × (y ≡ Ok a) × (z ≡ Ok b)
-parts_are (Err c) y z h a b e = cc
-parts_are (Ok x) (Err c) z h a b e = cc
-parts_are (Ok x) (Ok y) (Err c) h a b e = cc
-parts_are (Ok x) (Ok y) (Ok z) h a b e =
-    let first : x ≡ h = cc in let second : y ≡ a = cc in let third : z ≡ b = cc in (ap Ok first, ap Ok second, ap Ok third)
+-- the parts of an outcome
+joined_are : (x : Result HeadOffered Clash) (y z : Result (Option Offered) Clash) (j : Judged) → joined x y z ≡ Ok j
+    → (x ≡ Ok j.header) × (y ≡ Ok j.state) × (z ≡ Ok j.tx)
+joined_are (Err c) y z j e = absurd (err_ok e)
+joined_are (Ok x) (Err c) z j e = absurd (err_ok e)
+joined_are (Ok x) (Ok y) (Err c) j e = absurd (err_ok e)
+joined_are (Ok x) (Ok y) (Ok z) j e =
+    let same : record { header = x; state = y; tx = z } ≡ j = ok_same e in (
+      ap (λ (k : Judged). Ok k.header) same,
+      ap (λ (k : Judged). Ok k.state) same,
+      ap (λ (k : Judged). Ok k.tx) same,
+    )
 
--- an answer with parts is to a present peer
-base_present : (half : Half) (s : State) (p : ℕ) (t : Hash) (bytes : Bytes) (state tx : Option Bytes) (o : Option Acquisition)
+-- an answer with parts says the outcome
+base_says : (r : Result Judged Clash) (h : HeadOffered) (a b : Option Offered) → base_said r ≡ says.Base (base.Parts h a b)
+    → r ≡ Ok (record { header = h; state = a; tx = b })
+base_says (Ok j) h a b e =
+    let first : j.header ≡ h = cc in
+    let second : j.state ≡ a = cc in
+    let third : j.tx ≡ b = cc in
+    λ i. Ok (record { header = first i; state = second i; tx = third i })
+base_says (Err c) h a b e = cc
+
+-- and is to a present peer
+pub base_present : (half : Half) (s : State) (p : ℕ) (t : Hash) (bytes : Bytes) (state tx : Option Bytes) (o : Option Acquiring)
     (h : HeadOffered) (a b : Option Offered)
     → base_for half s p t bytes state tx o ≡ says.Base (base.Parts h a b)
-    → base_outcomes half s t bytes state tx ≡ says.Base (base.Parts h a b)
+    → base_outcome half (form_in s) t bytes state tx ≡ Ok (record { header = h; state = a; tx = b })
 base_present half s p t bytes state tx None h a b e = cc
-base_present half s p t bytes state tx (Some x) h a b e = at (is_present p x) (base_outcomes half s t bytes state tx) e
+base_present half s p t bytes state tx (Some x) h a b e = at (is_present x.peers p) (base_outcome half (form_in s) t bytes state tx) e
   where
-    at : (z : Bool) (r : Reply) → (if z then r else says.Base base.Unasked) ≡ says.Base (base.Parts h a b)
-        → r ≡ says.Base (base.Parts h a b)
-    at true r e = e
+    at : (z : Bool) (r : Result Judged Clash) → (if z then base_said r else says.Base base.Unasked) ≡ says.Base (base.Parts h a b)
+        → r ≡ Ok (record { header = h; state = a; tx = b })
+    at true r e = base_says r h a b e
     at false r e = cc
 
 -- and so is one with a node's outcome
-node_present : (half : Half) (s : State) (p : ℕ) (t : Hash) (kind : Kind) (path : List ℕ) (blob : Bytes) (o : Option Acquisition)
+pub node_present : (half : Half) (s : State) (p : ℕ) (t : Hash) (kind : Kind) (path : List ℕ) (blob : Bytes) (o : Option Acquiring)
     (x : Offered)
     → node_for half s p t kind path blob o ≡ says.Node (node.One x) → node_outcome half (form_in s) t kind path blob ≡ Ok x
 node_present half s p t kind path blob None x e = cc
-node_present half s p t kind path blob (Some a) x e = at (is_present p a) (node_outcome half (form_in s) t kind path blob) e
+node_present half s p t kind path blob (Some a) x e = at (is_present a.peers p) (node_outcome half (form_in s) t kind path blob) e
   where
-    at : (z : Bool) (r : Result Offered Clash) → (if z then one_reply r else says.Node node.Unasked) ≡ says.Node (node.One x) → r ≡ Ok x
+    at : (z : Bool) (r : Result Offered Clash) → (if z then node_said r else says.Node node.Unasked) ≡ says.Node (node.One x) → r ≡ Ok x
     at true (Ok o) e = cc
     at true (Err c) e = cc
     at false r e = cc
 
 -- what the parts of a base reply bring is kept
-base_kept : (half : Half) (s : State) (t : Hash) (bytes : Bytes) (state tx : Option Bytes) (h : HeadOffered) (a b : Option Offered)
-    (n : Held)
-    → base_outcomes half s t bytes state tx ≡ says.Base (base.Parts h a b)
-    → (IsHeadReceived h × (n ≡ header bytes)) ⊎ IsReceivedPart half state a n ⊎ IsReceivedPart half tx b n
-    → IsKept half (after_parts half s t bytes state tx) (t ∷ []) n
-base_kept half s t bytes state tx h a b n e received =
-    let r : Result HeadOffered Clash = head_outcome half (form_in s) t bytes in
-    let s1 : State = after_head half s bytes r in
-    let s2 : State = after_part half s1 t kinds.State state in
-    let s3 : State = after_part half s2 t kinds.Tx tx in
-    let each : (r ≡ Ok h) × (part_outcome half (form_in s1) t kinds.State state ≡ Ok a)
-    × (part_outcome half (form_in s2) t kinds.Tx tx ≡ Ok b) =
-    parts_are r (part_outcome half (form_in s1) t kinds.State state) (part_outcome half (form_in s2) t kinds.Tx tx) h a b e in
-    let second : Grows (form_in s1) (form_in s2) = part_grows half s1 t kinds.State state in
-    let third : Grows (form_in s2) (form_in s3) = part_grows half s2 t kinds.Tx tx in
-    ⊎_elim
-    (λ first. subst (λ x. IsKept half s3 (t ∷ []) x) (sym first.1)
-    (kept_grows half s1 s3 (t ∷ []) (header bytes) (grows_on second third) (head_kept half s t bytes h each.0 first.0)))
-    (λ other. ⊎_elim
-    (λ given. kept_grows half s2 s3 (t ∷ []) n third (part_kept half s1 t kinds.State state a n each.1 given))
-    (λ given. part_kept half s2 t kinds.Tx tx b n each.2 given)
-    other)
-    received
+module _ (half : Half) (s : State) (t : Hash) (bytes : Bytes) (state tx : Option Bytes) where
+  abbrev first : Lookup
+  first = behind_header half (form_in s) t bytes state tx
+
+  abbrev second : Lookup
+  second = behind_state half (form_in s) t bytes state tx
+
+  -- the states behind the header, behind the state root and behind the last part
+  abbrev s1 : State
+  s1 = after_head half s bytes (head_outcome half (form_in s) t bytes)
+
+  abbrev s2 : State
+  s2 = with_forms half s1 (root_forms half first t kinds.State state)
+
+  abbrev s3 : State
+  s3 = with_forms half s2 (root_forms half second t kinds.Tx tx)
+
+  first_is : form_in s1 ≡ first
+  first_is = forms_looked_up half s (head_forms (head_outcome half (form_in s) t bytes) bytes)
+
+  second_is : form_in s2 ≡ second
+  second_is = forms_looked_up half s1 (root_forms half first t kinds.State state)
+      ∙ ap (λ n. lookup.with_forms half n (root_forms half first t kinds.State state)) first_is
+
+  -- where no part clashes all of them are stored
+  last_is : (h : HeadOffered) (a : Option Offered) → head_outcome half (form_in s) t bytes ≡ Ok h
+      → root_outcome half first t kinds.State state ≡ Ok a → with_forms half s (base_forms half (form_in s) t bytes state tx) ≡ s3
+  last_is h a ok is =
+      let F1 : List Bytes = head_forms (head_outcome half (form_in s) t bytes) bytes in
+      let F2 : List Bytes = root_forms half first t kinds.State state in
+      let F3 : List Bytes = root_forms half second t kinds.Tx tx in
+      ap (λ r. with_forms half s (F1 ++ unless_clash r (F2 ++ unless_clash (root_outcome half first t kinds.State state) F3))) ok
+      ∙ ap (λ r. with_forms half s (F1 ++ (F2 ++ unless_clash r F3))) is
+      ∙ with_forms-append half s F1 (F2 ++ F3) ∙ with_forms-append half s1 F2 F3
+
+  -- each part is kept in the state behind it, and the parts behind it only store more
+  base_kept : (j : Judged) (n : Held) → base_outcome half (form_in s) t bytes state tx ≡ Ok j
+      → (IsHeadReceived j.header × (n ≡ header bytes)) ⊎ IsReceivedPart half state j.state n ⊎ IsReceivedPart half tx j.tx n
+      → IsKept half (with_forms half s (base_forms half (form_in s) t bytes state tx)) (t ∷ []) n
+  base_kept j n e received =
+      let each : (head_outcome half (form_in s) t bytes ≡ Ok j.header) × (root_outcome half first t kinds.State state ≡ Ok j.state)
+      × (root_outcome half second t kinds.Tx tx ≡ Ok j.tx) = joined_are _ _ _ j e in
+      let more : Grows (form_in s1) (form_in s2) = with_forms_grow half s1 (root_forms half first t kinds.State state) in
+      let last : Grows (form_in s2) (form_in s3) = with_forms_grow half s2 (root_forms half second t kinds.Tx tx) in
+      subst (λ (x : State). IsKept half x (t ∷ []) n) (sym (last_is j.header j.state each.0 each.1))
+      (⊎_elim
+      (λ one. subst (λ x. IsKept half s3 (t ∷ []) x) (sym one.1)
+      (kept_grows half s1 s3 (t ∷ []) (header bytes) (grows_on more last) (head_kept half s t bytes j.header each.0 one.0)))
+      (λ other. ⊎_elim
+      (λ given. kept_grows half s2 s3 (t ∷ []) n last (root_kept half s1 first t kinds.State state j.state n first_is each.1 given))
+      (λ given. root_kept half s2 second t kinds.Tx tx j.tx n second_is each.2 given)
+      other)
+      received)
 
 -- what an answer says was received is kept after it
 pub received_kept : (half : Half) (s s' : State) (a : ℕ) (c : Command) (reply : Reply) (used : List Held) (t : Hash) (n : Held)
     → Step half s a c reply used s' → Receives half t c reply n
     → IsKept half s' (t ∷ []) n
 received_kept half s s' a (command.Base p target bytes state tx) (says.Base (base.Parts h x y)) used t n step received =
-    let g : Gives (base_reply half s p target bytes state tx) (after_parts half s target bytes state tx)
-    (says.Base (base.Parts h x y)) s' = step.outcome in
+    let after : State = after_base half s p target bytes state tx (says.Base (base.Parts h x y)) in
+    let g : Gives (base_reply half s p target bytes state tx) after (says.Base (base.Parts h x y)) s' = step.outcome in
+    let j : Judged = record { header = h; state = x; tx = y } in
+    let stored : State = with_forms half s (base_forms half (form_in s) target bytes state tx) in
     subst (λ u. IsKept half s' (u ∷ []) n) received.0
-    (kept_grows half (after_parts half s target bytes state tx) s' (target ∷ []) n
-    (after_grows (after_parts half s target bytes state tx) s' g.after)
-    (base_kept half s target bytes state tx h x y n
+    (kept_grows half stored s' (target ∷ []) n (after_grows after s' g.after)
+    (base_kept half s target bytes state tx j n
     (base_present half s p target bytes state tx (get_in hash_cmp s.wanted target) h x y (sym g.says)) received.1))
 received_kept half s s' a (command.Node p target kind path blob) (says.Node (node.One o)) used t n step received =
-    let g : Gives (node_reply half s p target kind path blob) (after_node half s target kind path blob) (says.Node (node.One o)) s' =
-    step.outcome in
+    let after : State = after_node half s p target kind path blob (says.Node (node.One o)) in
+    let g : Gives (node_reply half s p target kind path blob) after (says.Node (node.One o)) s' = step.outcome in
+    let stored : State = with_forms half s (node_forms half s target kind path blob) in
     subst (λ u. IsKept half s' (u ∷ []) n) received.0
-    (kept_grows half (after_node half s target kind path blob) s' (target ∷ []) n
-    (after_grows (after_node half s target kind path blob) s' g.after)
+    (kept_grows half stored s' (target ∷ []) n (after_grows after s' g.after)
     (node_kept half s target kind path blob n o
     (node_present half s p target kind path blob (get_in hash_cmp s.wanted target) o (sym g.says)) received.1))
 received_kept half s s' a _ _ used t n step received = absurd received
 
 -- along a run, of such commands alone, what is kept stays, and so what was received
-module _ (half : Half) (lines : List Line) (each : (l : Line) → Contains lines l → IsAcquiring l.command) where
+module _ (half : Half) (lines : List Line) (each : (l : Line) → Contains lines l → IsCovered l.command) where
   stays : (t : Hash) (n : Held) (s : State) (entries : List Entry) (s' : State) (run : Run half lines s entries s')
       → IsKept half s (t ∷ []) n → Stays half t n lines s entries s' run
   stays t n s [] s' run kept = λ among. kept_among half s t (roots s) n among kept
   stays t n s (e ∷ rest) s' run kept =
       let line : Line = run.1.line in
-      let fit : IsAcquiring line.command = each line (line_at lines run.1.place line run.1.stands) in
+      let fit : IsCovered line.command = each line (line_at lines run.1.place line run.1.stands) in
       let later : IsKept half run.0 (t ∷ []) n = kept_grows half s run.0 (t ∷ []) n
       (step_grows half s run.0 e.actor line.command e.reply (used_by e) fit run.1.step) kept in
       λ among. (kept_among half s t (roots s) n among kept, stays t n run.0 rest s' run.2 later)

@@ -2,7 +2,7 @@
 use Rattle.std.proofs.Common.{◌≡◌, ◌⊎◌, inl, inr, ⊎_elim, ◌≤◌, ℕ, suc, Bool, true, false, not, cond, if◌then◌else◌, ◌==◌, ◌&&◌, nat_lt}
 use Rattle.std.proofs.Common.{List, [], ◌∷◌, ◌++◌, Option, None, Some, All, Contains, filter_map, refl, sym, ap, ◌∙◌, subst, IsSomeAnd}
 use Rattle.std.proofs.Common.{IsTrue, Ordering, Less, Equal, Greater}
-use Rattle.std.specs.Option.{option_map_or, option_and_then}
+use Rattle.std.specs.Option.{option_map, option_map_or, option_and_then}
 use Rattle.std.specs.Ordering.{eq_by_cmp, match_ordering}
 use Rattle.std.specs.Map.{keys_of, values_of}
 use Rattle.std.specs.BTreeMap.{insert_entry}
@@ -15,18 +15,22 @@ use Rattle.ledger_spec.specs.Maps.{ForHash, hash_cmp, get_in, insert_in}
 use Rattle.ledger_spec.specs.declared.Place.{Place}
 use Rattle.ledger_spec.specs.declared.Place.TheVariants.{Header}
 use Rattle.ledger_spec.specs.declared.ShapeFault.{ShapeFault}
-use Rattle.ledger_spec.specs.Bytes.{Bytes, Hash, Half, is_zero, is_nonzero}
+use Rattle.ledger_spec.specs.Bytes.{Bytes, Hash, Half, Lookup, is_zero, is_nonzero}
 use Rattle.ledger_spec.specs.Header.{seq_of, state_root_of}
 use Rattle.ledger_spec.specs.Forms.{header_of}
 use Rattle.ledger_spec.specs.Spots.{header_in}
 use Rattle.ledger_spec.specs.Findings.{Finding, lacks, breaks, findings, up_to, Whole}
-use Rattle.ledger_spec.proofs.Growth.{no_cons, whole_stored}
+use Rattle.ledger_spec.proofs.Growth.{found, met, no_cons, whole_stored}
 use Rattle.ledger_machine.specs.declared.replies.CheckReply.{CheckReply}
 use Rattle.ledger_machine.specs.declared.replies.CheckReply.TheVariants as check
-use Rattle.ledger_machine.specs.State.{State, Acquisition, form_in, retained, bases, ended, listed_with, stored_seq}
-use Rattle.ledger_machine.specs.Check.{need_or_wait, ask_reply, search_reply, header_verdict, check_given, check_reply, after_ask}
-use Rattle.ledger_machine.specs.Check.{after_check}
-use Rattle.ledger_spec.specs.Findings.{missing_of, first_broken}
+use Rattle.ledger_machine.specs.State.{State, form_in, retained, bases, ended, listed_with, stored_seq}
+use Rattle.ledger_machine.specs.Check.{told_by, verdict_of, check_said, check_given, check_reply, after_check}
+use Rattle.ledger_spec.specs.declared.peers.Ask.{Ask}
+use Rattle.ledger_spec.specs.declared.peers.Ask.TheVariants as asks
+use Rattle.ledger_spec.specs.Peers.{Peers}
+use Rattle.ledger_spec.specs.Acquiring.{Acquiring, Verdict, complete, incomplete, seq_differs, zero_state, below_floor, malformed}
+use Rattle.ledger_spec.specs.Acquiring.{place_verdict, header_verdict, after_verdict}
+use Rattle.ledger_spec.specs.Findings.{missing_of, first_broken, seen, header_or_foreign, header_sight, maps_of, walk_ledger}
 use Rattle.ledger_machine.specs.Sound.{Sound, IsWholeLedger}
 use Rattle.ledger_machine.specs.Complete.{IsAcceptable}
 use Rattle.std.proofs.lemmas.Map.Views.{All-map-remove_entry}
@@ -35,31 +39,37 @@ use Rattle.ledger_laws.proofs.SoundTables.{insert_rises, remove_rises}
 use Rattle.ledger_laws.proofs.SoundKeeps.{HasCharges, keeps_sound, with_wanted_keeps, ended_keeps}
 use Rattle.ledger_laws.proofs.SoundForms.{some_same, same_hash}
 
--- a need or a wait isn't complete
-need_goes_on : (peer n : ℕ) (places : List Place) → need_or_wait peer n places ≡ check.Complete → ⊥
-need_goes_on peer n [] e = cc
-need_goes_on peer n (place ∷ rest) e = cc
+-- a verdict that is answered `complete` is complete
+said_complete : (v : Verdict) → check_said v ≡ check.Complete → v ≡ complete
+said_complete complete e = refl
+said_complete (incomplete (asks.Send p places)) e = cc
+said_complete (incomplete (asks.Waiting n)) e = cc
+said_complete (incomplete asks.NoPeer) e = cc
+said_complete (seq_differs asked found) e = cc
+said_complete zero_state e = cc
+said_complete (below_floor floor) e = cc
+said_complete (malformed place fault) e = cc
 
--- nor is what is asked for a place
-ask_goes_on : (peers : List ℕ) (asked places : List Place) → ask_reply peers asked places ≡ check.Complete → ⊥
-ask_goes_on [] asked places e = cc
-ask_goes_on (peer ∷ others) asked places e = need_goes_on peer _ _ e
-
--- nor is a search that lacks a place
-lacks_goes_on : (a : Acquisition) (place : Place) (rest : List Finding) (b : Option (Place × ShapeFault))
-    → search_reply a (lacks place ∷ rest) b ≡ check.Complete → ⊥
-lacks_goes_on a place rest (Some b) e = cc
-lacks_goes_on a place rest None e = ask_goes_on a.present a.asked (place ∷ filter_map missing_of rest) e
+-- missing places aren't complete
+incomplete_ends : {ask : Ask} → incomplete ask ≡ complete → ⊥
+incomplete_ends e = cc
 
 -- a malformed ledger isn't complete
-malformed_ends : {place : Place} {rule : ℕ} → check.Malformed place rule ≡ check.Complete → ⊥
+malformed_ends : {place : Place} {fault : ShapeFault} → malformed place fault ≡ complete → ⊥
 malformed_ends e = cc
 
+-- nor is a search that lacks a place
+lacks_goes_on : (s : Peers) (place : Place) (places : List Place) (b : Option (Place × ShapeFault))
+    → place_verdict s b (place ∷ places) ≡ complete → ⊥
+lacks_goes_on s place places (Some b) e = malformed_ends e
+lacks_goes_on s place places None e = incomplete_ends e
+
 -- a search that is complete has found nothing
-pub search_complete : (a : Acquisition) (found : List Finding) → search_reply a found (first_broken found) ≡ check.Complete → found ≡ []
-search_complete a [] e = refl
-search_complete a (lacks place ∷ rest) e = absurd (lacks_goes_on a place rest (first_broken rest) e)
-search_complete a (breaks place fault ∷ rest) e = absurd (malformed_ends e)
+pub search_complete : (s : Peers) (found : List Finding) → place_verdict s (first_broken found) (filter_map missing_of found) ≡ complete
+    → found ≡ []
+search_complete s [] e = refl
+search_complete s (lacks place ∷ rest) e = absurd (lacks_goes_on s place (filter_map missing_of rest) (first_broken rest) e)
+search_complete s (breaks place fault ∷ rest) e = absurd (malformed_ends e)
 
 -- where there is room, a front with nothing in it is of a list with nothing in it
 pub up_to_none : (room : ℕ) (found : List Finding) → up_to (suc room) found ≡ [] → found ≡ []
@@ -67,25 +77,25 @@ up_to_none room [] e = refl
 up_to_none room (lacks place ∷ rest) e = absurd (no_cons e)
 up_to_none room (breaks place fault ∷ rest) e = absurd (no_cons e)
 
--- an answer that is complete passed each test before it
-tests_complete : (a b c : Bool) (x y z rest : CheckReply) → (x ≡ check.Complete → ⊥) → (y ≡ check.Complete → ⊥) → (z ≡ check.Complete → ⊥)
-    → (if a then x else if b then y else if c then z else rest) ≡ check.Complete → (a ≡ false) × (b ≡ false) × (c ≡ false)
-    × (rest ≡ check.Complete)
+-- a verdict that is complete passed each test before it
+tests_complete : (a b c : Bool) (x y z rest : Verdict) → (x ≡ complete → ⊥) → (y ≡ complete → ⊥) → (z ≡ complete → ⊥)
+    → (if a then x else if b then y else if c then z else rest) ≡ complete → (a ≡ false) × (b ≡ false) × (c ≡ false)
+    × (rest ≡ complete)
 tests_complete true b c x y z rest nx ny nz e = absurd (nx e)
 tests_complete false true c x y z rest nx ny nz e = absurd (ny e)
 tests_complete false false true x y z rest nx ny nz e = absurd (nz e)
 tests_complete false false false x y z rest nx ny nz e = (refl, refl, refl, e)
 
 -- another sequence isn't complete
-differs_ends : {asked found : ℕ} → check.SeqDiffers asked found ≡ check.Complete → ⊥
+differs_ends : {asked found : ℕ} → seq_differs asked found ≡ complete → ⊥
 differs_ends e = cc
 
 -- an empty state map isn't complete
-zero_ends : check.ZeroState ≡ check.Complete → ⊥
+zero_ends : zero_state ≡ complete → ⊥
 zero_ends e = cc
 
 -- a ledger below the floor isn't complete
-below_ends : {floor : ℕ} → check.BelowFloor floor ≡ check.Complete → ⊥
+below_ends : {floor : ℕ} → below_floor floor ≡ complete → ⊥
 below_ends e = cc
 
 -- what isn't open isn't complete
@@ -99,13 +109,14 @@ asked_for false true e = inr refl
 asked_for false false e = cc
 
 -- a header that lets a check be complete is acceptable
-pub header_complete : (asked floor : ℕ) (h : Bytes) (rest : CheckReply) → header_verdict asked floor h rest ≡ check.Complete
-    → IsAcceptable asked floor h × (rest ≡ check.Complete)
+pub header_complete : (asked floor : ℕ) (h : Bytes) (rest : Verdict)
+    → header_verdict asked floor (seq_of h) (state_root_of h) rest ≡ complete
+    → IsAcceptable asked floor h × (rest ≡ complete)
 header_complete asked floor h rest e =
     let open_ : ((not (asked == 0) && not (asked == seq_of h)) ≡ false) × (is_zero (state_root_of h) ≡ false)
-    × (nat_lt (seq_of h) floor ≡ false) × (rest ≡ check.Complete) =
+    × (nat_lt (seq_of h) floor ≡ false) × (rest ≡ complete) =
     tests_complete (not (asked == 0) && not (asked == seq_of h)) (is_zero (state_root_of h)) (nat_lt (seq_of h) floor)
-    (check.SeqDiffers asked (seq_of h)) check.ZeroState (check.BelowFloor floor) rest differs_ends
+    (seq_differs asked (seq_of h)) zero_state (below_floor floor) rest differs_ends
     zero_ends below_ends e in (
       record {
         seq = ⊎_elim (λ any. inl (eqb-true asked 0 any)) (λ own. inr (eqb-true asked (seq_of h) own))
@@ -116,38 +127,55 @@ header_complete asked floor h rest e =
       open_.3,
     )
 
--- and so is what is read as a header
-pub form_complete : (asked floor : ℕ) (o : Option Bytes) (rest : CheckReply)
-    → option_map_or (λ h. header_verdict asked floor h rest) o (check.Malformed Header 6) ≡ check.Complete
-    → IsSomeAnd o (IsAcceptable asked floor) × (rest ≡ check.Complete)
-form_complete asked floor None rest e = absurd (malformed_ends e)
-form_complete asked floor (Some h) rest e = header_complete asked floor h rest e
+-- a whole ledger has a header in the store
+whole_header : (half : Half) (m : Lookup) (t : Hash) → Whole half m t → header_in m t ≡ None → ⊥
+unfolding walk_ledger
+whole_header half m t whole none = at (m t) refl none
+  where
+    foreign : (o : Option Bytes) (form : Bytes) → header_of form ≡ None
+        → filter_map found (met Header t None (header_sight (Some form)) ∷ maps_of half m (header_sight (Some form))) ≡ [] → ⊥
+    foreign o form is e =
+        no_cons (sym (ap (λ h. filter_map found (met Header t None (header_or_foreign h) ∷ maps_of half m (header_or_foreign h))) is) ∙ e)
+
+    at : (o : Option Bytes) → m t ≡ o → option_and_then header_of o ≡ None → ⊥
+    at None is e = whole_stored half m t whole is
+    at (Some form) is e =
+        foreign None form e
+        (sym (ap (λ o. filter_map found (met Header t None (header_sight o) ∷ maps_of half m (header_sight o))) is) ∙ whole)
 
 -- what is whole, with an acceptable header
-pub record IsWholeFor (half : Half) (s : State) (t : Hash) (held : Option Bytes) (a : Acquisition) : Type 0 where
+pub record IsWholeFor (half : Half) (s : State) (t : Hash) (a : Acquiring) : Type 0 where
   pub whole : Whole half (form_in s) t
-  pub header : IsSomeAnd (option_and_then header_of held) (IsAcceptable a.seq s.floor)
+  pub header : IsSomeAnd (header_in (form_in s) t) (IsAcceptable a.seq s.floor)
 
--- a complete check, given what is stored under the target, and the acquisition
-pub given_complete : (half : Half) (s : State) (t : Hash) (held : Option Bytes) (a : Acquisition) → form_in s t ≡ held
-    → check_given half s t held (Some a) ≡ check.Complete → IsWholeFor half s t held a
-given_complete half s t None a is e =
-    let whole : Whole half (form_in s) t = up_to_none 255 (findings half (form_in s) t) (search_complete a _ e) in
-    absurd (whole_stored half (form_in s) t whole is)
-given_complete half s t (Some form) a is e =
-    let verdict : IsSomeAnd (header_of form) (IsAcceptable a.seq s.floor) × (_ ≡ check.Complete) =
-    form_complete a.seq s.floor (header_of form) _ e in
-    record { whole = up_to_none 255 (findings half (form_in s) t) (search_complete a _ verdict.1); header = verdict.0 }
+-- a complete check, given the acquisition
+pub given_complete : (half : Half) (s : State) (t : Hash) (a : Acquiring) → verdict_of half s t a ≡ complete → IsWholeFor half s t a
+given_complete half s t a e =
+    let both : IsSomeAnd (header_in (form_in s) t) (IsAcceptable a.seq s.floor) × (places ≡ complete) =
+    at (header_in (form_in s) t) refl e in
+    record { whole = all both.1; header = both.0 }
+  where
+    places : Verdict
+    places = place_verdict a.peers (first_broken (seen half (form_in s) t)) (filter_map missing_of (seen half (form_in s) t))
+
+    all : places ≡ complete → Whole half (form_in s) t
+    all e = up_to_none 255 (findings half (form_in s) t) (search_complete a.peers _ e)
+
+    at : (o : Option Bytes) → header_in (form_in s) t ≡ o
+        → option_map_or (λ (h : ℕ × Hash). header_verdict a.seq s.floor h.0 h.1 places) (option_map told_by o) places ≡ complete
+        → IsSomeAnd o (IsAcceptable a.seq s.floor) × (places ≡ complete)
+    at None is e = absurd (whole_header half (form_in s) t (all e) is)
+    at (Some h) is e = header_complete a.seq s.floor h places e
 
 -- a complete ledger is open, whole, and acceptable for what was asked
 pub check_complete : (half : Half) (s : State) (t : Hash) → check_reply half s t ≡ check.Complete
-    → (a : Acquisition) × (get_in hash_cmp s.wanted t ≡ Some a) × IsWholeFor half s t (form_in s t) a
+    → (a : Acquiring) × (get_in hash_cmp s.wanted t ≡ Some a) × IsWholeFor half s t a
 check_complete half s t e = at (get_in hash_cmp s.wanted t) refl e
   where
-    at : (o : Option Acquisition) → get_in hash_cmp s.wanted t ≡ o → check_given half s t (form_in s t) o ≡ check.Complete
-        → (a : Acquisition) × (get_in hash_cmp s.wanted t ≡ Some a) × IsWholeFor half s t (form_in s t) a
+    at : (o : Option Acquiring) → get_in hash_cmp s.wanted t ≡ o → check_given half s t o ≡ check.Complete
+        → (a : Acquiring) × (get_in hash_cmp s.wanted t ≡ Some a) × IsWholeFor half s t a
     at None is e = absurd (not_open_ends e)
-    at (Some a) is e = (a, is, given_complete half s t (form_in s t) a refl e)
+    at (Some a) is e = (a, is, given_complete half s t a (said_complete (verdict_of half s t a) e))
 
 -- a look-up that an entry ends, or not
 first_found : {X : Type 0} (b : Bool) (A : Type 0) (x v : X) (rest : Option X) → (b ≡ true → A) → cond b (Some x) rest ≡ Some v
@@ -245,7 +273,7 @@ stored_seq_fits asked floor (Some h) some = (some.state, some.recent, refl)
 pub complete_sound : (half : Half) (s : State) (t : Hash) → Sound half s → check_reply half s t ≡ check.Complete
     → Sound half (ended (listed_with s t (stored_seq s t)) t)
 complete_sound half s t sound e =
-    let is : (a : Acquisition) × (get_in hash_cmp s.wanted t ≡ Some a) × IsWholeFor half s t (form_in s t) a = check_complete half s t e in
+    let is : (a : Acquiring) × (get_in hash_cmp s.wanted t ≡ Some a) × IsWholeFor half s t a = check_complete half s t e in
     let fits : IsSomeAnd (header_in (form_in s) t) (λ h. IsTrue (is_nonzero (state_root_of h))) × (s.floor ≤ stored_seq s t)
     × IsSomeAnd (header_in (form_in s) t) (λ h. seq_of h ≡ stored_seq s t) =
     stored_seq_fits is.0.seq s.floor (header_in (form_in s) t) is.2.header in
@@ -256,7 +284,7 @@ pub check_sound : (half : Half) (s : State) (t : Hash) (r : CheckReply) → chec
     → Sound half (after_check s t (stored_seq s t) r)
 check_sound half s t check.Complete e sound = complete_sound half s t sound e
 check_sound half s t (check.Need peer places) e sound =
-    keeps_sound half s _ sound (with_wanted_keeps half s t (after_ask (check.Need peer places)) (λ a rises. rises))
+    keeps_sound half s _ sound (with_wanted_keeps half s t (λ a. after_verdict a (incomplete (asks.Send peer places))) (λ a rises. rises))
 check_sound half s t (check.SeqDiffers asked found) e sound = keeps_sound half s _ sound (ended_keeps half s t)
 check_sound half s t check.ZeroState e sound = keeps_sound half s _ sound (ended_keeps half s t)
 check_sound half s t (check.BelowFloor floor) e sound = keeps_sound half s _ sound (ended_keeps half s t)

@@ -1,5 +1,5 @@
 -- Storing forms under their own hashes keeps a state sound.
-use Rattle.std.proofs.Common.{◌≡◌, ◌⊎◌, inl, inr, ⊎_elim, ◌<◌, ℕ, suc, Bool, true, false, cond, if◌then◌else◌, List, [], ◌∷◌, Option}
+use Rattle.std.proofs.Common.{◌≡◌, ◌⊎◌, inl, inr, ⊎_elim, ◌<◌, ℕ, suc, Bool, true, false, cond, if◌then◌else◌, List, [], ◌∷◌, ◌++◌, Option}
 use Rattle.std.proofs.Common.{None, Some, is_some, Contains, refl, sym, ap, ◌∙◌, subst, arith, IsTrue}
 use Rattle.std.specs.Ordering.{eq_by_cmp}
 use Rattle.std.proofs.lemmas.Cmp.{nat_list_cmp_total}
@@ -9,7 +9,8 @@ use Rattle.std.specs.FinMap as finite
 use Rattle.std.specs.FinMap.{get-insert}
 use Rattle.std.specs.FinSet as set
 use Rattle.ledger_spec.specs.Maps.{hash_cmp}
-use Rattle.ledger_spec.specs.Bytes.{Bytes, Hash, Half, Nodes, is_nonzero, are_bytes}
+use Rattle.ledger_spec.specs.Bytes.{Bytes, Hash, Half, Nodes, is_nonzero, are_bytes, same_bytes}
+use Rattle.ledger_spec.specs.Bases as lookup
 use Rattle.ledger_spec.specs.Forms.{Held, Form}
 use Rattle.ledger_spec.proofs.ReachLaws.{Grows}
 use Rattle.ledger_machine.specs.declared.commands.Command.{Command}
@@ -35,6 +36,31 @@ same_hash a b e = same_text a b (sym e ∙ is_eq-slice_cmp a b)
 pub get_more : (nodes : Nodes) (k : Hash) (form : Bytes) (h : Hash) (b : Bool) → eq_by_cmp hash_cmp h k ≡ b
     → finite.get (finite.insert nodes k form) h ≡ cond b (Some form) (finite.get nodes h)
 get_more nodes k form h b e = get-insert nat_list_cmp_total nodes k form h ∙ ap (λ x. cond x (Some form) (finite.get nodes h)) e
+
+-- what a state holds with forms more is what look-ups with forms more hold
+one_more : (half : Half) (s : State) (form : Bytes) (o : Option Bytes) (h : Hash)
+    → form_in (if is_some o then s else record s
+    { nodes = finite.insert s.nodes (half form) form; born = set.insert s.born (half form) }) h
+    ≡ (if is_some o then form_in s h else if same_bytes h (half form) then Some form else form_in s h)
+one_more half s form (Some old) h = refl
+one_more half s form None h =
+    get-insert nat_list_cmp_total s.nodes (half form) form h ∙ ap (λ b. cond b (Some form) (form_in s h)) (is_eq-slice_cmp h (half form))
+
+with_one : (half : Half) (s : State) (form : Bytes) → form_in (with_form half s form) ≡ lookup.with_form half (form_in s) form
+with_one half s form = λ i h. one_more half s form (form_in s (half form)) h i
+
+-- one form after another
+pub forms_looked_up : (half : Half) (s : State) (forms : List Bytes)
+    → form_in (with_forms half s forms) ≡ lookup.with_forms half (form_in s) forms
+forms_looked_up half s [] = refl
+forms_looked_up half s (form ∷ forms) =
+    forms_looked_up half (with_form half s form) forms ∙ ap (λ n. lookup.with_forms half n forms) (with_one half s form)
+
+-- forms, and then others
+pub with_forms-append : (half : Half) (s : State) (xs ys : List Bytes)
+    → with_forms half s (xs ++ ys) ≡ with_forms half (with_forms half s xs) ys
+with_forms-append half s [] ys = refl
+with_forms-append half s (x ∷ xs) ys = with_forms-append half (with_form half s x) xs ys
 
 -- what was stored stays, where nothing was stored under the new hash
 pub old_stays : (nodes : Nodes) (k : Hash) (form : Bytes) → finite.get nodes k ≡ None

@@ -5,22 +5,24 @@ use Rattle.std.specs.Option.{option_map_or}
 use Rattle.std.specs.Map.{keys_of, values_of}
 use Rattle.std.specs.FinMap as finite
 use Rattle.std.specs.List.{All}
-use Rattle.std.specs.Ordering.{nat_cmp}
 use Rattle.std.proofs.lemmas.Map.Views.{All-values-set_value, All-map-remove_entry}
 use Rattle.ledger_spec.specs.Maps.{ForHash, hash_cmp, IsMap, get_in, set_in, remove_in}
 use Rattle.ledger_spec.specs.Bytes.{Bytes, Hash, Half, Lookup, Nodes}
 use Rattle.ledger_spec.specs.Header.{seq_of}
+use Rattle.ledger_spec.specs.Acquiring.{Acquiring}
+use Rattle.ledger_spec.specs.Peers.{Peers}
 use Rattle.ledger_spec.specs.Spots.{header_in}
 use Rattle.ledger_spec.proofs.ReachLaws.{Grows}
 use Rattle.ledger_spec.proofs.Growth.{whole_grows, header_grows}
-use Rattle.ledger_machine.specs.State.{State, Acquisition, form_in, retained, bases, with_wanted, ended}
+use Rattle.ledger_machine.specs.State.{State, form_in, retained, bases, changed, with_wanted, with_peers, ended}
 use Rattle.ledger_machine.specs.Sound.{Sound, IsStoredAt, IsWholeLedger, AreTables}
+use Rattle.ledger_laws.proofs.Charges.{AreCharges}
 use Rattle.ledger_laws.proofs.SoundTables.{set_rises, remove_rises, all_found, same_tables}
 use Rattle.ledger_machine.specs.Steps.{IsAfter}
 
 -- the charges of an acquisition are a finite map
-abbrev pub HasCharges : Acquisition → Type 0
-HasCharges a = IsMap nat_cmp a.charges
+abbrev pub HasCharges : Acquiring → Type 0
+HasCharges a = AreCharges a.peers
 
 -- the stored forms grow by sound ones, and the tables stay
 pub record Keeps (half : Half) (s s' : State) : Type 0 where
@@ -119,7 +121,7 @@ pub keeps_after : (half : Half) (s t s' : State) → Keeps half s t → IsAfter 
 keeps_after half s t s' k e = keeps_on half s t s' k (same_keeps half t s' (shaded_same t s' e) (shaded_tables half t s' e))
 
 -- other acquisitions that are a table keep a state sound
-pub wanted_keeps : (half : Half) (s : State) (wanted : ForHash Acquisition) → (IsMap hash_cmp s.wanted → IsMap hash_cmp wanted)
+pub wanted_keeps : (half : Half) (s : State) (wanted : ForHash Acquiring) → (IsMap hash_cmp s.wanted → IsMap hash_cmp wanted)
     → (All HasCharges (values_of s.wanted) → All HasCharges (values_of wanted)) → Keeps half s (record s { wanted = wanted })
 wanted_keeps half s wanted rises charges =
     same_keeps half s (record s { wanted = wanted }) (record { nodes = refl; listed = refl; views = refl; sessions = refl; floor = refl })
@@ -134,31 +136,32 @@ wanted_keeps half s wanted rises charges =
     })
 
 -- and so does a change of one
-pub with_wanted_keeps : (half : Half) (s : State) (t : Hash) (change : Acquisition → Acquisition)
-    → ((a : Acquisition) → HasCharges a → HasCharges (change a)) → Keeps half s (with_wanted s t change)
-with_wanted_keeps half s t change keeps = at (get_in hash_cmp s.wanted t) refl
+pub with_wanted_keeps : (half : Half) (s : State) (t : Hash) (change : Acquiring → Acquiring)
+    → ((a : Acquiring) → HasCharges a → HasCharges (change a)) → Keeps half s (with_wanted s t change)
+with_wanted_keeps half s t change keeps =
+    wanted_keeps half s (changed s.wanted t change) (rises (get_in hash_cmp s.wanted t)) (charged (get_in hash_cmp s.wanted t) refl)
   where
-    at : (o : Option Acquisition) → get_in hash_cmp s.wanted t ≡ o
-        → Keeps half s (option_map_or (λ a. record s { wanted = set_in hash_cmp s.wanted t (change a) }) o s)
-    at None is = keeps_self half s
-    at (Some a) is =
-        wanted_keeps half s (set_in hash_cmp s.wanted t (change a)) (set_rises hash_cmp _ s.wanted (change a))
-        (λ all. All-values-set_value _ HasCharges s.wanted (change a) all (keeps a (all_found HasCharges _ s.wanted a all is)))
+    by : Option Acquiring → ForHash Acquiring
+    by o = option_map_or (λ a. set_in hash_cmp s.wanted t (change a)) o s.wanted
+
+    rises : (o : Option Acquiring) → IsMap hash_cmp s.wanted → IsMap hash_cmp (by o)
+    rises None is = is
+    rises (Some a) is = set_rises hash_cmp _ s.wanted (change a) is
+
+    charged : (o : Option Acquiring) → get_in hash_cmp s.wanted t ≡ o → All HasCharges (values_of s.wanted)
+        → All HasCharges (values_of (by o))
+    charged None is all = all
+    charged (Some a) is all =
+        All-values-set_value _ HasCharges s.wanted (change a) all (keeps a (all_found HasCharges _ s.wanted a all is))
+
+-- and so does a change of its peers
+pub with_peers_keeps : (half : Half) (s : State) (t : Hash) (change : Peers → Peers)
+    → ((x : Peers) → AreCharges x → AreCharges (change x)) → Keeps half s (with_peers s t change)
+with_peers_keeps half s t change keeps =
+    with_wanted_keeps half s t (λ a. record a { peers = change a.peers }) (λ a. keeps a.peers)
 
 -- and so does the end of one
 pub ended_keeps : (half : Half) (s : State) (t : Hash) → Keeps half s (ended s t)
 ended_keeps half s t =
     wanted_keeps half s (remove_in hash_cmp s.wanted t) (remove_rises hash_cmp _ s.wanted)
     (λ all. All-map-remove_entry _ (λ e. e.1) HasCharges s.wanted all)
-
--- a change of an acquisition leaves what is stored and listed
-with_wanted_same : (s : State) (t : Hash) (change : Acquisition → Acquisition) → (o : Option Acquisition)
-    → IsSame s (option_map_or (λ a. record s { wanted = set_in hash_cmp s.wanted t (change a) }) o s)
-with_wanted_same s t change None = record { nodes = refl; listed = refl; views = refl; sessions = refl; floor = refl }
-with_wanted_same s t change (Some a) = record { nodes = refl; listed = refl; views = refl; sessions = refl; floor = refl }
-
-pub with_wanted_is : (s : State) (t : Hash) (change : Acquisition → Acquisition) → IsSame s (with_wanted s t change)
-with_wanted_is s t change = with_wanted_same s t change (get_in hash_cmp s.wanted t)
-
-pub with_wanted_grow : (s : State) (t : Hash) (change : Acquisition → Acquisition) → Grows (form_in s) (form_in (with_wanted s t change))
-with_wanted_grow s t change = λ h form e. ap (λ (n : Nodes). finite.get n h) (with_wanted_is s t change).nodes ∙ e

@@ -1,5 +1,5 @@
 -- Steps and runs of the commands that acquire a ledger keep a state sound.
-use Rattle.std.proofs.Common.{◌≡◌, ◌⊎◌, inl, inr, ⊎_elim, ℕ, List, [], ◌∷◌, Option, Some, Contains, slice_get, All, refl, sym}
+use Rattle.std.proofs.Common.{◌≡◌, ◌⊎◌, inl, inr, ⊎_elim, ℕ, List, [], ◌∷◌, Option, None, Some, Contains, slice_get, All, refl, sym}
 use Rattle.std.proofs.Common.{subst}
 use Rattle.std.proofs.lemmas.Option.{slice_get_within, get_or_from_slice_get}
 use Rattle.std.proofs.lemmas.List.Elements.{All-contains}
@@ -12,33 +12,37 @@ use Rattle.ledger_machine.specs.declared.commands.Line.{Line}
 use Rattle.ledger_machine.specs.declared.journal.Entry.{Entry}
 use Rattle.ledger_machine.specs.declared.replies.WantReply.{WantReply}
 use Rattle.ledger_machine.specs.declared.replies.WantReply.TheVariants as want
-use Rattle.ledger_machine.specs.declared.replies.PeerReply.{PeerReply}
-use Rattle.ledger_machine.specs.declared.replies.PeerReply.TheVariants as peer
 use Rattle.ledger_machine.specs.declared.replies.TickReply.{TickReply}
 use Rattle.ledger_machine.specs.declared.replies.TickReply.TheVariants as tick
 use Rattle.ledger_machine.specs.declared.replies.Reply.{Reply}
 use Rattle.ledger_machine.specs.declared.replies.Reply.TheVariants as says
 use Rattle.std.specs.Cmp.Lexicographic.{nat_list_cmp_total}
-use Rattle.std.proofs.lemmas.Cmp.{nat_cmp_total}
 use Rattle.std.proofs.lemmas.Map.Views.{All-values-insert_entry}
 use Rattle.ledger_spec.specs.Maps.{hash_cmp, insert_in}
-use Rattle.ledger_machine.specs.State.{State, fresh, stored_seq}
-use Rattle.ledger_machine.specs.Scripts.{AreBytes, AreOffered, IsAcquiring, IsInRange}
+use Rattle.ledger_spec.specs.Acquiring.{acquiring}
+use Rattle.ledger_spec.specs.Peers as peers
+use Rattle.ledger_machine.specs.State.{State, stored_seq}
+use Rattle.ledger_machine.specs.Scripts.{AreBytes, AreOffered, IsCovered, IsInRange}
 use Rattle.ledger_machine.specs.Want.{want_reply, after_want}
-use Rattle.ledger_machine.specs.Peer.{peer_reply, after_peer, with_peer}
+use Rattle.ledger_machine.specs.Peer.{peer_reply, after_peer}
 use Rattle.ledger_machine.specs.Check.{check_reply, after_check}
 use Rattle.ledger_machine.specs.Ticks.{tick_reply, after_tick}
 use Rattle.ledger_machine.specs.Sound.{Sound}
 use Rattle.ledger_machine.specs.Steps.{Step, Outcomes, Answered, Refused, Gives}
 use Rattle.ledger_machine.specs.Runs.{Run, used_by}
-use Rattle.ledger_laws.proofs.SoundKeeps.{Keeps, keeps_sound, keeps_self, keeps_after, wanted_keeps, with_wanted_keeps, ended_keeps}
+use Rattle.ledger_laws.proofs.SoundKeeps.{Keeps, keeps_sound, keeps_self, keeps_after, wanted_keeps, with_peers_keeps, ended_keeps}
+use Rattle.ledger_laws.proofs.Charges.{adding_rises}
 use Rattle.ledger_laws.proofs.SoundKeeps.{same_keeps}
 use Rattle.std.specs.Ordering.{nat_cmp}
 use Rattle.ledger_laws.proofs.SoundTables.{none_rises, insert_rises}
 use Rattle.ledger_laws.proofs.SoundKeeps.{HasCharges, shaded_same, shaded_tables}
 use Rattle.ledger_laws.proofs.SoundForms.{refused_keeps, refused_none}
 use Rattle.ledger_laws.proofs.SoundCheck.{check_sound}
-use Rattle.ledger_laws.proofs.SoundOffers.{after_base_keeps, after_offer_keeps, base_own, offer_own}
+use Rattle.ledger_machine.specs.Views.{view_reply, after_view, unview_reply, after_unview}
+use Rattle.ledger_machine.specs.Reading.{view_root}
+use Rattle.ledger_machine.specs.Steps.{Gets, Pages, IsAfter}
+use Rattle.ledger_laws.proofs.SoundViews.{view_sound, unview_sound}
+use Rattle.ledger_laws.proofs.SoundOffers.{after_base_keeps, after_node_keeps, base_own, node_own}
 
 -- a command is refused, or answered by its row
 pub outcome_cases : (half : Half) (s : State) (a : ℕ) (c : Command) (reply : Reply) (used : List Held) (s' : State)
@@ -53,18 +57,17 @@ outcome_cases half s a c reply used s' o = inr o
 -- each answer to `want` keeps a state sound
 want_keeps : (half : Half) (s : State) (t : Hash) (seq : ℕ) (r : WantReply) → Keeps half s (after_want s t seq r)
 want_keeps half s t seq want.Opened =
-    wanted_keeps half s (insert_in hash_cmp s.wanted t (fresh seq)) (insert_rises nat_list_cmp_total s.wanted t (fresh seq))
-    (λ all. All-values-insert_entry hash_cmp t (fresh seq) HasCharges s.wanted all (none_rises nat_cmp))
+    wanted_keeps half s (insert_in hash_cmp s.wanted t (acquiring t seq)) (insert_rises nat_list_cmp_total s.wanted t (acquiring t seq))
+    (λ all. All-values-insert_entry hash_cmp t (acquiring t seq) HasCharges s.wanted all (none_rises nat_cmp))
 want_keeps half s t seq _ = keeps_self half s
 
 -- and each answer to `peer`
-peer_keeps : (half : Half) (s : State) (p : ℕ) (t : Hash) (r : PeerReply) → Keeps half s (after_peer s p t r)
-peer_keeps half s p t peer.Added = with_wanted_keeps half s t (with_peer p) (λ a rises. insert_rises nat_cmp_total a.charges p 0 rises)
-peer_keeps half s p t _ = keeps_self half s
+peer_keeps : (half : Half) (s : State) (p : ℕ) (t : Hash) → Keeps half s (after_peer s p t)
+peer_keeps half s p t = with_peers_keeps half s t (λ x. peers.after_adding x p) (adding_rises p)
 
 -- and each answer to `tick`
 pub tick_keeps : (half : Half) (s : State) (t : Hash) (r : TickReply) → Keeps half s (after_tick s t r)
-tick_keeps half s t (tick.Timeout n) = with_wanted_keeps half s t (λ a. record a { ticks = n; asked = [] }) (λ a rises. rises)
+tick_keeps half s t (tick.Timeout n) = with_peers_keeps half s t peers.after_tick (λ x rises. rises)
 tick_keeps half s t (tick.GaveUp n) = ended_keeps half s t
 tick_keeps half s t tick.NotOpen = keeps_self half s
 
@@ -91,8 +94,8 @@ pub peer_sound : (half : Half) (s s' : State) (a p : ℕ) (t : Hash) (reply : Re
     → Step half s a (command.Peer p t) reply used s' → Sound half s'
 peer_sound half s s' a p t reply used sound step =
     ⊎_elim (λ r. keeps_sound half s s' sound (refused_none half s a (command.Peer p t) s' refl r))
-    (λ g. gives_sound half s (after_peer s p t (peer_reply s p t)) s' (says.Peer (peer_reply s p t)) reply sound
-    (peer_keeps half s p t (peer_reply s p t)) g)
+    (λ g. gives_sound half s (after_peer s p t) s' (says.Peer (peer_reply s p t)) reply sound
+    (peer_keeps half s p t) g)
     (outcome_cases half s a (command.Peer p t) reply used s' step.outcome)
 
 -- a step of `tick`
@@ -129,48 +132,103 @@ pub node_sound : (half : Half) (sized : IsHalf half) (s s' : State) (a p : ℕ) 
     → Step half s a (command.Node p t kind path blob) reply used s' → Sound half s'
 node_sound half sized s s' a p t kind path blob reply used all sound step =
     ⊎_elim (λ r. keeps_sound half s s' sound
-    (refused_keeps half s a (command.Node p t kind path blob) s' (λ form i. offer_own half sized s p t kind path blob form all i) r))
-    (λ g. gives_sound half s _ s' _ reply sound (after_offer_keeps half sized s p t kind path blob reply all) g)
+    (refused_keeps half s a (command.Node p t kind path blob) s' (λ form i. node_own half sized s p t kind path blob form all i) r))
+    (λ g. gives_sound half s _ s' _ reply sound (after_node_keeps half sized s p t kind path blob reply all) g)
     (outcome_cases half s a (command.Node p t kind path blob) reply used s' step.outcome)
 
--- each step of a command that acquires a ledger leads from a sound state to a sound state
-pub acquiring_step_sound : (half : Half) (sized : IsHalf half) (s s' : State) (a : ℕ) (c : Command) (reply : Reply) (used : List Held)
-    → IsAcquiring c → IsInRange c → Sound half s → Step half s a c reply used s'
+-- a step of `view`
+pub view_step_sound : (half : Half) (s s' : State) (a v : ℕ) (t : Hash) (reply : Reply) (used : List Held) → Sound half s
+    → Step half s a (command.View v t) reply used s' → Sound half s'
+view_step_sound half s s' a v t reply used sound step =
+    ⊎_elim (λ r. keeps_sound half s s' sound (refused_none half s a (command.View v t) s' refl r))
+    (λ g. gives_same half (after_view s (a, v) t (view_reply s (a, v) t)) s' (says.View (view_reply s (a, v) t)) reply
+    (view_sound half s (a, v) t (view_reply s (a, v) t) refl sound) g)
+    (outcome_cases half s a (command.View v t) reply used s' step.outcome)
+
+-- a step of `unview`
+pub unview_step_sound : (half : Half) (s s' : State) (a v : ℕ) (reply : Reply) (used : List Held) → Sound half s
+    → Step half s a (command.Unview v) reply used s' → Sound half s'
+unview_step_sound half s s' a v reply used sound step =
+    ⊎_elim (λ r. keeps_sound half s s' sound (refused_none half s a (command.Unview v) s' refl r))
+    (λ g. gives_same half (after_unview s (a, v)) s' (says.Unview (unview_reply s (a, v))) reply (unview_sound half s (a, v) sound) g)
+    (outcome_cases half s a (command.Unview v) reply used s' step.outcome)
+
+-- a read leaves the state
+pub gets_after : (half : Half) (s : State) (kind : Kind) (key : Hash) (root : Option Hash) (reply : Reply) (used : List Held) (s' : State)
+    → Gets half s kind key root reply used s' → IsAfter s s'
+gets_after half s kind key None reply used s' g = g.after
+gets_after half s kind key (Some root) reply used s' g = g.1
+
+-- a step of `get`
+pub get_step_sound : (half : Half) (s s' : State) (a v : ℕ) (kind : Kind) (key : Hash) (reply : Reply) (used : List Held) → Sound half s
+    → Step half s a (command.Get v kind key) reply used s' → Sound half s'
+get_step_sound half s s' a v kind key reply used sound step =
+    ⊎_elim (λ r. keeps_sound half s s' sound (refused_none half s a (command.Get v kind key) s' refl r))
+    (λ g. keeps_sound half s s' sound (keeps_after half s s s' (keeps_self half s)
+    (gets_after half s kind key (view_root s kind (a, v)) reply used s' g)))
+    (outcome_cases half s a (command.Get v kind key) reply used s' step.outcome)
+
+-- so does a page
+pub pages_after : (half : Half) (s : State) (kind : Kind) (key : Hash) (n : ℕ) (root : Option Hash) (reply : Reply) (used : List Held)
+    (s' : State) → Pages half s kind key n root reply used s' → IsAfter s s'
+pages_after half s kind key n None reply used s' g = g.after
+pages_after half s kind key n (Some root) reply used s' g = g.1
+
+-- a step of `page`
+pub page_step_sound : (half : Half) (s s' : State) (a v : ℕ) (kind : Kind) (key : Hash) (n : ℕ) (reply : Reply) (used : List Held)
+    → Sound half s → Step half s a (command.Page v kind key n) reply used s' → Sound half s'
+page_step_sound half s s' a v kind key n reply used sound step =
+    ⊎_elim (λ r. keeps_sound half s s' sound (refused_none half s a (command.Page v kind key n) s' refl r))
+    (λ g. keeps_sound half s s' sound (keeps_after half s s s' (keeps_self half s)
+    (pages_after half s kind key n (view_root s kind (a, v)) reply used s' g)))
+    (outcome_cases half s a (command.Page v kind key n) reply used s' step.outcome)
+
+-- each step of a command that the laws cover leads from a sound state to a sound state
+pub covered_step_sound : (half : Half) (sized : IsHalf half) (s s' : State) (a : ℕ) (c : Command) (reply : Reply) (used : List Held)
+    → IsCovered c → IsInRange c → Sound half s → Step half s a c reply used s'
     → Sound half s'
-acquiring_step_sound half sized s s' a (command.Want t seq) reply used acquiring range sound step =
+covered_step_sound half sized s s' a (command.Want t seq) reply used covered range sound step =
     want_sound half s s' a t seq reply used sound step
-acquiring_step_sound half sized s s' a (command.Peer p t) reply used acquiring range sound step =
+covered_step_sound half sized s s' a (command.Peer p t) reply used covered range sound step =
     peer_sound half s s' a p t reply used sound step
-acquiring_step_sound half sized s s' a (command.Base p t bytes state tx) reply used acquiring range sound step =
+covered_step_sound half sized s s' a (command.Base p t bytes state tx) reply used covered range sound step =
     base_sound half sized s s' a p t bytes state tx reply used range sound step
-acquiring_step_sound half sized s s' a (command.Node p t kind path blob) reply used acquiring range sound step =
+covered_step_sound half sized s s' a (command.Node p t kind path blob) reply used covered range sound step =
     node_sound half sized s s' a p t kind path blob reply used range.2 sound step
-acquiring_step_sound half sized s s' a (command.Check t) reply used acquiring range sound step =
+covered_step_sound half sized s s' a (command.Check t) reply used covered range sound step =
     check_step_sound half s s' a t reply used sound step
-acquiring_step_sound half sized s s' a (command.Tick t) reply used acquiring range sound step =
+covered_step_sound half sized s s' a (command.Tick t) reply used covered range sound step =
     tick_sound half s s' a t reply used sound step
-acquiring_step_sound half sized s s' a _ reply used acquiring range sound step = absurd acquiring
+covered_step_sound half sized s s' a (command.View v t) reply used covered range sound step =
+    view_step_sound half s s' a v t reply used sound step
+covered_step_sound half sized s s' a (command.Unview v) reply used covered range sound step =
+    unview_step_sound half s s' a v reply used sound step
+covered_step_sound half sized s s' a (command.Get v kind key) reply used covered range sound step =
+    get_step_sound half s s' a v kind key reply used sound step
+covered_step_sound half sized s s' a (command.Page v kind key n) reply used covered range sound step =
+    page_step_sound half s s' a v kind key n reply used sound step
+covered_step_sound half sized s s' a _ reply used covered range sound step = absurd covered
 
 -- a line at a place is a line of the script
 pub line_at : (lines : List Line) (place : ℕ) (l : Line) → slice_get lines place ≡ Some l → Contains lines l
 line_at lines place l e = (place, slice_get_within lines place l e, get_or_from_slice_get lines place l l e)
 
 -- each run over such commands leads from a sound state to a sound state
-pub acquiring_run_sound : (half : Half) (sized : IsHalf half) (lines : List Line) (s : State) (entries : List Entry) (s' : State)
-    → ((l : Line) → Contains lines l → IsAcquiring l.command × IsInRange l.command) → Sound half s → Run half lines s entries s'
+pub covered_run_sound : (half : Half) (sized : IsHalf half) (lines : List Line) (s : State) (entries : List Entry) (s' : State)
+    → ((l : Line) → Contains lines l → IsCovered l.command × IsInRange l.command) → Sound half s → Run half lines s entries s'
     → Sound half s'
-acquiring_run_sound half sized lines s [] s' each sound run = subst (λ x. Sound half x) (sym run) sound
-acquiring_run_sound half sized lines s (e ∷ rest) s' each sound run =
+covered_run_sound half sized lines s [] s' each sound run = subst (λ x. Sound half x) (sym run) sound
+covered_run_sound half sized lines s (e ∷ rest) s' each sound run =
     let line : Line = run.1.line in
-    let fit : IsAcquiring line.command × IsInRange line.command = each line (line_at lines run.1.place line run.1.stands) in
-    acquiring_run_sound half sized lines run.0 rest s' each
-    (acquiring_step_sound half sized s run.0 e.actor line.command e.reply (used_by e) fit.0 fit.1 sound run.1.step) run.2
+    let fit : IsCovered line.command × IsInRange line.command = each line (line_at lines run.1.place line run.1.stands) in
+    covered_run_sound half sized lines run.0 rest s' each
+    (covered_step_sound half sized s run.0 e.actor line.command e.reply (used_by e) fit.0 fit.1 sound run.1.step) run.2
 
 -- the same, where all lines are such commands
-pub acquiring_lines_sound : (half : Half) (sized : IsHalf half) (lines : List Line) (s : State) (entries : List Entry) (s' : State)
-    → All (λ l. IsAcquiring l.command) lines → All (λ l. IsInRange l.command) lines → Sound half s → Run half lines s entries s'
+pub covered_lines_sound : (half : Half) (sized : IsHalf half) (lines : List Line) (s : State) (entries : List Entry) (s' : State)
+    → All (λ l. IsCovered l.command) lines → All (λ l. IsInRange l.command) lines → Sound half s → Run half lines s entries s'
     → Sound half s'
-acquiring_lines_sound half sized lines s entries s' acquiring range sound run =
-    acquiring_run_sound half sized lines s entries s'
-    (λ l i. (All-contains (λ x. IsAcquiring x.command) lines l acquiring i, All-contains (λ x. IsInRange x.command) lines l range i))
+covered_lines_sound half sized lines s entries s' covered range sound run =
+    covered_run_sound half sized lines s entries s'
+    (λ l i. (All-contains (λ x. IsCovered x.command) lines l covered i, All-contains (λ x. IsInRange x.command) lines l range i))
     sound run

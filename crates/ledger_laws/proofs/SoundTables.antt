@@ -12,7 +12,8 @@ use Rattle.ledger_spec.specs.declared.Kind.TheVariants as kinds
 use Rattle.ledger_spec.specs.Maps.{ForHash, ForActor, hash_cmp, numbered_cmp, IsMap, insert_in}
 use Rattle.ledger_spec.specs.Bytes.{Half}
 use Rattle.ledger_spec.specs.Tree.{AreItems}
-use Rattle.ledger_machine.specs.State.{State, Acquisition, Session}
+use Rattle.ledger_spec.specs.Acquiring.{Acquiring}
+use Rattle.ledger_machine.specs.State.{State, Session}
 use Rattle.ledger_machine.specs.Sound.{AreTables}
 
 -- what is greater the other way is less
@@ -99,7 +100,7 @@ pub same_tables : (half : Half) (s s' : State) → s'.listed ≡ s.listed → s'
 same_tables half s s' listed wanted views sessions t = record {
   listed = subst (λ m. IsMap hash_cmp m) (sym listed) t.listed;
   wanted = subst (λ m. IsMap hash_cmp m) (sym wanted) t.wanted;
-  charges = subst (λ (m : ForHash Acquisition). All (λ a. IsMap nat_cmp a.charges) (values_of m)) (sym wanted) t.charges;
+  charges = subst (λ (m : ForHash Acquiring). All (λ a. IsMap nat_cmp a.peers.charges) (values_of m)) (sym wanted) t.charges;
   views = subst (λ m. IsMap numbered_cmp m) (sym views) t.views;
   sessions = subst (λ m. IsMap numbered_cmp m) (sym sessions) t.sessions;
   edits = subst (λ (m : ForActor Session). All (λ e. AreItems half kinds.State e.accounts × AreItems half kinds.Tx e.txs) (values_of m))

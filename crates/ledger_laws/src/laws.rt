@@ -3,15 +3,19 @@ ghost use Rattle.std.specs.Prelude.{◌≡◌, ◌≢◌, ◌↔◌, ◌++◌, �
 ghost use Rattle.std.specs.List.{Contains};
 ghost use Rattle.std.specs.FinMap as map;
 ghost use Rattle.ledger_spec.specs.Bytes.{Nodes, IsHalf};
+ghost use Rattle.ledger_spec.specs.Commits.{IsWholeMap};
+ghost use Rattle.ledger_spec.specs.declared.Kind.{Kind};
 ghost use Rattle.ledger_spec.specs.Forms.{Held};
 ghost use Rattle.ledger_spec.specs.Maps.{hash_cmp, get_in};
 ghost use Rattle.ledger_machine.specs.State.{State, form_in, opening, retained};
 ghost use Rattle.ledger_machine.specs.Sound.{Sound, IsStoredAt};
-ghost use Rattle.ledger_machine.specs.Scripts.{IsAcquiring, IsInRange};
+ghost use Rattle.ledger_machine.specs.Reading.{view_root};
+ghost use Rattle.ledger_machine.specs.Scripts.{IsCovered, IsInRange, IsLedgerMap};
 ghost use Rattle.ledger_machine.specs.Steps.{Step};
 ghost use Rattle.ledger_machine.specs.Runs.{Run, Answers, IsRunOf, opening_of};
 ghost use Rattle.ledger_machine.specs.Records.{AreRecords};
 ghost use Rattle.ledger_machine.specs.Receipts.{AllStay};
+ghost use Rattle.ledger_machine.specs.Exact.{AreEveryMaps};
 ghost use Rattle.ledger_machine.specs.Complete.{IsAllStored, IsExact, AreExact};
 ghost use Rattle.ledger_machine.specs.Collisions.{offered_in, Collides, IsClash};
 ghost use Rattle.ledger_machine.specs.declared.commands.Command.{Command};
@@ -43,20 +47,20 @@ pub fn a_run_goes_on()
 /// Each step of a command that acquires a ledger leads from a sound state to a sound state.
 pub fn steps_keep_the_store_sound()
     ensures { (half : List ℕ → List ℕ) → IsHalf half → (s s' : State) (a : ℕ) (c : Command) (reply : Reply) (used : List Held)
-        → IsAcquiring c → IsInRange c → Sound half s → Step half s a c reply used s' → Sound half s' }
+        → IsCovered c → IsInRange c → Sound half s → Step half s a c reply used s' → Sound half s' }
 {}
 
 /// So does each run along a journal, where the script's lines are such commands.
 pub fn a_run_keeps_the_store_sound()
     ensures { (half : List ℕ → List ℕ) → IsHalf half → (lines : List Line) (s : State) (entries : List Entry) (s' : State)
-        → ((l : Line) → Contains lines l → IsAcquiring l.command × IsInRange l.command)
+        → ((l : Line) → Contains lines l → IsCovered l.command × IsInRange l.command)
         → Sound half s → Run half lines s entries s' → Sound half s' }
 {}
 
 /// What an answer of a run says was received for a target is stored under its own hash from then on, and
 /// reached from what is retained or open, in each state up to which the target was one of these throughout.
 pub fn what_was_received_stays()
-    ensures { (half : List ℕ → List ℕ) (lines : List Line) → ((l : Line) → Contains lines l → IsAcquiring l.command)
+    ensures { (half : List ℕ → List ℕ) (lines : List Line) → ((l : Line) → Contains lines l → IsCovered l.command)
         → (s : State) (entries : List Entry) (s' : State) (run : Run half lines s entries s') → AllStay half lines s entries s' run }
 {}
 
@@ -74,6 +78,19 @@ pub fn the_checks_of_a_run_are_exact()
         → (run : Run half lines s entries s') → AreExact half lines s entries s' run }
 {}
 
+/// What a read over an open view says of a key is what every map of that kind with the view's root has there, or the nodes that it used
+/// and the map's own show two different nodes with one hash.
+pub fn the_reads_of_a_run_are_every_maps()
+    ensures { (half : List ℕ → List ℕ) → IsHalf half → (lines : List Line) → ((l : Line) → Contains lines l → IsInRange l.command)
+        → (s : State) (entries : List Entry) (s' : State) (run : Run half lines s entries s') → AreEveryMaps half lines s entries s' run }
+{}
+
+/// In a sound state the maps of an open view are whole, so that a read of one ends only in an answer, a fault or want of memory.
+pub fn the_maps_of_a_view_are_whole()
+    ensures { (half : List ℕ → List ℕ) (s : State) (actor view : ℕ) (kind : Kind) (root : List ℕ)
+        → Sound half s → IsLedgerMap kind → view_root s kind (actor, view) ≡ Some root → IsWholeMap half (form_in s) kind root }
+{}
+
 /// In a sound state nothing that a retained ledger reaches is absent.
 pub fn nothing_of_a_retained_ledger_is_absent()
     ensures { (half : List ℕ → List ℕ) (s : State) (t : List ℕ)
@@ -85,7 +102,7 @@ pub fn nothing_of_a_retained_ledger_is_absent()
 pub fn a_clash_shows_two_forms_with_one_hash()
     ensures { (half : List ℕ → List ℕ) (records : List Record) (lines : List Line) (interval : ℕ) (entries : List Entry) (s' : State)
         (e : Entry)
-        → AreRecords half records → ((l : Line) → Contains lines l → IsAcquiring l.command)
+        → AreRecords half records → ((l : Line) → Contains lines l → IsCovered l.command)
         → IsRunOf half records lines interval entries s'
         → Contains entries e → IsClash e.reply → Collides half (offered_in half records lines) }
 {}

@@ -17,7 +17,8 @@ use Rattle.ledger_machine.specs.declared.replies.ViewReply.TheVariants as views
 use Rattle.ledger_machine.specs.declared.replies.WantReply.TheVariants as wants
 use Rattle.ledger_machine.specs.declared.replies.Reply.TheVariants as says
 use Rattle.ledger_machine.specs.Closing.{closing_forms}
-use Rattle.ledger_machine.specs.State.{State, Session, opening, default_interval, fresh}
+use Rattle.ledger_machine.specs.State.{State, Session, opening, default_interval}
+use Rattle.ledger_spec.specs.Acquiring.{acquiring}
 use Rattle.ledger_machine.specs.Steps.{Refused}
 use Rattle.ledger_machine.specs.Views.{view_reply}
 use Rattle.ledger_machine.specs.Want.{want_reply}
@@ -75,12 +76,12 @@ view_of_too_many : view_reply (record (opening finite.empty default_interval)
 view_of_too_many = refl
 
 want_of_too_many : want_reply (record (opening finite.empty default_interval)
-    { wanted = map (λ n. (at n, fresh 0)) (range_with_len 1 64) }) (at 0xDD) 10 ≡ wants.TooMany
+    { wanted = map (λ n. (at n, acquiring (at n) 0)) (range_with_len 1 64) }) (at 0xDD) 10 ≡ wants.TooMany
 want_of_too_many = refl
 
 -- an open target, and a listed one
-want_of_an_open_target : want_reply (record (opening finite.empty default_interval) { wanted = (at 0xDD, fresh 0) ∷ [] }) (at 0xDD)
-    10 ≡ wants.Open
+want_of_an_open_target : want_reply (record (opening finite.empty default_interval)
+    { wanted = (at 0xDD, acquiring (at 0xDD) 0) ∷ [] }) (at 0xDD) 10 ≡ wants.Open
 want_of_an_open_target = refl
 
 want_of_a_listed_ledger : want_reply (with only10 []) (at 0xDD) 10 ≡ wants.Listed

@@ -15,7 +15,8 @@ use Rattle.ledger_machine.specs.declared.commands.Command.TheVariants as command
 use Rattle.ledger_machine.specs.declared.replies.EditReply.TheVariants as edits
 use Rattle.ledger_machine.specs.declared.replies.TickReply.TheVariants as ticks
 use Rattle.ledger_machine.specs.declared.replies.Reply.TheVariants as says
-use Rattle.ledger_machine.specs.State.{State, Session, Acquisition, opening, default_interval}
+use Rattle.ledger_machine.specs.State.{State, Session, opening, default_interval}
+use Rattle.ledger_spec.specs.Acquiring.{Acquiring}
 use Rattle.ledger_machine.specs.Closing.{closing_forms}
 use Rattle.ledger_machine.specs.Steps.{Refused}
 use Rattle.ledger_machine.proofs.RowValues.{at, entries_of, hashes_of, forms_in, head, leaf10, root10, nodes10}
@@ -83,10 +84,14 @@ edit_of_the_last_sequence = step (edit_says state_last (entries_of nodes_last) (
     edits.LastSeq _ refl refl) refl tt
 
 -- an acquisition of 32 bytes 11 that has asked for the header, with so many ticks
-abbrev acquisition : ℕ → List Place → Acquisition
-acquisition n asked = record { seq = 7; present = 3 ∷ []; charges = (3, 0) ∷ []; asked = asked; ticks = n }
+abbrev acquisition : ℕ → List Place → Acquiring
+acquisition n asked = record {
+  target = replicate 32 0x11;
+  seq = 7;
+  peers = record { present = 3 ∷ []; charges = (3, 0) ∷ []; asked = asked; ticks = n };
+}
 
-abbrev acquiring : Acquisition → State
+abbrev acquiring : Acquiring → State
 acquiring a = record (opening finite.empty default_interval) { wanted = (replicate 32 0x11, a) ∷ [] }
 
 abbrev tick : Command

@@ -15,7 +15,8 @@ use Rattle.ledger_machine.specs.declared.replies.SwapReply.TheVariants as swaps
 use Rattle.ledger_machine.specs.declared.replies.ViewReply.TheVariants as views
 use Rattle.ledger_machine.specs.declared.replies.WantReply.TheVariants as wants
 use Rattle.ledger_machine.specs.declared.replies.Reply.TheVariants as says
-use Rattle.ledger_machine.specs.State.{State, Session, roots, opening, fresh}
+use Rattle.ledger_machine.specs.State.{State, Session, roots, opening}
+use Rattle.ledger_spec.specs.Acquiring.{acquiring}
 use Rattle.ledger_machine.specs.Closing.{closing_forms}
 use Rattle.ledger_machine.specs.Rotation.{Swapped, Carries}
 use Rattle.ledger_machine.proofs.RowValues.{at, entries_of, hashes_of, forms_in, leaf10, leaf11, inner11, root11, root12, leaf20}
@@ -168,7 +169,7 @@ swap_of_nothing = step (gives refl refl) refl tt
 
 -- a want of ledger 10 by any sequence, while its header is stored, shades it
 abbrev wanting : List Hash → State
-wanting shaded = record turning { wanted = (at 0xDD, fresh 0) ∷ []; shaded = shaded }
+wanting shaded = record turning { wanted = (at 0xDD, acquiring (at 0xDD) 0) ∷ []; shaded = shaded }
 
 a_want_shades_its_target : Row (store turning nodes14) (command.Want (at 0xDD) 0) (says.Want wants.Opened)
     (store (wanting (at 0xDD ∷ kept14)) nodes14)

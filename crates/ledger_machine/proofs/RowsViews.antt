@@ -3,14 +3,16 @@ use Rattle.std.specs.Prelude.{◌≡◌, ℕ, List, [], ◌∷◌, ◌++◌, map
 use Rattle.std.specs.FinMap as finite
 use Rattle.std.specs.declared.sync.Arc.{Arc}
 use Rattle.std.specs.declared.alloc.Global.{Global}
-use Rattle.std.proofs.Common.{ap, sym, ◌∙◌, All}
+use Rattle.std.proofs.Common.{ap, sym, ◌∙◌, All, arith, inr}
 use Rattle.half_hash.specs.Half.{byte_sum_half}
 use Rattle.shamap_node.specs.declared.Node.{Node}
 use Rattle.shamap_node.specs.Nodes.{held}
 use Rattle.ledger_spec.specs.declared.Kind.TheVariants.{State as accounts, Tx as txs}
 use Rattle.ledger_spec.specs.declared.Place.TheVariants as place
 use Rattle.ledger_spec.specs.Bytes.{Hash, Items, zero_hash}
-use Rattle.ledger_spec.specs.Reads.{value}
+use Rattle.ledger_spec.specs.Reads.{value, Shows}
+use Rattle.ledger_spec.specs.Tree as tree
+use Rattle.ledger_spec.specs.Tree.{root_of, form_at}
 use Rattle.ledger_spec.specs.Pages.{page_from, heard_from, IsPageOf, IsPageOrShows, after_key}
 use Rattle.std.proofs.lemmas.List.Elements.{All-contains, All-nil, All-cons}
 use Rattle.ledger_spec.specs.Findings.{walk, walk_map, walk_ledger, findings, lacks, items_of}
@@ -177,3 +179,25 @@ unview_ends_the_view = step (gives refl refl) refl tt
 unview_of_no_view : Row (store (with (at 0xD8) []) nodes_tx) (command.Unview 1) (says.Unview false)
     (store (with (at 0xD8) []) nodes_tx)
 unview_of_no_view = step (gives refl refl) refl tt
+
+-- the map that has 0201 under [10] has the root of ledger 10 as well; the path that a read of ledger 10 uses shows its leaf at branch 1,
+-- where the two leaves differ and have one hash
+abbrev other10 : Items
+other10 = (at 0x10, 2 ∷ 1 ∷ []) ∷ []
+
+one_root : root_of byte_sum_half accounts other10 ≡ at 0xDE
+unfolding form_at tree.form_of_part
+one_root = refl
+
+two_leaves_with_one_hash : Shows byte_sum_half accounts other10 (at 0xDE) (root10 ∷ leaf10 ∷ [])
+unfolding form_at tree.form_of_part
+two_leaves_with_one_hash = record {
+  path = 1 ∷ [];
+  is_path = record { short = omega arith; nibbles_below = refl };
+  read = Some (form_of leaf10);
+  own = form_at byte_sum_half accounts other10 (1 ∷ []);
+  stands = (zero_hash ∷ at 0xFA ∷ replicate 14 zero_hash, (0, omega arith, refl), refl, (leaf10, (1, omega arith, refl), refl, refl));
+  has = (refl, inr (λ k above below. absurd (omega arith)));
+  differ = λ same. absurd cc;
+  one_hash = refl;
+}

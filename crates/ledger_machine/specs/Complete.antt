@@ -9,6 +9,7 @@ use Rattle.ledger_spec.specs.Header.{seq_of, state_root_of}
 use Rattle.ledger_spec.specs.Reach.{Reach, Stored, kids}
 use Rattle.ledger_spec.specs.Spots.{header_in}
 use Rattle.ledger_spec.specs.Findings.{findings, breaks}
+use Rattle.ledger_spec.specs.Acquiring.{Acquiring}
 use Rattle.ledger_machine.specs.declared.commands.Command.{Command}
 use Rattle.ledger_machine.specs.declared.commands.Command.TheVariants as command
 use Rattle.ledger_machine.specs.declared.commands.Line.{Line}
@@ -16,7 +17,7 @@ use Rattle.ledger_machine.specs.declared.journal.Entry.{Entry}
 use Rattle.ledger_machine.specs.declared.replies.CheckReply.TheVariants as check
 use Rattle.ledger_machine.specs.declared.replies.Reply.{Reply}
 use Rattle.ledger_machine.specs.declared.replies.Reply.TheVariants as says
-use Rattle.ledger_machine.specs.State.{State, Acquisition, form_in}
+use Rattle.ledger_machine.specs.State.{State, form_in}
 use Rattle.ledger_machine.specs.Runs.{Run}
 
 -- nothing that the target reaches is absent: it is stored, and so is each node that a reached form names
@@ -43,7 +44,7 @@ pub record IsComplete (half : Half) (s : State) (t : Hash) (asked : ℕ) : Type 
 -- an answer to a check of an open acquisition, which met no fault and had memory, is complete exactly where the ledger is
 abbrev pub IsExact : Half → State → Command → Reply → Type 0
 IsExact half s (command.Check t) reply =
-    (a : Acquisition) → get_in hash_cmp s.wanted t ≡ Some a → reply ≢ says.Fault → reply ≢ says.Memory
+    (a : Acquiring) → get_in hash_cmp s.wanted t ≡ Some a → reply ≢ says.Fault → reply ≢ says.Memory
     → (reply ≡ says.Check check.Complete) ↔ IsComplete half s t a.seq
 IsExact half s _ reply = Unit {0}
 

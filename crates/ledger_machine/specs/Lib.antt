@@ -5,7 +5,6 @@ pub mod Records
 pub mod Want
 pub mod Peer
 pub mod Check
-pub mod Offers
 pub mod Base
 pub mod Ticks
 pub mod Views
@@ -18,3 +17,4 @@ pub mod Runs
 pub mod Receipts
 pub mod Complete
 pub mod Collisions
+pub mod Exact

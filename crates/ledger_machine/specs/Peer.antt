@@ -1,24 +1,26 @@
 -- The row of `peer`.
-use Rattle.std.specs.Prelude.{ℕ, if◌then◌else◌, [], ◌∷◌, ◌++◌, Option, None, Some}
-use Rattle.std.specs.Ordering.{nat_cmp}
-use Rattle.ledger_spec.specs.Maps.{hash_cmp, get_in, has_in, insert_in}
+use Rattle.std.specs.Prelude.{ℕ, Option, None, Some}
+use Rattle.ledger_spec.specs.Maps.{hash_cmp, get_in}
 use Rattle.ledger_spec.specs.Bytes.{Hash}
+use Rattle.ledger_spec.specs.declared.peers.Added.{Added as Joined}
+use Rattle.ledger_spec.specs.declared.peers.Added.TheVariants as adds
+use Rattle.ledger_spec.specs.Peers.{added, after_adding}
+use Rattle.ledger_spec.specs.Acquiring.{Acquiring}
 use Rattle.ledger_machine.specs.declared.replies.PeerReply.{PeerReply}
 use Rattle.ledger_machine.specs.declared.replies.PeerReply.TheVariants.{Added, Known, NotOpen}
-use Rattle.ledger_machine.specs.State.{State, Acquisition, with_wanted}
+use Rattle.ledger_machine.specs.State.{State, with_peers}
 
-abbrev pub peer_given : ℕ → Option Acquisition → PeerReply
+abbrev pub peer_said : Joined → PeerReply
+peer_said adds.Added = Added
+peer_said adds.Known = Known
+
+abbrev pub peer_given : ℕ → Option Acquiring → PeerReply
 peer_given p None = NotOpen
-peer_given p (Some a) = if has_in nat_cmp a.charges p then Known else Added
+peer_given p (Some a) = peer_said (added a.peers p)
 
--- a peer is known where it was added before, also when it was dropped since
 abbrev pub peer_reply : State → ℕ → Hash → PeerReply
 peer_reply s p t = peer_given p (get_in hash_cmp s.wanted t)
 
--- the last of the present peers, with no charge
-abbrev pub with_peer : ℕ → Acquisition → Acquisition
-with_peer p a = record a { present = a.present ++ p ∷ []; charges = insert_in nat_cmp a.charges p 0 }
-
-abbrev pub after_peer : State → ℕ → Hash → PeerReply → State
-after_peer s p t Added = with_wanted s t (with_peer p)
-after_peer s p t _ = s
+-- a new peer has joined behind the others; one that is known changes nothing
+abbrev pub after_peer : State → ℕ → Hash → State
+after_peer s p t = with_peers s t (λ peers. after_adding peers p)

@@ -81,7 +81,8 @@ IfBytes (Some bytes) = AreBytes bytes
 abbrev pub AreOffered : Hash → Bytes → Option Bytes → Option Bytes → Type 0
 AreOffered t head state tx = IsTrue (is_nonzero t) × AreBytes head × IfBytes state × IfBytes tx
 
--- no target and no key is zero, but for the key that a page stands behind; maps are a ledger's, and what is brought is bytes
+-- no target and no key is zero, but for the key that a page stands behind; a key that is read is 32 bytes; maps are a ledger's, and what
+-- is brought is bytes
 abbrev pub IsInRange : Command → Type 0
 IsInRange (command.Want t seq) = IsTrue (is_nonzero t)
 IsInRange (command.Peer p t) = IsTrue (is_nonzero t)
@@ -91,7 +92,7 @@ IsInRange (command.Check t) = IsTrue (is_nonzero t)
 IsInRange (command.Tick t) = IsTrue (is_nonzero t)
 IsInRange (command.View v t) = IsTrue (is_nonzero t)
 IsInRange (command.Unview v) = Unit {0}
-IsInRange (command.Get v kind key) = IsTrue (is_nonzero key) × IsLedgerMap kind
+IsInRange (command.Get v kind key) = IsTrue (is_nonzero key) × (length key ≡ 32) × AreBytes key × IsLedgerMap kind
 IsInRange (command.Page v kind key n) = IsLedgerMap kind × (1 ≤ n) × (n ≤ 256)
 IsInRange (command.Edit x t) = IsTrue (is_nonzero t)
 IsInRange (command.Put x item) = AreBytes item.key × AreBytes item.value
@@ -102,12 +103,16 @@ IsInRange (command.Abandon x) = Unit {0}
 IsInRange command.Begin = Unit {0}
 IsInRange command.Swap = Unit {0}
 
--- the commands that acquire a ledger
-abbrev pub IsAcquiring : Command → Type 0
-IsAcquiring (command.Want t seq) = Unit {0}
-IsAcquiring (command.Peer p t) = Unit {0}
-IsAcquiring (command.Base p t head state tx) = Unit {0}
-IsAcquiring (command.Node p t kind path blob) = Unit {0}
-IsAcquiring (command.Check t) = Unit {0}
-IsAcquiring (command.Tick t) = Unit {0}
-IsAcquiring _ = ⊥
+-- the commands that the laws on steps cover at present
+abbrev pub IsCovered : Command → Type 0
+IsCovered (command.Want t seq) = Unit {0}
+IsCovered (command.Peer p t) = Unit {0}
+IsCovered (command.Base p t head state tx) = Unit {0}
+IsCovered (command.Node p t kind path blob) = Unit {0}
+IsCovered (command.Check t) = Unit {0}
+IsCovered (command.Tick t) = Unit {0}
+IsCovered (command.View v t) = Unit {0}
+IsCovered (command.Unview v) = Unit {0}
+IsCovered (command.Get v kind key) = Unit {0}
+IsCovered (command.Page v kind key n) = Unit {0}
+IsCovered _ = ⊥

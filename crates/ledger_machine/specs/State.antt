@@ -2,8 +2,7 @@
 use Rattle.std.specs.Prelude.{ℕ, is_some, if◌then◌else◌, List, [], ◌∷◌, ◌++◌, map, Option, None, Some}
 use Rattle.std.specs.Option.{option_map_or}
 use Rattle.std.specs.Map.{keys_of, values_of}
-use Rattle.ledger_spec.specs.Maps.{ForHash, ForActor, ForPeer, SetOf, hashes_in, hash_cmp, get_in, set_in, remove_in, insert_in}
-use Rattle.ledger_spec.specs.declared.Place.{Place}
+use Rattle.ledger_spec.specs.Maps.{ForHash, ForActor, SetOf, hashes_in, hash_cmp, get_in, set_in, remove_in, insert_in}
 use Rattle.ledger_spec.specs.Bytes.{Bytes, Hash, Half, Lookup, Nodes, Items}
 use Rattle.ledger_spec.specs.Header.{seq_of}
 use Rattle.ledger_spec.specs.Spots.{header_in}
@@ -11,15 +10,8 @@ use Rattle.std.specs.FinMap as finite
 use Rattle.std.specs.FinSet as set
 use Rattle.ledger_spec.specs.Reach.{Reach}
 use Rattle.ledger_spec.specs.Retaining.{last_or, due_at}
-
--- an open acquisition: the asked sequence, the present peers in order of turn, the charges of every peer that was ever added,
--- the places asked since the last tick, and the ticks
-pub record Acquisition : Type 0 where
-  pub seq : ℕ
-  pub present : List ℕ
-  pub charges : ForPeer ℕ
-  pub asked : List Place
-  pub ticks : ℕ
+use Rattle.ledger_spec.specs.Acquiring.{Acquiring}
+use Rattle.ledger_spec.specs.Peers.{Peers}
 
 -- an open session: the ledger that it edits, its account state and its transactions
 pub record Session : Type 0 where
@@ -28,15 +20,15 @@ pub record Session : Type 0 where
   pub txs : Items
 
 -- The state. `nodes` are the stored forms and `born` the hashes that were written in the present epoch, as values that do not
--- tell how they are kept; the tables are entries whose keys rise. `listed` has the sequence of each ledger that was reported
--- complete or closed here, `floor` the least sequence that is listed, `last` the sequence of the last rotation. `turning` is the
--- sequence of the rotation under way, and `shaded` what it was told to keep.
+-- tell how they are kept; the tables are entries whose keys rise. `wanted` has the open acquisitions. `listed` has the sequence of each
+-- ledger that was reported complete or closed here, `floor` the least sequence that is listed, `last` the sequence of the last rotation.
+-- `turning` is the sequence of the rotation under way, and `shaded` what it was told to keep.
 pub record State : Type 0 where
   pub nodes : Nodes
   pub born : SetOf
   pub epoch : ℕ
   pub listed : ForHash ℕ
-  pub wanted : ForHash Acquisition
+  pub wanted : ForHash Acquiring
   pub views : ForActor Hash
   pub sessions : ForActor Session
   pub floor : ℕ
@@ -79,9 +71,16 @@ abbrev pub with_forms : Half → State → List Bytes → State
 with_forms half s [] = s
 with_forms half s (form ∷ forms) = with_forms half (with_form half s form) forms
 
--- an acquisition with a change
-abbrev pub with_wanted : State → Hash → (Acquisition → Acquisition) → State
-with_wanted s t change = option_map_or (λ a. record s { wanted = set_in hash_cmp s.wanted t (change a) }) (get_in hash_cmp s.wanted t) s
+-- the acquisitions, that of the target with a change
+abbrev pub changed : ForHash Acquiring → Hash → (Acquiring → Acquiring) → ForHash Acquiring
+changed wanted t change = option_map_or (λ a. set_in hash_cmp wanted t (change a)) (get_in hash_cmp wanted t) wanted
+
+abbrev pub with_wanted : State → Hash → (Acquiring → Acquiring) → State
+with_wanted s t change = record s { wanted = changed s.wanted t change }
+
+-- its peers change
+abbrev pub with_peers : State → Hash → (Peers → Peers) → State
+with_peers s t change = with_wanted s t (λ a. record a { peers = change a.peers })
 
 -- the acquisition has ended
 abbrev pub ended : State → Hash → State
@@ -94,10 +93,6 @@ listed_with s t seq = record s { listed = insert_in hash_cmp s.listed t seq; las
 -- the sequence of the header that is stored under the target
 abbrev pub stored_seq : State → Hash → ℕ
 stored_seq s t = option_map_or seq_of (header_in (form_in s) t) 0
-
--- a new acquisition: no peers, nothing asked, no ticks
-abbrev pub fresh : ℕ → Acquisition
-fresh seq = record { seq = seq; present = []; charges = []; asked = []; ticks = 0 }
 
 -- the interval where no word names one
 abbrev pub default_interval : ℕ

@@ -15,7 +15,7 @@ use Rattle.ledger_machine.specs.State.{State, with_forms, stored_seq}
 use Rattle.ledger_machine.specs.Want.{want_reply, after_want}
 use Rattle.ledger_machine.specs.Peer.{peer_reply, after_peer}
 use Rattle.ledger_machine.specs.Check.{check_reply, after_check}
-use Rattle.ledger_machine.specs.Base.{base_reply, after_base, base_forms, node_reply, after_offer, offer_forms}
+use Rattle.ledger_machine.specs.Base.{base_reply, after_base, base_stores, node_reply, after_node, node_stores}
 use Rattle.ledger_machine.specs.Ticks.{tick_reply, after_tick}
 use Rattle.ledger_machine.specs.Views.{view_reply, after_view, unview_reply, after_unview}
 use Rattle.ledger_machine.specs.Reading.{view_root, IsRead, IsPage}
@@ -48,11 +48,11 @@ Swaps s (Some v) reply s' = (reply ≡ says.Swap (swaps.Swapped (s.epoch + 1))) 
 abbrev pub Answered : Half → State → ℕ → Command → Reply → List Held → State → Type 0
 Answered half s a (command.Want t seq) reply used s' =
     Gives (says.Want (want_reply s t seq)) (after_want s t seq (want_reply s t seq)) reply s'
-Answered half s a (command.Peer p t) reply used s' = Gives (says.Peer (peer_reply s p t)) (after_peer s p t (peer_reply s p t)) reply s'
+Answered half s a (command.Peer p t) reply used s' = Gives (says.Peer (peer_reply s p t)) (after_peer s p t) reply s'
 Answered half s a (command.Base p t head state tx) reply used s' =
     Gives (base_reply half s p t head state tx) (after_base half s p t head state tx reply) reply s'
 Answered half s a (command.Node p t kind path blob) reply used s' =
-    Gives (node_reply half s p t kind path blob) (after_offer half s p t kind path blob reply) reply s'
+    Gives (node_reply half s p t kind path blob) (after_node half s p t kind path blob reply) reply s'
 Answered half s a (command.Check t) reply used s' =
     Gives (says.Check (check_reply half s t)) (after_check s t (stored_seq s t) (check_reply half s t)) reply s'
 Answered half s a (command.Tick t) reply used s' = Gives (says.Tick (tick_reply s t)) (after_tick s t (tick_reply s t)) reply s'
@@ -77,8 +77,8 @@ Answered half s a command.Swap reply used s' = Swaps s s.turning reply s'
 
 -- a command's own forms: those that it would store
 abbrev pub own_forms : Half → State → ℕ → Command → List Bytes
-own_forms half s a (command.Base p t head state tx) = base_forms half s p t head state tx
-own_forms half s a (command.Node p t kind path blob) = offer_forms half s p t kind path blob
+own_forms half s a (command.Base p t head state tx) = base_stores half s p t head state tx
+own_forms half s a (command.Node p t kind path blob) = node_stores half s p t kind path blob
 own_forms half s a (command.Close x fields) = close_forms half s (a, x) fields
 own_forms half s a _ = []
 

@@ -2,9 +2,10 @@
 use Rattle.std.specs.Prelude.{ℕ, ◌==◌, ◌&&◌, not, nat_lt, if◌then◌else◌, length}
 use Rattle.ledger_spec.specs.Maps.{hash_cmp, has_in, insert_in}
 use Rattle.ledger_spec.specs.Bytes.{Hash}
+use Rattle.ledger_spec.specs.Acquiring.{acquiring}
 use Rattle.ledger_machine.specs.declared.replies.WantReply.{WantReply}
 use Rattle.ledger_machine.specs.declared.replies.WantReply.TheVariants.{Opened, Open, Listed, BelowFloor, TooMany}
-use Rattle.ledger_machine.specs.State.{State, fresh}
+use Rattle.ledger_machine.specs.State.{State}
 
 -- how many acquisitions may be open
 abbrev pub most_wanted : ℕ
@@ -19,5 +20,5 @@ want_reply s t seq =
     else Opened
 
 abbrev pub after_want : State → Hash → ℕ → WantReply → State
-after_want s t seq Opened = record s { wanted = insert_in hash_cmp s.wanted t (fresh seq) }
+after_want s t seq Opened = record s { wanted = insert_in hash_cmp s.wanted t (acquiring t seq) }
 after_want s t seq _ = s

@@ -13,11 +13,12 @@ use std::thread::Threads;
 
 /// A script, the status, and the journal, in short: `[xx]` is the byte xx and 31 zero bytes, `_` is 32
 /// zero bytes, `@` the header of ledger 10, and `#` the root of its state map.
-const ROWS: [(&str, u8, &str); 13] = [
+const ROWS: [(&str, u8, &str); 14] = [
     (WHOLE, 0, WHOLE_SAYS),
     (COMPRESSED, 0, COMPRESSED_SAYS),
     (TX, 0, TX_SAYS),
-    (VIEWED, 3, "refused 9 5\n"),
+    (READ, 0, READ_SAYS),
+    (COLLIDING, 7, COLLIDING_SAYS),
     (LEAVES_CLASH, 7, LEAVES_CLASH_SAYS),
     (HEADERS_CLASH, 7, HEADERS_CLASH_SAYS),
     (HEADERS, 0, HEADERS_SAYS),
@@ -112,15 +113,77 @@ const COMPRESSED_SAYS: &str = "1 0 want opened
 end complete 0 closed 0 listed 0 floor 0 last - epoch 0
 ";
 
-const VIEWED: &str = "0 want [DD] 10
+/// The same ledger read: only what is retained is viewed, a view is its actor's own, and each map has its own keys.
+const READ: &str = "0 want [D8] 10
+0 peer 5 [D8]
+0 base 5 [D8] 0000000A0000000000000000_[FB][DE]00000000000000000000 # ___[17]____________02
+0 view 1 [D8]
+0 node 5 [D8] state [10]01 0102[10]01
+0 node 5 [D8] tx [30]01 02[30]04
+0 check [D8]
+0 view 1 [D8]
+0 view 1 [D8]
+0 view 2 [DD]
+0 get 1 tx [30]
+0 get 1 state [30]
+0 get 1 state [10]
+0 get 1 state [11]
+0 get 1 tx [10]
+1 after 15 get 1 tx [30]
+1 view 1 [D8]
+1 get 1 tx [30]
+0 after 18 unview 1
+0 get 1 tx [30]
+0 unview 1
+1 after 21 get 1 state [10]
+";
+
+const READ_SAYS: &str = "1 0 want opened
+2 0 peer added
+3 0 base good / good / good
+4 0 view notretained
+5 0 node good
+6 0 node good
+7 0 check complete
+8 0 view ok
+9 0 view inuse
+10 0 view notretained
+11 0 get value 02
+12 0 get none
+13 0 get value 0102
+14 0 get none
+15 0 get none
+16 1 get noview
+17 1 view ok
+18 1 get value 02
+19 0 unview ok
+20 0 get noview
+21 0 unview noview
+22 1 get value 0102
+end complete 1 closed 0 listed 1 floor 0 last 10 epoch 0
+";
+
+/// The map that has 0201 under [10] has the same root as the one that is stored: a read answers what is stored, and the path that it
+/// used shows the other leaf's hash at its end.
+const COLLIDING: &str = "0 want [DD] 10
 0 peer 5 [DD]
-0 check [DD]
 0 base 5 [DD] @ #
-0 check [DD]
 0 node 5 [DD] state [10]01 0102[10]01
-0 node 5 [DD] state [10]01 0102[10]01
+0 node 5 [DD] state [10]01 0201[10]01
 0 check [DD]
-0 view 7 [DD]
+0 view 65535 [DD]
+0 get 65535 state [10]
+";
+
+const COLLIDING_SAYS: &str = "1 0 want opened
+2 0 peer added
+3 0 base good / good
+4 0 node good
+5 0 node clash [FA] 4D4C4E000102[10] 4D4C4E000201[10]
+6 0 check complete
+7 0 view ok
+8 0 get value 0102
+end complete 1 closed 0 listed 1 floor 0 last 10 epoch 0
 ";
 
 const LEAVES_CLASH: &str = "0 want [DD] 10
@@ -192,7 +255,7 @@ const HEADERS_SAYS: &str = "1 0 want opened
 end complete 0 closed 0 listed 0 floor 0 last - epoch 0
 ";
 
-/// Nodes that aren't stored, each for another reason.
+/// Nodes that aren't stored, each for another reason. The fourth that is bad drops its peer, who isn't added again.
 const REFUSED: &str = "0 want [DD] 10
 0 peer 5 [DD]
 0 node 5 [DD] state [10]01 0102[10]01
@@ -205,15 +268,21 @@ const REFUSED: &str = "0 want [DD] 10
 0 node 5 [DD] state [10]01 -
 0 node 5 [DD] state [10]01 0005
 0 node 5 [DD] state [10]01 0002
-0 node 5 [DD] state [10]01 [FA]010003
-0 node 5 [DD] state [10]01 [FA]1003
-0 node 5 [DD] state [10]01 [FA]01[FA]0103
-0 node 5 [DD] state [10]01 _0003
-0 node 5 [DD] state [10]01 ________________02
-0 node 5 [DD] state [10]01 0001
-0 node 5 [DD] state [10]01 _01
 0 node 5 [DD] state [10]01 0102[10]01
-0 node 5 [DD] state [10]02 0102[10]01
+0 peer 5 [DD]
+0 check [DD]
+0 peer 7 [DD]
+0 peer 8 [DD]
+0 node 7 [DD] state [10]01 [FA]010003
+0 node 7 [DD] state [10]01 [FA]1003
+0 node 7 [DD] state [10]01 [FA]01[FA]0103
+0 node 7 [DD] state [10]01 _0003
+0 check [DD]
+0 node 8 [DD] state [10]01 ________________02
+0 node 8 [DD] state [10]01 0001
+0 node 8 [DD] state [10]01 _01
+0 node 8 [DD] state [10]01 0102[10]01
+0 node 8 [DD] state [10]02 0102[10]01
 ";
 
 const REFUSED_SAYS: &str = "1 0 want opened
@@ -228,15 +297,21 @@ const REFUSED_SAYS: &str = "1 0 want opened
 10 0 node bad wire 1
 11 0 node bad wire 2
 12 0 node bad wire 3
-13 0 node bad wire 4
-14 0 node bad wire 5
-15 0 node bad wire 6
-16 0 node bad wire 7
-17 0 node bad wire 8
-18 0 node bad wire 9
-19 0 node bad wire 10
-20 0 node good
-21 0 node underleaf [10]01
+13 0 node unasked
+14 0 peer known
+15 0 check nopeer
+16 0 peer added
+17 0 peer added
+18 0 node bad wire 4
+19 0 node bad wire 5
+20 0 node bad wire 6
+21 0 node bad wire 7
+22 0 check need 8 state:[10]01
+23 0 node bad wire 8
+24 0 node bad wire 9
+25 0 node bad wire 10
+26 0 node good
+27 0 node underleaf [10]01
 end complete 0 closed 0 listed 0 floor 0 last - epoch 0
 ";
 

@@ -47,6 +47,7 @@ pub fn page<H: NodeHash, S: NodeSource<H>>(
         (Refused H.half kind S.tells (map.get (S.stored source.old)) (heard_from H.half kind root.now after.now) n) }
     ensures fault { IfErr result (λ fault. fault ≡ ReadFault.Fault → Rose (S.faults source.old) (S.faults source.new)) }
     ensures same { IsTrue S.tells → S.stored source.new ≡ S.stored source.old }
+    ensures rest { S.rest source.new ≡ S.rest source.old }
     ensures later { S.faults source.old ≤ S.faults source.new }
 {
     known_key(after);
@@ -70,6 +71,7 @@ fn read_page<H: NodeHash, S: NodeSource<H>>(
         (Refused H.half kind S.tells (map.get (S.stored source.old)) (heard_from H.half kind root.now after.now) n) }
     ensures fault { IfErr result (λ fault. fault ≡ ReadFault.Fault → Rose (S.faults source.old) (S.faults source.new)) }
     ensures same { IsTrue S.tells → S.stored source.new ≡ S.stored source.old }
+    ensures rest { S.rest source.new ≡ S.rest source.old }
     ensures later { S.faults source.old ≤ S.faults source.new }
 {
     let mut page = Page::new(alloc);

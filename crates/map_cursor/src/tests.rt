@@ -57,11 +57,16 @@ impl Two {
 
 impl NodeSource<TinyHash> for Two {
     ghost use Rattle.std.specs.Prelude.{false};
+    ghost use Rattle.std.specs.Bool.{⊤};
     ghost use Rattle.std.specs.FinMap as map;
 
     ghost tells = { false };
 
     ghost stored = { λ s. map.empty };
+
+    ghost Rest = { ⊤ };
+
+    ghost rest = { λ s. tt };
 
     ghost faults = { λ s. 0 };
 

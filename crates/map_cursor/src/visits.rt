@@ -65,6 +65,7 @@ pub(crate) fn visit<H: NodeHash, S: NodeSource<H>>(
     ensures further { OnOk result (HasFurther query.now.after page.old → HasFurther query.now.after page.new) }
     ensures fault { IfErr result (λ fault. fault ≡ ReadFault.Fault → Rose (S.faults source.old) (S.faults source.new)) }
     ensures same { IsTrue S.tells → S.stored source.new ≡ S.stored source.old }
+    ensures rest { S.rest source.new ≡ S.rest source.old }
     ensures later { S.faults source.old ≤ S.faults source.new }
 {
     if query.skips(id, wanted, page.leaves.len()) {
@@ -95,6 +96,7 @@ fn visit_branches<H: NodeHash, S: NodeSource<H>>(
     ensures further { OnOk result (HasFurther query.now.after page.old → HasFurther query.now.after page.new) }
     ensures fault { IfErr result (λ fault. fault ≡ ReadFault.Fault → Rose (S.faults source.old) (S.faults source.new)) }
     ensures same { IsTrue S.tells → S.stored source.new ≡ S.stored source.old }
+    ensures rest { S.rest source.new ≡ S.rest source.old }
     ensures later { S.faults source.old ≤ S.faults source.new }
 {
     for b in 0..16u8 {

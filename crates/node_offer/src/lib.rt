@@ -13,7 +13,7 @@ pub use fault::OfferFault;
 pub use header::offer_header;
 pub use laws::a_wanted_node_is_never_bad;
 pub use node::offer;
-pub use spots::{Spot, place};
+pub use spots::{Spot, place, root_in};
 
 #[cfg(test)]
 mod tests;

@@ -60,8 +60,8 @@ pub fn place<H: NodeHash, Sh: Shelf>(
     }
 }
 
-// The root of the map of this kind, of the header that is held under the target.
-fn root_in<H: NodeHash, Sh: Shelf>(
+/// The root of the map of this kind, of the header that is held under the target, where one is. It asks each backend at most once.
+pub fn root_in<H: NodeHash, Sh: Shelf>(
     alloc: Global,
     store: &mut RotStore<Sh>,
     target: &Hash32,

@@ -1,3 +1,5 @@
+pub mod Bare
+pub mod Holding
 pub mod Steps
 pub mod PathLaws
 pub mod Walks

@@ -20,9 +20,12 @@ use Rattle.path_proof.specs.declared.reading.Answer.{Answer}
 use Rattle.path_proof.specs.declared.reading.ReadFault.{ReadFault}
 use Rattle.nib_path.specs.Paths.{nibbles}
 use Rattle.ledger_spec.specs.Rules.{fault_of}
-use Rattle.path_proof.specs.Ways.{Fits}
 use Rattle.path_proof.proofs.Steps.{above}
-use Rattle.path_proof.specs.Paths.{held_nodes, outcome_by, IsAbove}
+use Rattle.std.specs.Borrow.{Bor}
+use Rattle.std.specs.Option.{option_copied}
+use Rattle.shamap_node.specs.declared.parts.Inner.{Inner}
+use Rattle.shamap_node.specs.Nodes.{hashes_above}
+use Rattle.path_proof.specs.Paths.{held_nodes, hashes_kept, outcome_by, IsAbove}
 
 -- a leaf of the map's kind has a form, bare transactions apart
 leaf_held : (half : Half) (kind own : Kind) (key bytes : Bytes) → kind ≢ Set → IsItem key bytes → own ≡ kind
@@ -58,11 +61,21 @@ law_of_read half sized kind root key (Ok a) is_key path =
     (nodes_are half kind other a.used.items) path
 law_of_read half sized kind root key (Err _) is_key path = tt
 
--- a node that fits a place on the way has levels below it, if it is an inner one
-pub fits_above : (half : Half) (kind : Kind) (over : Option (List Hash)) (path : List ℕ) (h key : Hash) (depth : ℕ)
+-- a node that breaks no rule at a place on the way has levels below it, if it is an inner one
+pub rules_above : (kind : Kind) (over : Option (List Hash)) (path : List ℕ) (key : Hash) (depth : ℕ)
     (result : Result (Arc Node Global) ReadFault) → depth ≤ 64 → length key ≡ 32
-    → path ≡ take depth (nibbles key) → IfOk result (λ a. Fits half kind over path h (held a.value))
+    → path ≡ take depth (nibbles key) → IfOk result (λ a. fault_of (held a.value) over kind path ≡ None)
     → IfOk result (λ a. IsAbove (held a.value) depth)
-fits_above half kind over path h key depth (Ok a) within size is fits =
-    above (held a.value) over kind key depth within size (sym (ap (fault_of (held a.value) over kind) is) ∙ fits.rules)
-fits_above half kind over path h key depth (Err _) within size is fits = tt
+rules_above kind over path key depth (Ok a) within size is rules =
+    above (held a.value) over kind key depth within size (sym (ap (fault_of (held a.value) over kind) is) ∙ rules)
+rules_above kind over path key depth (Err _) within size is rules = tt
+
+-- a fact that holds under a premise
+pub under : {T E C : Type 0} (P : T → Type 0) (r : Result T E) → (C → IfOk r P) → IfOk r (λ a. C → P a)
+under P (Ok a) each = each
+under P (Err e) each = tt
+
+-- the inner node that is kept above is the one that is shown
+pub kept_above : (o : Option (Bor Inner)) (p : Option Inner) → option_copied o ≡ p → hashes_above o ≡ hashes_kept p
+kept_above None p is = ap hashes_kept is
+kept_above (Some b) p is = ap hashes_kept is

@@ -11,6 +11,13 @@ use Rattle.ledger_spec.specs.Forms.{Held, inner, leaf, header, hash_of}
 use Rattle.ledger_spec.specs.Reads as spec
 use Rattle.ledger_spec.specs.Reads.{inner_hashes, ends_at, follow, follow_from}
 use Rattle.path_proof.specs.Sources.{AreHeld, Holds}
+use Rattle.std.proofs.Common.{IsErrAnd, Result, Ok, Err}
+use Rattle.path_proof.specs.declared.reading.ReadFault.{ReadFault}
+use Rattle.path_proof.specs.declared.way.Progress.{Progress}
+use Rattle.path_proof.specs.declared.source.FetchFault.{FetchFault}
+use Rattle.path_proof.specs.Sources.{Gives, HasHash}
+use Rattle.path_proof.specs.Progressing.{Comes, IsFetched}
+use Rattle.path_proof.specs.Ways.{HasCause}
 use Rattle.path_proof.specs.Ways.{Waypoint, start, path_at, under, below, way, fault_at, Fits, GoesOn, LeadsTo}
 use Rattle.std.proofs.lemmas.List.{map_push}
 use Rattle.std.specs.declared.sync.Arc.{Arc}
@@ -179,3 +186,27 @@ comes_to_end half kind root key tells nodes used more node seen s o nonzero so f
     (sym (ap held_nodes pushed ∙ map_push (λ (a : Arc Node Global). held a.value) used node))
     (read_ends half kind root key tells nodes (held_nodes used) (held node.value) s o nonzero so fits
     (subst (λ m. ends_at key s.depth (held m) ≡ Some (outcome_by (held m ∷ []) o)) is ends))
+
+-- with a node more all nodes are still held
+pub stored_more : (half : Half) (kind : Kind) (root key : Hash) (tells : Bool) (nodes : Lookup) (used more : List (Arc Node Global))
+    (node : Arc Node Global) (s : Waypoint) → LeadsTo half kind root key tells nodes (held_nodes used) s
+    → Fits half kind s.above (path_at key s) s.hash (held node.value) → (IsTrue tells → Holds half (nodes s.hash) (held node.value))
+    → more ≡ used ++ node ∷ [] → AreHeld half tells nodes (held_nodes more)
+stored_more half kind root key tells nodes used more node s so fits held_there pushed =
+    subst (AreHeld half tells nodes) (sym (ap held_nodes pushed ∙ map_push (λ (a : Arc Node Global). held a.value) used node))
+    (all_stored half kind root key tells nodes (held_nodes used) (held node.value) s so fits held_there)
+
+-- a read that ended with no answer has the cause
+pub ended_by : (half : Half) (kind : Kind) (root key : Hash) (tells : Bool) (nodes : Lookup) (r : Result Progress ReadFault) (why : ReadFault)
+    → IsErrAnd r (λ e. e ≡ why) → HasCause half kind root key tells nodes why → Comes half kind root key tells nodes r
+ended_by half kind root key tells nodes (Ok p) why is cause = absurd is
+ended_by half kind root key tells nodes (Err e) why is cause = subst (HasCause half kind root key tells nodes) (sym is) cause
+
+-- what a source gave for the hash that was wanted, over what it held from the start
+pub fetched_as : (half : Half) (tells : Bool) (nodes now : Lookup) (h wanted : Hash) (fetched : Result (Option (Arc Node Global)) FetchFault)
+    → h ≡ wanted → (IsTrue tells → now ≡ nodes) → HasHash half h fetched → (IsTrue tells → Gives half (now h) fetched)
+    → IsFetched half tells nodes wanted fetched
+fetched_as half tells nodes now h wanted fetched is same hash exact = record {
+  hash = subst (λ x. HasHash half x fetched) is hash;
+  exact = λ told. subst (λ x. Gives half (nodes x) fetched) is (subst (λ (f : Lookup). Gives half (f h) fetched) (same told) (exact told));
+}

@@ -1,3 +1,4 @@
 pub mod Paths
 pub mod Sources
 pub mod Ways
+pub mod Progressing

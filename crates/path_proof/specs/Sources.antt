@@ -1,5 +1,5 @@
 -- What a source of nodes answers, by the map that it tells.
-use Rattle.std.specs.Prelude.{◌≡◌, Bool, IsTrue, List, Option, None, Some, Result, Ok, Err}
+use Rattle.std.specs.Prelude.{◌≡◌, Bool, IsTrue, IfOk, IfSome, List, Option, None, Some, Result, Ok, Err}
 use Rattle.std.specs.List.{AllByRecursion}
 use Rattle.std.specs.Bool.{⊤}
 use Rattle.std.specs.declared.sync.Arc.{Arc}
@@ -8,12 +8,16 @@ use Rattle.shamap_node.specs.declared.Node.{Node}
 use Rattle.shamap_node.specs.Nodes.{held}
 use Rattle.shamap_node.specs.Laws.{is_no_node}
 use Rattle.std.specs.FinMap as map
-use Rattle.ledger_spec.specs.Bytes.{Bytes, Half, Lookup, Nodes}
-use Rattle.ledger_spec.specs.Forms.{Held, IsHeld, form_of}
+use Rattle.ledger_spec.specs.Bytes.{Bytes, Hash, Half, Lookup, Nodes}
+use Rattle.ledger_spec.specs.Forms.{Held, IsHeld, form_of, hash_of}
 use Rattle.ledger_spec.specs.Pages.{IsStoredNode}
 use Rattle.ledger_spec.specs.Findings.{held_of}
 use Rattle.path_proof.specs.declared.source.FetchFault.{FetchFault}
 use Rattle.path_proof.specs.declared.source.FetchFault.TheVariants.{Fault, Foreign, Memory}
+
+-- a node, none, or why there is no answer
+abbrev pub Fetched : Type 0
+Fetched = Result (Option (Arc Node Global)) FetchFault
 
 -- nothing is stored
 abbrev pub no_nodes : Nodes
@@ -31,8 +35,12 @@ Holds half there n = (there ≡ Some (form_of n)) × IsHeld half n
 abbrev pub AreHeld : Half → Bool → Lookup → List Held → Type 0
 AreHeld half tells nodes used = IsTrue tells → AllByRecursion (IsStoredNode half nodes) used
 
+-- a node that was given has the hash
+abbrev pub HasHash : Half → Hash → Fetched → Type 0
+HasHash half h fetched = IfOk fetched (λ o. IfSome o (λ node. hash_of half (held node.value) ≡ h))
+
 -- the answer to a hash under which this is held
-abbrev pub Gives : Half → Option Bytes → Result (Option (Arc Node Global)) FetchFault → Type 0
+abbrev pub Gives : Half → Option Bytes → Fetched → Type 0
 Gives half there (Ok (Some node)) = Holds half there (held node.value)
 Gives half there (Ok None) = there ≡ None
 Gives half there (Err Foreign) = IsForeign half there

@@ -2,12 +2,15 @@
 #![tactic(auto)]
 
 mod following;
+mod forms;
 mod laws;
 mod reading;
 mod source;
+mod way;
 mod waypoints;
 
 pub use following::{follow, known_key};
+pub use forms::node_of_form;
 pub use laws::a_whole_map_is_read;
 pub use reading::{Answer, ReadFault, node_at, read};
 pub use source::{FetchFault, NoSource, NodeSource};

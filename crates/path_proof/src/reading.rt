@@ -11,11 +11,11 @@ ghost use Rattle.path_proof.specs.Sources.{AreHeld, Holds};
 ghost use Rattle.path_proof.specs.Ways.{Ends, Fits, HasCause};
 
 use crate::following::known_key;
-use crate::waypoints::Waypoint;
-use crate::{FetchFault, NodeSource, Outcome};
+use crate::way::{Progress, Reading, judged};
+use crate::{NodeSource, Outcome};
 use half_hash::{Hash32, NodeHash, known_half};
 use nib_path::NodeId;
-use shamap_node::{Inner, Kind, Node, ShapeFault, shape};
+use shamap_node::{Inner, Kind, Node, ShapeFault};
 use std::alloc::{AllocFailed, Global};
 use std::sync::Arc;
 
@@ -72,6 +72,7 @@ pub fn read<H: NodeHash, S: NodeSource<H>>(
     ensures cause { IfErr result (HasCause H.half kind root.now key.now S.tells (map.get (S.stored source.old))) }
     ensures fault { IfErr result (λ fault. fault ≡ ReadFault.Fault → Rose (S.faults source.old) (S.faults source.new)) }
     ensures same { IsTrue S.tells → S.stored source.new ≡ S.stored source.old }
+    ensures rest { S.rest source.new ≡ S.rest source.old }
     ensures later { S.faults source.old ≤ S.faults source.new }
 {
     known_key(key);
@@ -93,55 +94,23 @@ fn read_path<H: NodeHash, S: NodeSource<H>>(
     ensures cause { IfErr result (HasCause H.half kind root.now key.now S.tells (map.get (S.stored source.old))) }
     ensures fault { IfErr result (λ fault. fault ≡ ReadFault.Fault → Rose (S.faults source.old) (S.faults source.new)) }
     ensures same { IsTrue S.tells → S.stored source.new ≡ S.stored source.old }
+    ensures rest { S.rest source.new ≡ S.rest source.old }
     ensures later { S.faults source.old ≤ S.faults source.new }
 {
-    let mut used = Vec::new(alloc);
     if root.is_zero() {
         return Ok(Answer {
             outcome: Outcome::Nothing,
-            used,
+            used: Vec::new(alloc),
         });
     }
-    let mut waypoint = Waypoint::root(root);
+    let mut reading = Reading::at_root(alloc, root);
     loop {
-        let node = node_on::<H, S>(alloc, source, &waypoint, kind, key)?;
-        let next = waypoint.after(&node, key);
-        used.push(node)?;
-        match next {
-            Ok(below) => waypoint = below,
-            Err(outcome) => return Ok(Answer { outcome, used }),
+        let fetched = source.fetch(alloc, reading.wanted());
+        match reading.go_on::<H>(fetched, kind, key)? {
+            Progress::More(next) => reading = next,
+            Progress::Done(answer) => return Ok(answer),
         }
     }
-}
-
-// The node that the source gives for a place on the way, if it may stand there.
-fn node_on<H: NodeHash, S: NodeSource<H>>(
-    alloc: Global,
-    source: &mut S,
-    waypoint: &Waypoint,
-    kind: Kind,
-    key: &Hash32,
-) -> Result<Arc<Node>, ReadFault>
-    ensures fits { IfOk result (λ a.
-        Fits H.half kind (hashes_kept waypoint.now.parent) (take waypoint.now.depth (nibbles key.now)) waypoint.now.wanted (held a.value)) }
-    ensures above { IfOk result (λ a. IsAbove (held a.value) waypoint.now.depth) }
-    ensures held { IfOk result (λ a. IsTrue S.tells → Holds H.half (map.get (S.stored source.old) waypoint.now.wanted) (held a.value)) }
-    ensures ends { IfErr result (Ends H.half kind S.tells (map.get (S.stored source.old))
-        (hashes_kept waypoint.now.parent) (take waypoint.now.depth (nibbles key.now)) waypoint.now.wanted) }
-    ensures fault { IfErr result (λ fault. fault ≡ ReadFault.Fault → Rose (S.faults source.old) (S.faults source.new)) }
-    ensures same { IsTrue S.tells → S.stored source.new ≡ S.stored source.old }
-    ensures later { S.faults source.old ≤ S.faults source.new }
-{
-    key.known();
-    let id = NodeId::of_key(&key.bytes, waypoint.depth);
-    node_at::<H, S>(
-        alloc,
-        source,
-        kind,
-        waypoint.parent.as_ref(),
-        &id,
-        &waypoint.wanted,
-    )
 }
 
 /// The node that the source gives for a place of a map: the one with this hash, below this inner node
@@ -159,19 +128,9 @@ pub fn node_at<H: NodeHash, S: NodeSource<H>>(
     ensures ends { IfErr result (Ends H.half kind S.tells (map.get (S.stored source.old)) (hashes_above parent.entry) id.now wanted.now) }
     ensures fault { IfErr result (λ fault. fault ≡ ReadFault.Fault → Rose (S.faults source.old) (S.faults source.new)) }
     ensures same { IsTrue S.tells → S.stored source.new ≡ S.stored source.old }
+    ensures rest { S.rest source.new ≡ S.rest source.old }
     ensures later { S.faults source.old ≤ S.faults source.new }
 {
-    match source.fetch(alloc, wanted) {
-        Ok(Some(node)) => match shape(&node, parent, kind, id) {
-            Ok(()) => Ok(node),
-            Err(rule) => Err(ReadFault::Shape { place: *id, rule }),
-        },
-        Ok(None) => Err(ReadFault::Absent(*wanted)),
-        Err(FetchFault::Foreign) => Err(ReadFault::Shape {
-            place: *id,
-            rule: ShapeFault::Foreign,
-        }),
-        Err(FetchFault::Fault) => Err(ReadFault::Fault),
-        Err(FetchFault::Memory) => Err(ReadFault::Memory),
-    }
+    let fetched = source.fetch(alloc, wanted);
+    judged::<H>(fetched, kind, parent, id, wanted)
 }

@@ -1,5 +1,6 @@
 //! What gives nodes by their hashes.
 ghost use Rattle.std.specs.Prelude.{◌≡◌, ◌≤◌, ℕ, Bool, true, IfErr, IfOk, IfSome, IsTrue, None, Ok};
+ghost use Rattle.std.specs.Bool.{⊤};
 ghost use Rattle.std.specs.FinMap as map;
 ghost use Rattle.run_io.specs.Bytes.{Rose};
 ghost use Rattle.ledger_spec.specs.Bytes.{Nodes};
@@ -31,6 +32,11 @@ pub trait NodeSource<H: NodeHash> {
     /// The forms that it holds under their hashes, where it tells them.
     ghost stored: { Self → Nodes };
 
+    /// What else a proof knows of it, which no fetch changes.
+    ghost Rest: { Type 0 };
+
+    ghost rest: { Self → Rest };
+
     /// How often it has failed, held at the last value of a u64.
     ghost faults: { Self → ℕ };
 
@@ -39,6 +45,7 @@ pub trait NodeSource<H: NodeHash> {
         ensures hash { IfOk result (λ o. IfSome o (λ node. hash_of H.half (held node.value) ≡ h.now)) }
         ensures exact { IsTrue tells → Gives H.half (map.get (stored self.old) h.now) result }
         ensures same { IsTrue tells → stored self.new ≡ stored self.old }
+        ensures rest { rest self.new ≡ rest self.old }
         ensures later { faults self.old ≤ faults self.new }
         ensures cause { IfErr result (λ fault. fault ≡ FetchFault.Fault → Rose (faults self.old) (faults self.new)) };
 }
@@ -51,6 +58,10 @@ impl<H: NodeHash> NodeSource<H> for NoSource {
     ghost tells = { true };
 
     ghost stored = { λ s. no_nodes };
+
+    ghost Rest = { ⊤ };
+
+    ghost rest = { λ s. tt };
 
     ghost faults = { λ s. 0 };
 

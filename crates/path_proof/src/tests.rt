@@ -40,11 +40,16 @@ struct Pair {
 
 impl NodeSource<TinyHash> for Pair {
     ghost use Rattle.std.specs.Prelude.{false};
+    ghost use Rattle.std.specs.Bool.{⊤};
     ghost use Rattle.std.specs.FinMap as map;
 
     ghost tells = { false };
 
     ghost stored = { λ s. map.empty };
+
+    ghost Rest = { ⊤ };
+
+    ghost rest = { λ s. tt };
 
     ghost faults = { λ s. 0 };
 
@@ -93,6 +98,23 @@ fn a_value_and_nothing(rt: HostRuntime) -> Result<(), Fail> {
     let inner = node_at::<TinyHash, Pair>(alloc, &mut pair, Kind::State, None, &top, &hash(0xDE));
     let inner = inner.ok().ok_or("inner")?;
     assert!(rt; matches!(&*inner, Node::Inner(inner) if inner.branch(1).equals(&hash(0xFA))));
+    Ok(())
+}
+
+/// The leaf with the data 2 1 has the hash of the leaf with 1 2, so that two paths below one root answer differently.
+#[test]
+fn two_leaves_with_one_hash(rt: HostRuntime) -> Result<(), Fail> {
+    let alloc = rt.alloc();
+    let value = Blob::from_slice(alloc, &[2, 1])?;
+    let item = Item::new(hash(0x10), value).ok().ok_or("item")?;
+    let kind = Kind::State;
+    let other = Arc::new(alloc, Node::Leaf(Leaf { kind, item }))?;
+    for leaf in [leaf(alloc, Kind::State)?, other] {
+        assert!(rt; hash_of::<TinyHash>(&leaf).equals(&hash(0xFA)));
+        let used = [root(alloc, hash(0xFA))?, leaf];
+        let said = follow::<TinyHash>(&hash(0xDE), Kind::State, &hash(0x10), &used);
+        assert_eq!(rt; said, Some(Outcome::Value));
+    }
     Ok(())
 }
 

@@ -21,7 +21,7 @@ use shamap_node::{Inner, Kind, Node, ShapeFault, hash_of, shape};
 
 /// A place on the way from a root to a key: its depth, the inner node above it and the hash there.
 #[derive(Clone, Copy)]
-pub(crate) struct Waypoint {
+pub struct Waypoint {
     pub depth: u8,
     pub parent: Option<Inner>,
     pub wanted: Hash32,

@@ -1,3 +1,4 @@
+pub mod Sources
 pub mod Merging
 pub mod Keeping
 pub mod Nexts

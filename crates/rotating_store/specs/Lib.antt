@@ -2,3 +2,4 @@ pub mod Stores
 pub mod Puts
 pub mod Moves
 pub mod Keeps
+pub mod Sources

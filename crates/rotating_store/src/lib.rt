@@ -3,6 +3,7 @@
 #![tactic(auto)]
 
 mod pair;
+mod source;
 mod store;
 
 pub use store::{Moved, Parts, Put, RotStore, StoreFault, Unopened};

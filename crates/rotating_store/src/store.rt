@@ -68,8 +68,8 @@ pub enum Unopened<Sh: Shelf> {
 #[derive(Drop)]
 pub struct RotStore<Sh: Shelf> {
     shelf: Sh,
-    writable: Sh::B,
-    archive: Sh::B,
+    pub(crate) writable: Sh::B,
+    pub(crate) archive: Sh::B,
     ready: Option<Sh::B>,
     epoch: u64,
     past_faults: u64,

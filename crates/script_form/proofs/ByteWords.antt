@@ -1,11 +1,13 @@
--- What a blob's word says is bytes.
-use Rattle.std.proofs.Common.{◌≡◌, ◌≤◌, ◌<◌, ◌+◌, ◌-◌, ◌*◌, ◌&&◌, ⊎_elim, ℕ, Bool, true, false, nat_le, nat_lt, if◌then◌else◌, [], ◌∷◌}
+-- What a word of hexadecimal digits says is bytes.
+use Rattle.std.proofs.Common.{◌≡◌, ◌≤◌, ◌<◌, ◌+◌, ◌-◌, ◌*◌, ◌&&◌, ⊎_elim, ℕ, Bool, true, false, nat_le, nat_lt, if◌then◌else◌, length}
+use Rattle.std.proofs.Common.{[], ◌∷◌}
 use Rattle.std.proofs.Common.{Option, Some, None}
 use Rattle.std.proofs.Common.{Result, Ok, Err, IsTrue, refl, sym, subst, arith}
 use Rattle.std.proofs.lemmas.Bool.{leb-true, lt-ltb, and_parts, and_from}
 use Rattle.hex.specs.declared.error.FromHexError.{FromHexError}
 use Rattle.hex.specs.declared.error.FromHexError.TheVariants.{OddLength}
 use Rattle.hex.specs.Hex.{hex_digit_value, digit_or_error, value_at, pair_value, decode_pairs, ◌>>=◌}
+use Rattle.half_hash.specs.Hex.{IsHexOf}
 use Rattle.ledger_spec.specs.Bytes.{Bytes, are_bytes}
 use Rattle.script_form.specs.Words.{IsBlob}
 
@@ -78,3 +80,27 @@ decoded false text bytes e = pairs_read 0 text bytes e
 pub blob_bytes : (word bytes : Bytes) → IsBlob word bytes → IsTrue (are_bytes bytes)
 blob_bytes word bytes is =
     ⊎_elim (λ none. subst (λ b. IsTrue (are_bytes b)) (sym none.1) refl) (λ some. decoded _ word bytes some.1) is
+
+-- a hash's word says 32 bytes
+pub hash_bytes : (word hash : Bytes) → IsHexOf word hash → IsTrue (are_bytes hash)
+hash_bytes word hash is = decoded _ word hash is.value
+
+pairs_size : (i : ℕ) (text bytes : Bytes) → decode_pairs i text ≡ Ok bytes → length bytes * 2 ≡ length text
+unfolding decode_pairs
+pairs_size i [] bytes e = subst (λ b. length b * 2 ≡ 0) (ok_same e) refl
+pairs_size i (digit ∷ []) bytes e = absurd (err_ok e)
+pairs_size i (high ∷ low ∷ rest) bytes e =
+    let first = after_step (pair_value high low i) _ bytes e in
+    let second = after_step (decode_pairs (i + 2) rest) _ bytes first.2 in
+    let behind : length second.0 * 2 ≡ length rest = pairs_size (i + 2) rest second.0 second.1 in
+    subst (λ bs. length bs * 2 ≡ length (high ∷ low ∷ rest)) (ok_same second.2) (omega (arith, behind))
+
+decoded_size : (odd : Bool) (text bytes : Bytes) → (if odd then Err OddLength else decode_pairs 0 text) ≡ Ok bytes
+    → length bytes * 2 ≡ length text
+decoded_size true text bytes e = absurd (err_ok e)
+decoded_size false text bytes e = pairs_size 0 text bytes e
+
+pub hash_size : (word hash : Bytes) → IsHexOf word hash → length hash ≡ 32
+hash_size word hash is =
+    let twice : length hash * 2 ≡ length word = decoded_size _ word hash is.value in
+    omega (arith, twice, is.digits)

@@ -1,5 +1,6 @@
 -- What the words behind a command's word say.
-use Rattle.std.proofs.Common.{◌≡◌, ℕ, ◌-◌, ◌≤◌, List, [], ◌∷◌, length, map, take, drop, get_or, Bor, Option, Some, None, Result, Ok, Err, refl, sym, ◌∙◌}
+use Rattle.std.proofs.Common.{◌≡◌, ℕ, ◌-◌, ◌≤◌, List, [], ◌∷◌, length, map, take, drop, get_or, Bor, Option, Some, None, Result, Ok}
+use Rattle.std.proofs.Common.{Err, refl, sym, ◌∙◌}
 use Rattle.std.proofs.Common.{subst, arith}
 use Rattle.std.proofs.lemmas.List.{take_all}
 use Rattle.std.specs.Prelude.{IfOk, MatchOption}
@@ -9,7 +10,7 @@ use Rattle.ledger_machine.specs.declared.commands.Command.{Command}
 use Rattle.script_form.specs.declared.forms.Form.{Form}
 use Rattle.ledger_machine.specs.declared.commands.Command.TheVariants as command
 use Rattle.script_form.specs.declared.forms.Form.TheVariants as form
-use Rattle.script_form.specs.Words.{IsBlob}
+use Rattle.script_form.specs.Words.{IsBlob, IsCount}
 use Rattle.script_form.specs.Commands.{word_in, arguments_in, ArgumentsOf, SayArguments, command_of, CallSays, FormSays, SaysHead}
 use Rattle.script_form.proofs.Right.{said_count}
 use Rattle.script_form.proofs.Shapes.{one_form}
@@ -56,6 +57,23 @@ two_words [] d0 d1 size = absurd (omega (arith, size))
 two_words (a ∷ []) d0 d1 size = absurd (omega (arith, size))
 two_words (a ∷ b ∷ []) d0 d1 size = refl
 two_words (a ∷ b ∷ c ∷ more) d0 d1 size = absurd (omega (arith, size))
+
+pub three_words : (words : List (Bor Bytes)) (d0 d1 d2 : Bor Bytes) → length words ≡ 3
+    → texts words ≡ (get_or words 0 d0).now ∷ (get_or words 1 d1).now ∷ (get_or words 2 d2).now ∷ []
+three_words [] d0 d1 d2 size = absurd (omega (arith, size))
+three_words (a ∷ []) d0 d1 d2 size = absurd (omega (arith, size))
+three_words (a ∷ b ∷ []) d0 d1 d2 size = absurd (omega (arith, size))
+three_words (a ∷ b ∷ c ∷ []) d0 d1 d2 size = refl
+three_words (a ∷ b ∷ c ∷ e ∷ more) d0 d1 d2 size = absurd (omega (arith, size))
+
+pub four_words : (words : List (Bor Bytes)) (d0 d1 d2 d3 : Bor Bytes) → length words ≡ 4
+    → texts words ≡ (get_or words 0 d0).now ∷ (get_or words 1 d1).now ∷ (get_or words 2 d2).now ∷ (get_or words 3 d3).now ∷ []
+four_words [] d0 d1 d2 d3 size = absurd (omega (arith, size))
+four_words (a ∷ []) d0 d1 d2 d3 size = absurd (omega (arith, size))
+four_words (a ∷ b ∷ []) d0 d1 d2 d3 size = absurd (omega (arith, size))
+four_words (a ∷ b ∷ c ∷ []) d0 d1 d2 d3 size = absurd (omega (arith, size))
+four_words (a ∷ b ∷ c ∷ e ∷ []) d0 d1 d2 d3 size = refl
+four_words (a ∷ b ∷ c ∷ e ∷ f ∷ more) d0 d1 d2 d3 size = absurd (omega (arith, size))
 
 pub five_words : (words : List (Bor Bytes)) (d0 d1 d2 d3 d4 : Bor Bytes) → length words ≡ 5
     → texts words ≡ (get_or words 0 d0).now ∷ (get_or words 1 d1).now ∷ (get_or words 2 d2).now ∷ (get_or words 3 d3).now
@@ -160,3 +178,13 @@ pub last_word : (words : List (Bor Bytes)) (d : Bor Bytes) → length words ≡ 
 last_word words d size x says =
     let at = subst (λ (ws : List Bytes). FormSays form.Node ws x) (five_words words d d d d d size) says in
     (at.0.1.1.1.1.0, at.1.1.1.1.1.0)
+
+-- the last word of a page line
+pub no_count : (words : List (Bor Bytes)) (d : Bor Bytes) → length words ≡ 4 → ((n : ℕ) → IsCount (get_or words 3 d).now 256 n → ⊥)
+    → (x : Command) → FormSays form.Page (texts words) x → ⊥
+no_count (a ∷ b ∷ c ∷ n ∷ []) d size none x says = none says.0.1.1.1.0 says.1.1.1.1.0
+no_count [] d size none x says = absurd (omega (arith, size))
+no_count (a ∷ []) d size none x says = absurd (omega (arith, size))
+no_count (a ∷ b ∷ []) d size none x says = absurd (omega (arith, size))
+no_count (a ∷ b ∷ c ∷ []) d size none x says = absurd (omega (arith, size))
+no_count (a ∷ b ∷ c ∷ n ∷ e ∷ more) d size none x says = absurd (omega (arith, size))

@@ -29,7 +29,9 @@ same_hash word a b is also = ok_same (sym is.value ∙ also.value)
 
 not_wrong : (c : Cause) (a : Argument) (word : Bytes) → IsRight a word → IsWrong c a word → ⊥
 not_wrong cause.BadNumber (argument.Number most) word right wrong = wrong right.0 right.1
+not_wrong cause.BadNumber (argument.Count most) word right wrong = wrong right.0 right.1
 not_wrong cause.BadHex argument.Target word right wrong = wrong right.0 right.1.digits
+not_wrong cause.BadHex argument.Key word right wrong = wrong right.0 right.1
 not_wrong cause.BadHex argument.Id word right wrong = wrong (id_wire right.0) (record { digits = right.1.digits; value = right.1.value })
 not_wrong cause.BadHex argument.Blob word right wrong = wrong right.0 right.1
 not_wrong cause.BadKindOrId argument.Kind word right wrong = wrong right.0 right.1
@@ -65,6 +67,8 @@ never c each (a ∷ arguments) (word ∷ words) wrong = elim wrong
 -- a word without a cause can't but be right
 must_be_right : (a : Argument) (word : Bytes) → ((c : Cause) → IsWrong c a word → ⊥) → (IsRight a word → ⊥) → ⊥
 must_be_right (argument.Number most) word free not = free cause.BadNumber (λ n is. not (n, is))
+must_be_right (argument.Count most) word free not = free cause.BadNumber (λ n is. not (n, is))
+must_be_right argument.Key word free not = free cause.BadHex (λ h is. not (h, is))
 must_be_right argument.Target word free not = free cause.BadHex (λ h is. at h is (is_zero h) refl)
   where
     at : (h : Hash) → IsHexOf word h → (b : Bool) → is_zero h ≡ b → ⊥

@@ -145,7 +145,7 @@ order_has cause.ZeroTarget some d = refl
 order_has cause.BadRecord some d = refl
 order_has cause.TooManyCommands some d = refl
 
-place_few : (c : Cause) → place_of c ≤ 12
+pub place_few : (c : Cause) → place_of c ≤ 12
 place_few cause.ScriptTooLong = omega arith
 place_few cause.NotPrintable = omega arith
 place_few cause.LineTooLong = omega arith

@@ -25,8 +25,18 @@ use Rattle.script_form.specs.Records.{Earlier, earlier_in, is_store, hash_in, ha
 use Rattle.script_form.specs.Causes.{most_bytes, is_skipped, is_command, commands_from, earlier_of, size_of, LineHas, Has, IsFine, AreFine}
 use Rattle.script_form.specs.Causes.{IsFirstOf, number_of}
 use Rattle.script_form.specs.Grammar.{Says, AreSaid, SaysAsRecord, SaysAsLine, IsScript, IsRefused}
-use Rattle.script_form.specs.Judging.{IsFineLine}
-use Rattle.script_form.proofs.Said.{no_store}
+use Rattle.script_form.specs.Judging.{IsFineLine, IsSaid, is_page_command, pages_with}
+use Rattle.script_form.specs.declared.judging.Content.{Content}
+use Rattle.script_form.specs.declared.judging.Content.TheVariants as content
+use Rattle.script_form.specs.declared.forms.Form.{Form}
+use Rattle.script_form.specs.declared.forms.Form.TheVariants as form
+use Rattle.script_form.specs.Commands.{word_in, arguments_in, ArgumentsOf, command_of, CallSays}
+use Rattle.script_form.specs.Causes.{most_pages, names_page, is_page, pages_in, IsOverPages, call_in, place_of}
+use Rattle.script_form.specs.Grammar.{WordsSay}
+use Rattle.ledger_machine.specs.declared.commands.Command.{Command}
+use Rattle.ledger_spec.specs.Bytes.{same_bytes}
+use Rattle.std.specs.Prelude.{if◌then◌else◌, ◌&&◌, codes}
+use Rattle.script_form.proofs.Said.{no_store, differ, place_few}
 use Rattle.script_form.proofs.Servable.{Known, known, nothing_servable, servable_more}
 
 -- one line more, split elsewhere
@@ -200,16 +210,70 @@ rises_more ns n rises below = IsNonDecreasingBy-push (λ x. x) ns n rises
 has_of_line : (half : Half) (before : List Bytes) (line : Bytes) (c : Cause) → LineHas half (earlier_of before) (text_of line) c
     → Has half before line c
 has_of_line half before line cause.ScriptTooLong has = absurd (elim has [ inl of_text ↦ of_text | inr of_words ↦ of_words.1 ])
+has_of_line half before line cause.TooManyCommands has = inl has
 has_of_line half before line c has = has
 
 line_of_has : (half : Half) (before : List Bytes) (line : Bytes) (c : Cause) → size_of before + length line ≤ most_bytes
+    → (c ≡ cause.TooManyCommands → IsOverPages before line → ⊥)
     → Has half before line c → LineHas half (earlier_of before) (text_of line) c
-line_of_has half before line cause.ScriptTooLong within has = absurd (omega (arith, within, has))
-line_of_has half before line c within has = has
+line_of_has half before line cause.ScriptTooLong within free has = absurd (omega (arith, within, has))
+line_of_has half before line cause.TooManyCommands within free has = elim has [ inl of_line ↦ of_line | inr over ↦ absurd (free refl over) ]
+line_of_has half before line c within free has = has
+
+-- a cause before another one is no excess of commands
+not_last : (c d : Cause) → place_of d < place_of c → d ≡ cause.TooManyCommands → ⊥
+not_last c d less is =
+    let last : 12 < place_of c = subst (λ (x : Cause). place_of x < place_of c) is less in
+    omega (arith, last, place_few c)
+
+-- the pages of one line more
+pages_more : (lines : List Bytes) (line : Bytes)
+    → pages_in (lines ++ line ∷ []) ≡ (if is_page (words_of (text_of line)) then pages_in lines + 1 else pages_in lines)
+pages_more [] line = refl
+pages_more (x ∷ lines) line =
+    by_both (is_page (words_of (text_of x))) (is_page (words_of (text_of line))) (pages_in lines) (pages_in (lines ++ line ∷ []))
+    (pages_more lines line)
+  where
+    by_both : (b d : Bool) (m k : ℕ) → k ≡ (if d then m + 1 else m)
+        → (if b then k + 1 else k) ≡ (if d then (if b then m + 1 else m) + 1 else (if b then m + 1 else m))
+    by_both true true m k e = ap (λ x. x + 1) e
+    by_both true false m k e = ap (λ x. x + 1) e
+    by_both false true m k e = e
+    by_both false false m k e = e
+
+-- what is no command line names no page
+no_page : (words : List Bytes) → is_command words ≡ false → is_page words ≡ false
+no_page words other = rw other refl
+
+-- a command line names a page where it says one
+form_page : (f : Form) (v : ArgumentsOf (arguments_in f)) → same_bytes (word_in f) (codes "page") ≡ is_page_command (command_of f v)
+form_page form.Want v = refl
+form_page form.Peer v = refl
+form_page form.Base v = refl
+form_page form.BaseState v = refl
+form_page form.BaseTx v = refl
+form_page form.Node v = refl
+form_page form.Check v = refl
+form_page form.Tick v = refl
+form_page form.View v = refl
+form_page form.Unview v = refl
+form_page form.Get v = refl
+form_page form.Page v = refl
+
+call_page : (call : List Bytes) (c : Command) → CallSays call c → names_page call ≡ is_page_command c
+call_page [] c says = absurd says
+call_page (word ∷ words) c says =
+    ap (λ w. same_bytes w (codes "page")) says.1 ∙ form_page says.0 says.2.0 ∙ ap is_page_command (sym says.2.2)
+
+words_page : (earlier : List ℕ) (words : List Bytes) (l : Line) → is_command words ≡ true → WordsSay earlier words l
+    → is_page words ≡ is_page_command l.command
+words_page earlier [] l stands says = absurd says
+words_page earlier (actor ∷ words) l stands says =
+    ap (λ b. b && names_page (call_in words)) stands ∙ call_page (call_in words) l.command says.2
 
 -- what was read of the bytes: some records and lines, and the rest
 pub record Reads (half : Half) (bytes : Bytes) (records : List Record) (lines : List Line) (earlier : List ℕ) (n : ℕ) (rest : Bytes)
-    : Type 0 where
+    (pages : ℕ) : Type 0 where
   pub done : List Bytes
   pub cut : lines_of bytes ≡ done ++ lines_of rest
   pub fine : AreFine half done
@@ -227,8 +291,10 @@ pub record Reads (half : Half) (bytes : Bytes) (records : List Record) (lines : 
   pub rises : IsNonDecreasing earlier
   pub servable : AreServable lines
   pub own : AreRecords half records
+  pub pages_are : pages ≡ pages_in done
+  pub pages_few : pages ≤ most_pages
 
-pub reads_start : (half : Half) (bytes : Bytes) → Reads half bytes [] [] [] 1 bytes
+pub reads_start : (half : Half) (bytes : Bytes) → Reads half bytes [] [] [] 1 bytes 0
 reads_start half bytes = record {
   done = [];
   cut = refl;
@@ -247,10 +313,12 @@ reads_start half bytes = record {
   rises = λ i j d le lt. absurd (omega arith);
   servable = nothing_servable;
   own = record { own = λ k d lt. absurd (omega arith); distinct = tt };
+  pages_are = refl;
+  pages_few = omega arith;
 }
 
 module _ (half : Half) (bytes : Bytes) (records : List Record) (lines : List Line) (earlier : List ℕ) (n : ℕ) (rest : Bytes)
-    (r : Reads half bytes records lines earlier n rest) where
+    (pages : ℕ) (r : Reads half bytes records lines earlier n rest pages) where
   same_earlier : earlier_in earlier records ≡ earlier_of r.done
   same_earlier =
       ap (λ (ns : List ℕ). record { commands = ns; hashes = hashes_of records }) r.numbers
@@ -274,22 +342,31 @@ module _ (half : Half) (bytes : Bytes) (records : List Record) (lines : List Lin
         let S : Bytes → Type 0 = λ t. P (earlier_in earlier records) t in
         subst Q same_earlier (subst S is p)
 
-    fine_next : length bytes - length rest + k ≤ most_bytes → IsFineLine half (earlier_in earlier records) text
-        → IsFine half r.done (take k rest)
-    fine_next room fine c has = over (λ e t. IsFineLine half e t) fine c (line_of_has half r.done (take k rest) c (fits room) has)
+    fine_next : length bytes - length rest + k ≤ most_bytes → (IsOverPages r.done (take k rest) → ⊥)
+        → IsFineLine half (earlier_in earlier records) text → IsFine half r.done (take k rest)
+    fine_next room free fine c has =
+        over (λ e t. IsFineLine half e t) fine c (line_of_has half r.done (take k rest) c (fits room) (λ is. free) has)
+
+    -- the pages stay where the line names none
+    pages_stay : is_page (words_of (text_of (take k rest))) ≡ false → pages ≡ pages_in (r.done ++ take k rest ∷ [])
+    pages_stay none = r.pages_are ∙ sym (pages_more r.done (take k rest) ∙ rw none refl)
+
+    not_over : is_page (words_of (text_of (take k rest))) ≡ false → IsOverPages r.done (take k rest) → ⊥
+    not_over none over = differ over.page none
 
     here : (P : List Bytes → Type 0) → P (words_of text) → P (words_of (text_of (take k rest)))
     here P p = let Q : Bytes → Type 0 = λ t. P (words_of t) in subst Q is p
 
     pub reads_skip : length bytes - length rest + k ≤ most_bytes → IsFineLine half (earlier_in earlier records) text
-        → is_skipped (words_of text) ≡ true → Reads half bytes records lines earlier (n + 1) (drop k rest)
+        → is_skipped (words_of text) ≡ true → Reads half bytes records lines earlier (n + 1) (drop k rest) pages
     reads_skip room fine skipped =
         let words = words_of (text_of (take k rest)) in
         let skip = here (λ w. is_skipped w ≡ true) skipped in
+        let no_one = no_page words (skipped_no_command words skip) in
         record {
           done = r.done ++ take k rest ∷ [];
           cut = cut_next;
-          fine = fine_more half r.done (take k rest) r.fine (fine_next room fine);
+          fine = fine_more half r.done (take k rest) r.fine (fine_next room (not_over no_one) fine);
           stored = said_skip is_store SaysAsRecord [] r.done records (take k rest) r.stored (skipped_no_store words skip);
           says = said_skip is_command SaysAsLine [] r.done lines (take k rest) r.says (skipped_no_command words skip);
           numbers = r.numbers ∙ sym (commands_skip 1 r.done (take k rest) (skipped_no_command words skip));
@@ -304,20 +381,23 @@ module _ (half : Half) (bytes : Bytes) (records : List Record) (lines : List Lin
           rises = r.rises;
           servable = r.servable;
           own = r.own;
+          pages_are = pages_stay no_one;
+          pages_few = r.pages_few;
         }
 
     pub reads_record : (one : Record) → length bytes - length rest + k ≤ most_bytes → IsFineLine half (earlier_in earlier records) text
         → is_store (words_of text) ≡ true → SaysRecord (drop 1 (words_of text)) one → IsStoredAt half one.hash one.form
-        → Reads half bytes (records ++ one ∷ []) lines earlier (n + 1) (drop k rest)
+        → Reads half bytes (records ++ one ∷ []) lines earlier (n + 1) (drop k rest) pages
     reads_record one room fine store says own =
         let words = words_of (text_of (take k rest)) in
         let stands = here (λ w. is_store w ≡ true) store in
+        let no_one = no_page words (store_no_command words stands) in
         let one_says = here (λ w. SaysRecord (drop 1 w) one) says in
         let new : Contains (hashes_of records) one.hash → ⊥ = λ old. fine cause.BadRecord (inr (store, inr (one, says, inr old))) in
         record {
           done = r.done ++ take k rest ∷ [];
           cut = cut_next;
-          fine = fine_more half r.done (take k rest) r.fine (fine_next room fine);
+          fine = fine_more half r.done (take k rest) r.fine (fine_next room (not_over no_one) fine);
           stored = said_more is_store SaysAsRecord [] r.done r.done records (take k rest) one refl r.stored stands one_says;
           says = said_skip is_command SaysAsLine [] r.done lines (take k rest) r.says (store_no_command words stands);
           numbers = r.numbers ∙ sym (commands_skip 1 r.done (take k rest) (store_no_command words stands));
@@ -334,23 +414,42 @@ module _ (half : Half) (bytes : Bytes) (records : List Record) (lines : List Lin
           rises = r.rises;
           servable = r.servable;
           own = records_more half records one r.own own new;
+          pages_are = pages_stay no_one;
+          pages_few = r.pages_few;
         }
+
+    -- one more where the line says a page
+    pages_named : (l : Line) → is_page (words_of (text_of (take k rest))) ≡ is_page_command l.command
+        → pages_with pages (content.Line l) ≡ pages_in (r.done ++ take k rest ∷ [])
+    pages_named l names =
+        ap (λ m. if is_page_command l.command then m + 1 else m) r.pages_are
+        ∙ sym (pages_more r.done (take k rest) ∙ ap (λ b. if b then pages_in r.done + 1 else pages_in r.done) names)
+
+    within_pages : (l : Line) → is_page (words_of (text_of (take k rest))) ≡ is_page_command l.command
+        → pages_with pages (content.Line l) ≤ most_pages → IsOverPages r.done (take k rest) → ⊥
+    within_pages l names named over =
+        let one : is_page_command l.command ≡ true = sym names ∙ over.page in
+        let more : pages + 1 ≤ most_pages = subst (λ b. (if b then pages + 1 else pages) ≤ most_pages) one named in
+        omega (arith, more, r.pages_are, over.full)
 
     pub reads_line : (l : Line) → length bytes ≤ most_bytes + 1 → length bytes - length rest + k ≤ most_bytes
         → IsFineLine half (earlier_in earlier records) text → is_command (words_of text) ≡ true → Says earlier n text l
-        → Reads half bytes records (lines ++ l ∷ []) (earlier ++ n ∷ []) (n + 1) (drop k rest)
-    reads_line l small room fine command says =
+        → pages_with pages (content.Line l) ≤ most_pages
+        → Reads half bytes records (lines ++ l ∷ []) (earlier ++ n ∷ []) (n + 1) (drop k rest) (pages_with pages (content.Line l))
+    reads_line l small room fine command says named =
         let words = words_of (text_of (take k rest)) in
         let stands = here (λ w. is_command w ≡ true) command in
         let below : All (λ x. x.number < l.number) lines = All-weaker (λ x. x.number < n) (λ x. x.number < l.number)
         (λ x less. omega (arith, less, says.numbered)) lines r.below in
+        let names : is_page words ≡ is_page_command l.command =
+        here (λ w. is_page w ≡ is_page_command l.command) (words_page earlier (words_of text) l command says.words) in
         let text_says : Says earlier n (text_of (take k rest)) l = subst (λ (t : Bytes). Says earlier n t l) is says in
         let numbered_says = subst (λ (m : ℕ). Says earlier m (text_of (take k rest)) l) r.place text_says in
         let whole_says = subst (λ (e : List ℕ). Says e (length r.done + 1) (text_of (take k rest)) l) r.numbers numbered_says in
         record {
           done = r.done ++ take k rest ∷ [];
           cut = cut_next;
-          fine = fine_more half r.done (take k rest) r.fine (fine_next room fine);
+          fine = fine_more half r.done (take k rest) r.fine (fine_next room (within_pages l names named) fine);
           stored = said_skip is_store SaysAsRecord [] r.done records (take k rest) r.stored (command_no_store words stands);
           says = said_more is_command SaysAsLine [] r.done r.done lines (take k rest) l refl r.says stands whole_says;
           numbers =
@@ -372,6 +471,8 @@ module _ (half : Half) (bytes : Bytes) (records : List Record) (lines : List Lin
           servable = servable_more lines l r.servable (omega (arith, says.numbered, r.place)) below (omega (arith, r.count, r.few, small))
               (let K : List ℕ → Type 0 = λ e. Known e l in subst K (sym r.same) (known earlier (words_of text) l says.words));
           own = r.own;
+          pages_are = pages_named l names;
+          pages_few = named;
         }
 
     pub refused_text : (c : Cause) → length bytes - length rest + k ≤ most_bytes
@@ -388,10 +489,53 @@ module _ (half : Half) (bytes : Bytes) (records : List Record) (lines : List Lin
         has = has_of_line half r.done (take k rest) c (over (λ e t. LineHas half e t c) first.has);
         none_before = λ d less has.
             over (λ e t. LineHas half e t d → ⊥) (first.none_before d less)
-            (line_of_has half r.done (take k rest) d (fits room) has);
+            (line_of_has half r.done (take k rest) d (fits room) (λ is over. not_last c d less is) has);
       };
       number = refl;
     }
+
+    -- the line says one page too many
+    pub refused_page : (l : Line) → length bytes - length rest + k ≤ most_bytes → IsFineLine half (earlier_in earlier records) text
+        → is_command (words_of text) ≡ true → Says earlier n text l → most_pages < pages_with pages (content.Line l)
+        → IsRefused half bytes n 12
+    refused_page l room fine command says many =
+        let names : is_page (words_of (text_of (take k rest))) ≡ is_page_command l.command =
+        here (λ w. is_page w ≡ is_page_command l.command) (words_page earlier (words_of text) l command says.words) in
+        record {
+          before = r.done;
+          bad = take k rest;
+          after = lines_of (drop k rest);
+          cut = r.cut ∙ ap (λ (w : List Bytes). r.done ++ w) cut;
+          place = r.place;
+          good = r.fine;
+          why = cause.TooManyCommands;
+          first = record {
+            has = inr (one_more (is_page_command l.command) refl names many);
+            none_before = λ d less has.
+                over (λ e t. IsFineLine half e t) fine d
+                (line_of_has half r.done (take k rest) d (fits room) (λ is over. not_last cause.TooManyCommands d less is) has);
+          };
+          number = refl;
+        }
+      where
+        one_more : (b : Bool) → is_page_command l.command ≡ b → is_page (words_of (text_of (take k rest))) ≡ is_page_command l.command
+            → most_pages < (if is_page_command l.command then pages + 1 else pages) → IsOverPages r.done (take k rest)
+        one_more true is names many = record {
+          page = names ∙ is;
+          full =
+              let more : most_pages < pages + 1 = subst (λ b. most_pages < (if b then pages + 1 else pages)) is many in
+              omega (arith, more, r.pages_are);
+        }
+        one_more false is names many =
+            let more : most_pages < pages = subst (λ b. most_pages < (if b then pages + 1 else pages)) is many in
+            absurd (omega (arith, more, r.pages_few))
+
+    pub refused_named : (said : Content) → length bytes - length rest + k ≤ most_bytes
+        → IsFineLine half (earlier_in earlier records) text → IsSaid half earlier n text said → most_pages < pages_with pages said
+        → IsRefused half bytes n 12
+    refused_named content.Nothing room fine is many = absurd (omega (arith, many, r.pages_few))
+    refused_named (content.Record one) room fine is many = absurd (omega (arith, many, r.pages_few))
+    refused_named (content.Line l) room fine is many = refused_page l room fine is.0 is.1 many
 
     pub refused_size : most_bytes < length bytes - length rest + k → IsRefused half bytes n 12
     refused_size over = record {

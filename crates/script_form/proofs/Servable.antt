@@ -14,11 +14,11 @@ use Rattle.script_form.specs.Servable.{IsServed, WaitsForEarlier, AreServable}
 use Rattle.script_form.specs.Causes.{call_in}
 use Rattle.script_form.specs.declared.forms.Form.{Form}
 use Rattle.script_form.specs.declared.forms.Form.TheVariants as form
-use Rattle.script_form.specs.Words.{IsKind}
+use Rattle.script_form.specs.Words.{IsKind, IsTarget}
 use Rattle.script_form.specs.Commands.{arguments_in, ArgumentsOf, SayArguments, command_of, CallSays}
 use Rattle.script_form.specs.Grammar.{WordsSay}
 use Rattle.script_form.proofs.Right.{said_count}
-use Rattle.script_form.proofs.ByteWords.{blob_bytes}
+use Rattle.script_form.proofs.ByteWords.{blob_bytes, hash_bytes, hash_size}
 
 a_ledger_map : (word : Bytes) (kind : Kind) → IsKind word kind → IsLedgerMap kind
 a_ledger_map word State is = tt
@@ -41,6 +41,13 @@ form_known form.Node (n ∷ t ∷ k ∷ i ∷ b ∷ []) v says size =
     ((says.1.0.nonzero, a_ledger_map k v.1.1.0 says.1.1.0, blob_bytes b v.1.1.1.1.0 says.1.1.1.1.0), tt)
 form_known form.Check (t ∷ []) v says size = (says.0.nonzero, tt)
 form_known form.Tick (t ∷ []) v says size = (says.0.nonzero, tt)
+form_known form.View (n ∷ t ∷ []) v says size = (says.1.0.nonzero, tt)
+form_known form.Unview (n ∷ []) v says size = (tt, tt)
+form_known form.Get (n ∷ k ∷ t ∷ []) v says size =
+    let key : IsTarget t v.1.1.0 = says.1.1.0 in
+    ((key.nonzero, hash_size t v.1.1.0 key.digits, hash_bytes t v.1.1.0 key.digits, a_ledger_map k v.1.0 says.1.0), tt)
+form_known form.Page (n ∷ k ∷ t ∷ c ∷ []) v says size =
+    ((a_ledger_map k v.1.0 says.1.0, says.1.1.1.0.least, says.1.1.1.0.number.within), tt)
 form_known form.Want words v says size = absurd (omega (arith, size))
 form_known form.Peer words v says size = absurd (omega (arith, size))
 form_known form.Base words v says size = absurd (omega (arith, size))
@@ -49,6 +56,10 @@ form_known form.BaseTx words v says size = absurd (omega (arith, size))
 form_known form.Node words v says size = absurd (omega (arith, size))
 form_known form.Check words v says size = absurd (omega (arith, size))
 form_known form.Tick words v says size = absurd (omega (arith, size))
+form_known form.View words v says size = absurd (omega (arith, size))
+form_known form.Unview words v says size = absurd (omega (arith, size))
+form_known form.Get words v says size = absurd (omega (arith, size))
+form_known form.Page words v says size = absurd (omega (arith, size))
 
 -- what is known of a line that words say
 pub record Known (earlier : List ℕ) (l : Line) : Type 0 where

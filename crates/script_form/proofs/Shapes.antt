@@ -1,5 +1,6 @@
 -- The forms of the commands, and the causes that their arguments have.
-use Rattle.std.proofs.Common.{◌≡◌, ℕ, length, refl, sym, ◌∙◌, ap, subst, Bool, true, false}
+use Rattle.script_form.specs.declared.forms.TheConstants.{FORMS}
+use Rattle.std.proofs.Common.{◌≡◌, ◌<◌, ℕ, length, get_or, arith, refl, sym, ◌∙◌, ap, subst, Bool, true, false}
 use Rattle.std.specs.Prelude.{slice_index, if◌then◌else◌, ◌==◌, not, Option, None, Some, is_some, MatchBool, MatchOption}
 use Rattle.ledger_spec.specs.Bytes.{Bytes}
 use Rattle.script_form.specs.declared.forms.Form.{Form}
@@ -13,9 +14,11 @@ use Rattle.script_form.specs.Commands.{word_in, arguments_in, IsWrong}
 -- the form of a first byte and a number of arguments
 abbrev form_by : ℕ → ℕ → Form
 form_by first count =
-    if first == 119 then form.Want else if first == 112 then form.Peer else if first == 110 then form.Node else if first == 99 then
+    if first == 119 then form.Want else if first == 112 then (if count == 2 then form.Peer else form.Page)
+    else if first == 110 then form.Node else if first == 99 then
     form.Check
-    else if first == 116 then form.Tick else if count == 3 then form.Base
+    else if first == 116 then form.Tick else if first == 118 then form.View else if first == 117 then form.Unview
+    else if first == 103 then form.Get else if count == 3 then form.Base
     else if count == 4 then form.BaseState else form.BaseTx
 
 by_form : (f : Form) → form_by (slice_index (word_in f) 0) (length (arguments_in f)) ≡ f
@@ -27,6 +30,10 @@ by_form form.BaseTx = refl
 by_form form.Node = refl
 by_form form.Check = refl
 by_form form.Tick = refl
+by_form form.View = refl
+by_form form.Unview = refl
+by_form form.Get = refl
+by_form form.Page = refl
 
 -- there is one form of a word and a number of arguments
 pub one_form : (f g : Form) → word_in f ≡ word_in g → length (arguments_in f) ≡ length (arguments_in g) → f ≡ g
@@ -48,3 +55,18 @@ blob_tells c word r b is tells found =
     at None false tells found = cc
     at (Some x) true tells found = cc
     at (Some x) false tells found = λ wrong. wrong x found
+
+-- where a form stands among all forms
+pub form_stands : (f : Form) → (k : ℕ) × (k < length FORMS) × ((d : Form) → get_or FORMS k d ≡ f)
+form_stands form.Want = (0, omega arith, λ d. refl)
+form_stands form.Peer = (1, omega arith, λ d. refl)
+form_stands form.Base = (2, omega arith, λ d. refl)
+form_stands form.BaseState = (3, omega arith, λ d. refl)
+form_stands form.BaseTx = (4, omega arith, λ d. refl)
+form_stands form.Node = (5, omega arith, λ d. refl)
+form_stands form.Check = (6, omega arith, λ d. refl)
+form_stands form.Tick = (7, omega arith, λ d. refl)
+form_stands form.View = (8, omega arith, λ d. refl)
+form_stands form.Unview = (9, omega arith, λ d. refl)
+form_stands form.Get = (10, omega arith, λ d. refl)
+form_stands form.Page = (11, omega arith, λ d. refl)

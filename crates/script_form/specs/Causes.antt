@@ -9,7 +9,7 @@ use Rattle.script_form.specs.Words.{text_of, words_of, IsNumber}
 use Rattle.script_form.specs.Commands.{CallHas}
 use Rattle.script_form.specs.Records.{Earlier, nothing_earlier, is_store, hashes_in, StoreHas}
 
--- the most bytes of a script, of a line's text, and the most command lines
+-- the most bytes of a script, of a line's text, the most command lines, and of these the most that name a page
 abbrev pub most_bytes : ℕ
 most_bytes = 67108864
 
@@ -18,6 +18,9 @@ most_text = 2200000
 
 abbrev pub most_commands : ℕ
 most_commands = 200000
+
+abbrev pub most_pages : ℕ
+most_pages = 4000
 
 -- the number of a cause
 abbrev pub number_of : Cause → ℕ
@@ -107,6 +110,25 @@ TextHas earlier text c = CommandHas earlier (words_of text) c
 abbrev pub LineHas : Half → Earlier → Bytes → Cause → Type 0
 LineHas half earlier text c = TextHas earlier.commands text c ⊎ RecordHas half earlier (words_of text) c
 
+-- the words of a call name a page
+abbrev pub names_page : List Bytes → Bool
+names_page [] = false
+names_page (word ∷ words) = same_bytes word (codes "page")
+
+-- the line of these words is a command line that names a page
+abbrev pub is_page : List Bytes → Bool
+is_page words = is_command words && names_page (call_in (drop 1 words))
+
+-- how many of some lines do
+abbrev pub pages_in : List Bytes → ℕ
+pages_in [] = 0
+pages_in (line ∷ lines) = if is_page (words_of (text_of line)) then pages_in lines + 1 else pages_in lines
+
+-- behind these lines, the line is one page command too many
+pub record IsOverPages (before : List Bytes) (line : Bytes) : Type 0 where
+  pub page : is_page (words_of (text_of line)) ≡ true
+  pub full : most_pages ≤ pages_in before
+
 -- the bytes of some lines
 abbrev pub size_of : List Bytes → ℕ
 size_of lines = length (flat_map (λ line. line) lines)
@@ -114,6 +136,8 @@ size_of lines = length (flat_map (λ line. line) lines)
 -- the cause stands at a line behind these
 abbrev pub Has : Half → List Bytes → Bytes → Cause → Type 0
 Has half before line cause.ScriptTooLong = most_bytes < size_of before + length line
+Has half before line cause.TooManyCommands =
+    LineHas half (earlier_of before) (text_of line) cause.TooManyCommands ⊎ IsOverPages before line
 Has half before line c = LineHas half (earlier_of before) (text_of line) c
 
 -- the line behind these has no cause

@@ -11,7 +11,7 @@ use Rattle.script_form.specs.declared.forms.Form.{Form}
 use Rattle.script_form.specs.declared.forms.Form.TheVariants as form
 use Rattle.script_form.specs.declared.cause.Cause.{Cause}
 use Rattle.script_form.specs.declared.cause.Cause.TheVariants as cause
-use Rattle.script_form.specs.Words.{IsNumber, IsTarget, IsKind, IsIdText, IsId, IsBlob}
+use Rattle.script_form.specs.Words.{IsNumber, IsCount, IsTarget, IsKind, IsIdText, IsId, IsBlob}
 
 -- a form's command word
 abbrev pub word_in : Form → Bytes
@@ -23,8 +23,13 @@ word_in form.BaseTx = codes "base"
 word_in form.Node = codes "node"
 word_in form.Check = codes "check"
 word_in form.Tick = codes "tick"
+word_in form.View = codes "view"
+word_in form.Unview = codes "unview"
+word_in form.Get = codes "get"
+word_in form.Page = codes "page"
 
--- a form's arguments, in order: T and SEQ; P and T; P, T and HEADER, with STATE, with STATE and TX; P, T, KIND, ID and BLOB; T; T
+-- a form's arguments, in order: T and SEQ; P and T; P, T and HEADER, with STATE, with STATE and TX; P, T, KIND, ID and BLOB; T; T;
+-- V and T; V; V, KIND and KEY; V, KIND, KEY and N
 abbrev pub arguments_in : Form → List Argument
 arguments_in form.Want = argument.Target ∷ argument.Number 4294967295 ∷ []
 arguments_in form.Peer = argument.Number 65535 ∷ argument.Target ∷ []
@@ -34,11 +39,17 @@ arguments_in form.BaseTx = argument.Number 65535 ∷ argument.Target ∷ argumen
 arguments_in form.Node = argument.Number 65535 ∷ argument.Target ∷ argument.Kind ∷ argument.Id ∷ argument.Blob ∷ []
 arguments_in form.Check = argument.Target ∷ []
 arguments_in form.Tick = argument.Target ∷ []
+arguments_in form.View = argument.Number 65535 ∷ argument.Target ∷ []
+arguments_in form.Unview = argument.Number 65535 ∷ []
+arguments_in form.Get = argument.Number 65535 ∷ argument.Kind ∷ argument.Target ∷ []
+arguments_in form.Page = argument.Number 65535 ∷ argument.Kind ∷ argument.Key ∷ argument.Count 256 ∷ []
 
 -- what a word says in an argument's place: a number, a hash, a kind, a path, bytes
 abbrev pub ArgumentOf : Argument → Type 0
 ArgumentOf (argument.Number most) = ℕ
+ArgumentOf (argument.Count most) = ℕ
 ArgumentOf argument.Target = Hash
+ArgumentOf argument.Key = Hash
 ArgumentOf argument.Kind = Kind
 ArgumentOf argument.Id = List ℕ
 ArgumentOf argument.Blob = Bytes
@@ -46,7 +57,9 @@ ArgumentOf argument.Blob = Bytes
 -- the word says it
 abbrev pub SaysArgument : (a : Argument) → Bytes → ArgumentOf a → Type 0
 SaysArgument (argument.Number most) word n = IsNumber word most n
+SaysArgument (argument.Count most) word n = IsCount word most n
 SaysArgument argument.Target word hash = IsTarget word hash
+SaysArgument argument.Key word hash = IsHexOf word hash
 SaysArgument argument.Kind word kind = IsKind word kind
 SaysArgument argument.Id word path = IsId word path
 SaysArgument argument.Blob word bytes = IsBlob word bytes
@@ -73,6 +86,10 @@ command_of form.BaseTx v = command.Base v.0 v.1.0 v.1.1.0 (Some v.1.1.1.0) (Some
 command_of form.Node v = command.Node v.0 v.1.0 v.1.1.0 v.1.1.1.0 v.1.1.1.1.0
 command_of form.Check v = command.Check v.0
 command_of form.Tick v = command.Tick v.0
+command_of form.View v = command.View v.0 v.1.0
+command_of form.Unview v = command.Unview v.0
+command_of form.Get v = command.Get v.0 v.1.0 v.1.1.0
+command_of form.Page v = command.Page v.0 v.1.0 v.1.1.0 v.1.1.1.0
 
 -- the words behind a form's word say the command
 abbrev pub FormSays : Form → List Bytes → Command → Type 0
@@ -91,7 +108,9 @@ CallSays (word ∷ words) c = (f : Form) × (word ≡ word_in f) × FormSays f w
 -- a word in an argument's place is wrong for this cause
 abbrev pub IsWrong : Cause → Argument → Bytes → Type 0
 IsWrong cause.BadNumber (argument.Number most) word = (n : ℕ) → IsNumber word most n → ⊥
+IsWrong cause.BadNumber (argument.Count most) word = (n : ℕ) → IsCount word most n → ⊥
 IsWrong cause.BadHex argument.Target word = (hash : Hash) → IsHexOf word hash → ⊥
+IsWrong cause.BadHex argument.Key word = (hash : Hash) → IsHexOf word hash → ⊥
 IsWrong cause.BadHex argument.Id word = (bytes : Bytes) → IsIdText word bytes → ⊥
 IsWrong cause.BadHex argument.Blob word = (bytes : Bytes) → IsBlob word bytes → ⊥
 IsWrong cause.BadKindOrId argument.Kind word = (kind : Kind) → IsKind word kind → ⊥

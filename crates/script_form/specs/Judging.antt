@@ -1,8 +1,10 @@
 -- What is said of a line while it is judged; `earlier` are the numbers of the command lines before it, or those with the hashes of the
 -- records.
-use Rattle.std.specs.Prelude.{◌≡◌, ℕ, List, true, drop}
+use Rattle.std.specs.Prelude.{◌≡◌, ◌+◌, ℕ, if◌then◌else◌, Bool, List, true, false, drop}
 use Rattle.ledger_spec.specs.Bytes.{Bytes, Half}
 use Rattle.ledger_spec.specs.Own.{IsStoredAt}
+use Rattle.ledger_machine.specs.declared.commands.Command.{Command}
+use Rattle.ledger_machine.specs.declared.commands.Command.TheVariants as command
 use Rattle.script_form.specs.declared.cause.Cause.{Cause}
 use Rattle.script_form.specs.declared.judging.Content.{Content}
 use Rattle.script_form.specs.declared.judging.Content.TheVariants as content
@@ -12,6 +14,16 @@ use Rattle.script_form.specs.Words.{words_of}
 use Rattle.script_form.specs.Records.{Earlier, is_store, SaysRecord}
 use Rattle.script_form.specs.Causes.{is_skipped, is_command, TextHas, LineHas}
 use Rattle.script_form.specs.Grammar.{Says}
+
+-- the command is a page
+abbrev pub is_page_command : Command → Bool
+is_page_command (command.Page v kind key n) = true
+is_page_command _ = false
+
+-- how many pages are named, with what one line more says
+abbrev pub pages_with : ℕ → Content → ℕ
+pages_with pages (content.Line l) = if is_page_command l.command then pages + 1 else pages
+pages_with pages _ = pages
 
 -- the text, or the command line that it is, has no cause
 abbrev pub IsFineText : List ℕ → Bytes → Type 0

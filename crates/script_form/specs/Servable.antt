@@ -14,6 +14,10 @@ IsServed (command.Base p t head state tx) = Unit {0}
 IsServed (command.Node p t kind path blob) = Unit {0}
 IsServed (command.Check t) = Unit {0}
 IsServed (command.Tick t) = Unit {0}
+IsServed (command.View v t) = Unit {0}
+IsServed (command.Unview v) = Unit {0}
+IsServed (command.Get v kind key) = Unit {0}
+IsServed (command.Page v kind key n) = Unit {0}
 IsServed _ = ⊥
 
 -- the line waits for none, or for an earlier one

@@ -46,6 +46,11 @@ pub record IsNumber (word : Bytes) (most n : ℕ) : Type 0 where
   pub value : n ≡ decimal_behind 0 word
   pub within : n ≤ most
 
+-- a number from 1 to `most`
+pub record IsCount (word : Bytes) (most n : ℕ) : Type 0 where
+  pub number : IsNumber word most n
+  pub least : 1 ≤ n
+
 -- a target or a key: 64 hexadecimal digits, not all of them zero
 pub record IsTarget (word : Bytes) (target : Hash) : Type 0 where
   pub digits : IsHexOf word target

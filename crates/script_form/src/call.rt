@@ -5,7 +5,7 @@ ghost use Rattle.script_form.specs.declared.forms.Form.{Form};
 ghost use Rattle.script_form.specs.Commands.{arguments_in, CallSays, FormSays, SaysHead};
 
 use crate::forms::{Form, form_of};
-use crate::words::{blob_word, id_word, kind_word, number, target_word};
+use crate::words::{blob_word, count, hash_word, id_word, kind_word, number, target_word};
 use half_hash::{Blob, Memory};
 use ledger_machine::Command;
 use std::alloc::Global;
@@ -39,6 +39,10 @@ fn said_by(alloc: Global, form: Form, arguments: &[&[u8]]) -> Result<Option<Comm
         Form::Node => node_of(alloc, arguments),
         Form::Check => Ok(check_of(arguments)),
         Form::Tick => Ok(tick_of(arguments)),
+        Form::View => Ok(view_of(arguments)),
+        Form::Unview => Ok(unview_of(arguments)),
+        Form::Get => Ok(get_of(arguments)),
+        Form::Page => Ok(page_of(arguments)),
     }
 }
 
@@ -92,6 +96,70 @@ fn tick_of(arguments: &[&[u8]]) -> Option<Command>
     };
     let target = target_word(target)?;
     Some(Command::Tick { target })
+}
+
+fn view_of(arguments: &[&[u8]]) -> Option<Command>
+    ensures { MatchOption result ((c : Command) → FormSays Form.View (map (λ w. w.now) arguments.now) c → ⊥)
+        (FormSays Form.View (map (λ w. w.now) arguments.now)) }
+{
+    let [view, target] = arguments else {
+        return None;
+    };
+    let view = number(view, 65_535)?;
+    let target = target_word(target)?;
+    Some(Command::View {
+        view: view as u16,
+        target,
+    })
+}
+
+fn unview_of(arguments: &[&[u8]]) -> Option<Command>
+    ensures { MatchOption result ((c : Command) → FormSays Form.Unview (map (λ w. w.now) arguments.now) c → ⊥)
+        (FormSays Form.Unview (map (λ w. w.now) arguments.now)) }
+{
+    let [view] = arguments else {
+        return None;
+    };
+    let view = number(view, 65_535)?;
+    Some(Command::Unview { view: view as u16 })
+}
+
+fn get_of(arguments: &[&[u8]]) -> Option<Command>
+    ensures { MatchOption result ((c : Command) → FormSays Form.Get (map (λ w. w.now) arguments.now) c → ⊥)
+        (FormSays Form.Get (map (λ w. w.now) arguments.now)) }
+{
+    let [view, kind, key] = arguments else {
+        return None;
+    };
+    let view = number(view, 65_535)?;
+    let kind = kind_word(kind)?;
+    let key = target_word(key)?;
+    Some(Command::Get {
+        view: view as u16,
+        kind,
+        key,
+    })
+}
+
+fn page_of(arguments: &[&[u8]]) -> Option<Command>
+    ensures { MatchOption result ((c : Command) → FormSays Form.Page (map (λ w. w.now) arguments.now) c → ⊥)
+        (FormSays Form.Page (map (λ w. w.now) arguments.now)) }
+{
+    let [view, kind, after, n] = arguments else {
+        return None;
+    };
+    let view = number(view, 65_535)?;
+    let kind = kind_word(kind)?;
+    let after = hash_word(after)?;
+    let Some(n) = count(n, 256) else {
+        return None;
+    };
+    Some(Command::Page {
+        view: view as u16,
+        kind,
+        after,
+        n: n as u16,
+    })
 }
 
 // The base reply of a peer, a target and a header, with these roots.

@@ -32,7 +32,7 @@ pub enum Cause {
     /// A record stands behind a command line, its form is none, its hash isn't that of the form or is
     /// zero, or an earlier record has this hash.
     BadRecord,
-    /// The line is command 200,001.
+    /// The line is command 200,001, or the `page` command 4,001.
     TooManyCommands,
 }
 

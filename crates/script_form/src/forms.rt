@@ -4,7 +4,7 @@ ghost use Rattle.script_form.specs.declared.forms.Form.{Form};
 ghost use Rattle.script_form.specs.Commands.{word_in, arguments_in, IsWrong, HasWrong};
 
 use crate::cause::Cause;
-use crate::words::{blob_word, hash_word, id_text, id_word, is_text, kind_word, number};
+use crate::words::{blob_word, count, hash_word, id_text, id_word, is_text, kind_word, number};
 use half_hash::Memory;
 use std::alloc::Global;
 
@@ -13,8 +13,12 @@ use std::alloc::Global;
 pub enum Argument {
     /// A number, at most this one.
     Number(u64),
-    /// A target: a hash that isn't zero.
+    /// A number from 1 to this one.
+    Count(u64),
+    /// A target or a key: a hash that isn't zero.
     Target,
+    /// A key that may be zero.
+    Key,
     /// The kind of a map.
     Kind,
     /// A node ID.
@@ -34,10 +38,14 @@ pub enum Form {
     Node,
     Check,
     Tick,
+    View,
+    Unview,
+    Get,
+    Page,
 }
 
 /// All forms.
-const FORMS: [Form; 8] = [
+const FORMS: [Form; 12] = [
     Form::Want,
     Form::Peer,
     Form::Base,
@@ -46,6 +54,10 @@ const FORMS: [Form; 8] = [
     Form::Node,
     Form::Check,
     Form::Tick,
+    Form::View,
+    Form::Unview,
+    Form::Get,
+    Form::Page,
 ];
 
 const WANT: [Argument; 2] = [Argument::Target, Argument::Number(4_294_967_295)];
@@ -81,6 +93,19 @@ const CHECK: [Argument; 1] = [Argument::Target];
 
 const TICK: [Argument; 1] = [Argument::Target];
 
+const VIEW: [Argument; 2] = [Argument::Number(65_535), Argument::Target];
+
+const UNVIEW: [Argument; 1] = [Argument::Number(65_535)];
+
+const GET: [Argument; 3] = [Argument::Number(65_535), Argument::Kind, Argument::Target];
+
+const PAGE: [Argument; 4] = [
+    Argument::Number(65_535),
+    Argument::Kind,
+    Argument::Key,
+    Argument::Count(256),
+];
+
 impl Form {
     /// Whether this is the form's command word.
     fn has_word(self, word: &[u8]) -> bool
@@ -95,6 +120,10 @@ impl Form {
             Form::Node => is_text(word, b"node"),
             Form::Check => is_text(word, b"check"),
             Form::Tick => is_text(word, b"tick"),
+            Form::View => is_text(word, b"view"),
+            Form::Unview => is_text(word, b"unview"),
+            Form::Get => is_text(word, b"get"),
+            Form::Page => is_text(word, b"page"),
         }
     }
 
@@ -111,6 +140,10 @@ impl Form {
             Form::Node => &NODE,
             Form::Check => &CHECK,
             Form::Tick => &TICK,
+            Form::View => &VIEW,
+            Form::Unview => &UNVIEW,
+            Form::Get => &GET,
+            Form::Page => &PAGE,
         }
     }
 }
@@ -168,7 +201,9 @@ fn is_wrong(alloc: Global, cause: Cause, argument: &Argument, word: &[u8]) -> Re
 {
     match *argument {
         Argument::Number(most) => Ok(number_is_wrong(cause, most, word)),
+        Argument::Count(most) => Ok(count_is_wrong(cause, most, word)),
         Argument::Target => Ok(target_is_wrong(cause, word)),
+        Argument::Key => Ok(key_is_wrong(cause, word)),
         Argument::Kind => Ok(kind_is_wrong(cause, word)),
         Argument::Id => Ok(id_is_wrong(cause, word)),
         Argument::Blob => blob_is_wrong(alloc, cause, word),
@@ -180,6 +215,24 @@ fn number_is_wrong(cause: Cause, most: u64, word: &[u8]) -> bool
 {
     match cause {
         Cause::BadNumber => number(word, most).is_none(),
+        _ => false,
+    }
+}
+
+fn count_is_wrong(cause: Cause, most: u64, word: &[u8]) -> bool
+    ensures { MatchBool result (IsWrong cause (Argument.Count most) word.now) (IsWrong cause (Argument.Count most) word.now → ⊥) }
+{
+    match cause {
+        Cause::BadNumber => count(word, most).is_none(),
+        _ => false,
+    }
+}
+
+fn key_is_wrong(cause: Cause, word: &[u8]) -> bool
+    ensures { MatchBool result (IsWrong cause Argument.Key word.now) (IsWrong cause Argument.Key word.now → ⊥) }
+{
+    match cause {
+        Cause::BadHex => hash_word(word).is_none(),
         _ => false,
     }
 }

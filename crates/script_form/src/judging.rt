@@ -1,5 +1,5 @@
 //! A line judged: it is skipped, says a record or a command, or has a first cause.
-ghost use Rattle.std.specs.Prelude.{◌≡◌, ℕ, List, map, false, true, length, Some, None, IfOk, IfErr, MatchBool, MatchOption};
+ghost use Rattle.std.specs.Prelude.{◌≡◌, ◌≤◌, ℕ, List, map, false, true, length, Some, None, IfOk, IfErr, MatchBool, MatchOption};
 ghost use Rattle.std.specs.List.{list_all};
 ghost use Rattle.std.specs.List.Sorted.{IsNonDecreasing};
 ghost use Rattle.ledger_machine.specs.declared.commands.Line.{Line};
@@ -9,7 +9,7 @@ ghost use Rattle.script_form.specs.Records.{is_store as word_is_store, earlier_i
 ghost use Rattle.script_form.specs.Causes.{is_printable as byte_is_printable, is_skipped as are_skipped, is_command as are_command};
 ghost use Rattle.script_form.specs.Causes.{TextHas, CommandHas, LineHas, IsFirstOf};
 ghost use Rattle.script_form.specs.Commands.{CallHas};
-ghost use Rattle.script_form.specs.Judging.{IsFineText, IsFineLine, IsSaid, IsVerdict};
+ghost use Rattle.script_form.specs.Judging.{pages_with as named_with, IsFineText, IsFineLine, IsSaid, IsVerdict};
 ghost use Rattle.script_form.specs.Faults.{IsFirstCause};
 
 use crate::cause::{Cause, TextFault};
@@ -19,7 +19,7 @@ use crate::records::Records;
 use crate::store_line::stored;
 use crate::words::{is_text, number, words_of};
 use half_hash::{Memory, NodeHash};
-use ledger_machine::{Line, Record};
+use ledger_machine::{Command, Line, Record};
 use std::alloc::Global;
 
 /// The most bytes of a line before its newline.
@@ -51,6 +51,26 @@ pub(crate) enum Content {
     Nothing,
     Record(Record),
     Line(Line),
+}
+
+/// The most `page` commands of a script.
+pub const MOST_PAGES: usize = 4_000;
+
+/// How many pages are named, with what one line more says.
+pub(crate) fn pages_with(pages: usize, content: &Content) -> usize
+    requires { pages ≤ 4000 }
+    ensures { result ≡ named_with pages content.now }
+{
+    match content {
+        Content::Line(line) => {
+            if matches!(line.command, Command::Page { .. }) {
+                pages + 1
+            } else {
+                pages
+            }
+        }
+        _ => pages,
+    }
 }
 
 /// What the text of line `n` says, or the first cause for which it is refused; command lines of these

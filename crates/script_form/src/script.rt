@@ -9,7 +9,7 @@ ghost use Rattle.script_form.specs.Causes.{most_bytes, number_of};
 ghost use Rattle.script_form.specs.Faults.{HasLineCause, HasScriptCause};
 
 use crate::cause::{Cause, TextFault};
-use crate::judging::{Content, judge};
+use crate::judging::{Content, MOST_PAGES, judge, pages_with};
 use crate::records::Records;
 use crate::words::piece_end;
 use half_hash::{Memory, NodeHash};
@@ -66,6 +66,7 @@ fn read_lines<H: NodeHash>(alloc: Global, bytes: &[u8]) -> Result<Script, Script
     let mut earlier: Vec<u32> = Vec::new(alloc);
     let mut rest = bytes;
     let mut n: u32 = 1;
+    let mut pages = 0;
     while !rest.is_empty() {
         let (text, size) = first_line(rest);
         if bytes.len() - rest.len() + size > MOST_BYTES {
@@ -76,6 +77,10 @@ fn read_lines<H: NodeHash>(alloc: Global, bytes: &[u8]) -> Result<Script, Script
             Err(TextFault::Cause(cause)) => return Err(refused(n, cause)),
             Err(TextFault::Memory) => return Err(ScriptFault::Memory),
         };
+        let named = pages_with(pages, &content);
+        if named > MOST_PAGES {
+            return Err(refused(n, Cause::TooManyCommands));
+        }
         match content {
             Content::Nothing => {}
             Content::Record(record) => records.push(record)?,
@@ -86,6 +91,7 @@ fn read_lines<H: NodeHash>(alloc: Global, bytes: &[u8]) -> Result<Script, Script
         }
         rest = rest.split_at(size).1;
         n += 1;
+        pages = named;
     }
     Ok(Script {
         records: records.into_records(),

@@ -2,7 +2,8 @@
 ghost use Rattle.std.specs.Prelude.{◌≡◌, ◌≢◌, ◌≤◌, ◌<◌, ◌∷◌, ◌^◌, ℕ, List, Ok, length, map, slice_index, IfOk, MatchBool, MatchOption};
 ghost use Rattle.half_hash.specs.Hex.{IsHexOf};
 ghost use Rattle.ledger_spec.specs.declared.Kind.{Kind};
-ghost use Rattle.script_form.specs.Words.{words_of as text_words, IsNumber, IsTarget, IsKind, IsBlob, IsId, IsIdText, decimal_behind};
+ghost use Rattle.script_form.specs.Words.{words_of as text_words, IsNumber, IsCount, IsTarget, IsKind, IsBlob, IsId, IsIdText};
+ghost use Rattle.script_form.specs.Words.{decimal_behind};
 
 use crate::digits::decode;
 use half_hash::{Blob, Hash32, Memory};
@@ -68,6 +69,14 @@ pub fn number(word: &[u8], most: u64) -> Option<u64>
         value = next as u64;
     }
     Some(value)
+}
+
+/// The number from 1 to `most` that a word is.
+pub(crate) fn count(word: &[u8], most: u64) -> Option<u64>
+    ensures { MatchOption result ((n : ℕ) → IsCount word.now most n → ⊥) (IsCount word.now most) }
+{
+    let n = number(word, most)?;
+    if n == 0 { None } else { Some(n) }
 }
 
 /// The hash of 64 hexadecimal digits.

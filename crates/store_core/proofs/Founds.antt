@@ -1,77 +1,65 @@
 -- What a search of a ledger finds decides a check as the machine's row does.
-use Rattle.std.proofs.Common.{◌≡◌, ℕ, List, [], ◌∷◌, Option, None, Some, IfSome, refl, sym, ap, ◌∙◌, subst, Bor}
-use Rattle.std.specs.Prelude.{IsSome, unwrap_or}
-use Rattle.std.specs.Option.{option_map, option_map_or, option_and_then, option_copied}
-use Rattle.std.specs.List.{filter_map, cons_option}
-use Rattle.ledger_spec.specs.declared.Place.{Place}
-use Rattle.ledger_spec.specs.declared.Place.TheVariants.{Header}
-use Rattle.ledger_spec.specs.declared.ShapeFault.{ShapeFault}
-use Rattle.ledger_spec.specs.declared.ShapeFault.TheVariants.{Foreign}
+use Rattle.std.proofs.Common.{◌≡◌, ℕ, Option, None, Some, IfSome, refl, sym, ap, ◌∙◌, subst}
+use Rattle.std.specs.Option.{option_map, option_map_or}
 use Rattle.std.specs.FinMap as map
 use Rattle.ledger_spec.specs.Bytes.{Bytes, Hash, Half, Lookup, Nodes}
+use Rattle.ledger_spec.specs.Maps.{hash_cmp, get_in, set_in}
 use Rattle.ledger_spec.specs.Own.{AreStored, own_forms}
-use Rattle.ledger_spec.proofs.Owning.{all_own}
-use Rattle.rotating_store.specs.Stores.{Store, nodes_of}
-use Rattle.store_core.proofs.Tables.{IsOver, filed_over}
-use Rattle.ledger_spec.specs.Maps.{ForHash, hash_cmp, get_in}
 use Rattle.ledger_spec.specs.Header.{seq_of, header_bytes}
-use Rattle.ledger_spec.specs.Forms.{header_of}
 use Rattle.ledger_spec.specs.Spots.{header_in}
-use Rattle.ledger_spec.specs.Findings.{Finding, breaks, finding_at, seen, missing_of, first_broken}
-use Rattle.ledger_spec.specs.Findings.{up_to, walk_ledger, header_sight, header_or_foreign, maps_of}
+use Rattle.ledger_spec.specs.Findings.{seen, first_broken}
+use Rattle.ledger_spec.specs.declared.peers.Ask.TheVariants as asks
+use Rattle.ledger_spec.specs.Acquiring.{Acquiring, Verdict, complete, incomplete, seq_differs, zero_state, below_floor, malformed}
+use Rattle.ledger_spec.specs.Acquiring.{check_verdict, after_verdict}
+use Rattle.ledger_spec.proofs.Owning.{all_own}
 use Rattle.ledger_header.specs.declared.Header.{Header as Head}
 use Rattle.ledger_header.specs.Fields.{fields, Reads}
 use Rattle.missing_walk.specs.declared.Found.{Found}
 use Rattle.missing_walk.specs.Sees.{Finds}
-use Rattle.ledger_machine.specs.declared.replies.CheckReply.{CheckReply}
-use Rattle.ledger_machine.specs.declared.replies.CheckReply.TheVariants as check
-use Rattle.ledger_machine.specs.State.{State, Acquisition, form_in, stored_seq}
-use Rattle.ledger_machine.specs.Check.{check_given, check_reply, form_verdict, header_verdict, search_reply, missing_reply}
-use Rattle.store_core.specs.Finding.{place_reply, found_reply, found_seq}
+use Rattle.rotating_store.specs.Stores.{Store, nodes_of}
+use Rattle.acquire_core.specs.Replies as acquire
+use Rattle.acquire_core.specs.declared.replies.CheckReply.{CheckReply as Checked}
+use Rattle.acquire_core.specs.declared.replies.CheckReply.TheVariants as checked
+use Rattle.ledger_machine.specs.State.{State, form_in, stored_seq, with_wanted, ended, listed_with}
+use Rattle.ledger_machine.specs.Check.{told_by, verdict_of, check_said, check_given, check_reply, after_check}
+use Rattle.store_core.specs.Wanting.{check_told, judged_by, found_seq, settled}
+use Rattle.store_core.proofs.States.{set_same}
+use Rattle.store_core.proofs.Tables.{IsOver, filed_over}
 
--- what the places alone decide
-places_decide : (a : Acquisition) (found : Found) (all : List Finding) (b : Option (Place × ShapeFault))
-    → found.missing ≡ filter_map missing_of all
-    → search_reply a all b ≡ place_reply a found b
-places_decide a found all None e = ap (missing_reply a) (sym e)
-places_decide a found all (Some b) e = refl
+-- what a header that was read tells is what its bytes tell
+told_is : (head : Option Head) (o : Option Bytes) → option_map (λ (h : Head). header_bytes (fields h)) head ≡ o
+    → IfSome head (λ h. Reads (header_bytes (fields h)) h) → option_map acquire.told_by head ≡ option_map told_by o
+told_is None o e reads = ap (option_map told_by) e
+told_is (Some h) o e reads = (λ i. Some (sym reads.seq i, sym reads.state_root i)) ∙ ap (option_map told_by) e
 
--- bytes that are no header are all that is found
-foreign_seen : (half : Half) (nodes : Lookup) (t : Hash) (form : Bytes) → nodes t ≡ Some form → header_of form ≡ None
-    → seen half nodes t ≡ breaks Header Foreign ∷ []
-unfolding walk_ledger
-foreign_seen half nodes t form stored none =
-    ap (λ x. up_to 256 (cons_option (finding_at Header x) (filter_map (λ m. finding_at m.place m.sight) (maps_of half nodes x))))
-    (ap header_sight stored ∙ ap header_or_foreign none)
+-- so what was found comes to what is stored
+verdict_is : (half : Half) (s : State) (t : Hash) (a : Acquiring) (found : Found) → Finds half (form_in s) t found
+    → acquire.found_verdict a s.floor found ≡ verdict_of half s t a
+verdict_is half s t a found finds =
+    ap (λ h. check_verdict a s.floor h found.broken found.missing)
+    (told_is found.header (header_in (form_in s) t) finds.header.bytes finds.header.reads)
+    ∙ ap (λ b. check_verdict a s.floor (option_map told_by (header_in (form_in s) t)) b found.missing) finds.broken
+    ∙ ap (check_verdict a s.floor (option_map told_by (header_in (form_in s) t)) (first_broken (seen half (form_in s) t))) finds.missing
 
-module _ (half : Half) (s : State) (t : Hash) (a : Acquisition) (found : Found) (at : get_in hash_cmp s.wanted t ≡ Some a)
-    (finds : Finds half (form_in s) t found) where
-  abbrev searched : CheckReply
-  searched = search_reply a (seen half (form_in s) t) (first_broken (seen half (form_in s) t))
+-- a verdict has one name
+named : (v : Verdict) → check_told (acquire.check_reply v) ≡ check_said v
+named complete = refl
+named (incomplete (asks.Send p places)) = refl
+named (incomplete (asks.Waiting n)) = refl
+named (incomplete asks.NoPeer) = refl
+named (seq_differs asked found) = refl
+named zero_state = refl
+named (below_floor floor) = refl
+named (malformed place fault) = refl
 
-  searched_is : searched ≡ place_reply a found found.broken
-  searched_is =
-      ap (search_reply a (seen half (form_in s) t)) (sym finds.broken)
-      ∙ places_decide a found (seen half (form_in s) t) found.broken finds.missing
-
-  -- by what is stored under the target, and the header that it is
-  by_form : (o : Option Bytes) → form_in s t ≡ o → (head : Option Head)
-      → option_map (λ (h : Head). header_bytes (fields h)) head ≡ option_and_then header_of o
-      → option_map_or (λ f. form_verdict a.seq s.floor f searched) o searched
-      ≡ option_map_or (λ (h : Head). header_verdict a.seq s.floor (header_bytes (fields h)) searched) head searched
-  by_form None stored None e = refl
-  by_form None stored (Some h) e = cc
-  by_form (Some f) stored (Some h) e =
-      ap (λ o. option_map_or (λ b. header_verdict a.seq s.floor b searched) o (check.Malformed Header 6)) (sym e)
-  by_form (Some f) stored None e =
-      ap (λ o. option_map_or (λ b. header_verdict a.seq s.floor b searched) o (check.Malformed Header 6)) (sym e)
-      ∙ sym (ap (λ xs. search_reply a xs (first_broken xs)) (foreign_seen half (form_in s) t f stored (sym e)))
-
-  pub found_is : check_reply half s t ≡ found_reply (Some a) a.seq s.floor found
-  found_is =
-      ap (check_given half s t (form_in s t)) at
-      ∙ by_form (form_in s t) refl found.header finds.header.bytes
-      ∙ ap (λ r. option_map_or (λ (h : Head). header_verdict a.seq s.floor (header_bytes (fields h)) r) found.header r) searched_is
+-- the machine's row is answered
+pub check_found : (half : Half) (s : State) (t : Hash) (found : Found) → Finds half (form_in s) t found
+    → check_told (judged_by (get_in hash_cmp s.wanted t) s.floor found) ≡ check_reply half s t
+check_found half s t found finds = at (get_in hash_cmp s.wanted t)
+  where
+    at : (o : Option Acquiring) → check_told (judged_by o s.floor found) ≡ check_given half s t o
+    at None = refl
+    at (Some a) = named (acquire.found_verdict a s.floor found) ∙ ap check_said (verdict_is half s t a found finds)
 
 seq_by : (head : Option Head) (o : Option Bytes) → option_map (λ (h : Head). header_bytes (fields h)) head ≡ o
     → IfSome head (λ h. Reads (header_bytes (fields h)) h) → option_map_or (λ (h : Head). h.seq) head 0 ≡ option_map_or seq_of o 0
@@ -81,55 +69,67 @@ seq_by (Some h) o e reads = sym reads.seq ∙ ap (λ x. option_map_or seq_of x 0
 pub found_seq_is : (half : Half) (s : State) (t : Hash) (found : Found) → Finds half (form_in s) t found → found_seq found ≡ stored_seq s t
 found_seq_is half s t found finds = seq_by found.header (header_in (form_in s) t) finds.header.bytes finds.header.reads
 
--- an open acquisition is answered by what was found: by the header where it has a fault
-pub head_decides : (o : Option Acquisition) (asked floor : ℕ) (found : Found) (v : Option CheckReply) (r : CheckReply) → IsSome o
-    → ((rest : CheckReply) → option_map_or (λ (h : Head). header_verdict asked floor (header_bytes (fields h)) rest) found.header rest ≡
-    unwrap_or v rest)
-    → v ≡ Some r → r ≡ found_reply o asked floor found
-head_decides None asked floor found v r is_open verdict is = cc
-head_decides (Some a) asked floor found v r is_open verdict is =
-    ap (λ x. unwrap_or x (place_reply a found found.broken)) (sym is) ∙ sym (verdict (place_reply a found found.broken))
-
--- else by the places
-pub places_answer : (o : Option Acquisition) (asked floor : ℕ) (found : Found) (v : Option CheckReply) (r : CheckReply) → IsSome o
-    → ((rest : CheckReply) → option_map_or (λ (h : Head). header_verdict asked floor (header_bytes (fields h)) rest) found.header rest ≡
-    unwrap_or v rest)
-    → v ≡ None → ((a : Acquisition) → o ≡ Some a → r ≡ place_reply a found found.broken) → r ≡ found_reply o asked floor found
-places_answer None asked floor found v r is_open verdict is by = cc
-places_answer (Some a) asked floor found v r is_open verdict is by =
-    by a refl ∙ ap (λ x. unwrap_or x (place_reply a found found.broken)) (sym is) ∙ sym (verdict (place_reply a found found.broken))
-
--- an acquisition that is there
-pub open_at : (o : Option Acquisition) → IsSome o → (a : Acquisition) × (o ≡ Some a)
-open_at None is_open = cc
-open_at (Some a) is_open = (a, refl)
-
--- the verdict on a header that was lent is that on the header
-pub lent_verdict : (asked floor : ℕ) (r : Option (Bor Head)) (o : Option Head) (v : Option CheckReply) → option_copied r ≡ o
-    → (IfSome r (λ h. Reads (header_bytes (fields h.now)) h.now) → (rest : CheckReply)
-    → option_map_or (λ h. header_verdict asked floor (header_bytes (fields h.now)) rest) r rest ≡ unwrap_or v rest)
-    → IfSome o (λ h. Reads (header_bytes (fields h)) h) → (rest : CheckReply)
-    → option_map_or (λ (h : Head). header_verdict asked floor (header_bytes (fields h)) rest) o rest ≡ unwrap_or v rest
-lent_verdict asked floor None o v e verdict reads rest =
-    ap (λ x. option_map_or (λ (h : Head). header_verdict asked floor (header_bytes (fields h)) rest) x rest) (sym e) ∙ verdict tt rest
-lent_verdict asked floor (Some h) o v e verdict reads rest =
-    ap (λ x. option_map_or (λ (h : Head). header_verdict asked floor (header_bytes (fields h)) rest) x rest) (sym e)
-    ∙ verdict (subst (λ (x : Option Head). IfSome x (λ h. Reads (header_bytes (fields h)) h)) (sym e) reads) rest
-
-pub check_found : (half : Half) (s : State) (t : Hash) (a : Acquisition) (wanted : ForHash Acquisition) (asked floor : ℕ) (found : Found)
-    (r : CheckReply)
-    → get_in hash_cmp s.wanted t ≡ Some a → asked ≡ a.seq → wanted ≡ s.wanted → floor ≡ s.floor → Finds half (form_in s) t found
-    → r ≡ found_reply (get_in hash_cmp wanted t) asked floor found → r ≡ check_reply half s t
-check_found half s t a wanted asked floor found r at seq same_wanted same_floor finds is =
-    is ∙ ap (λ (w : ForHash Acquisition). found_reply (get_in hash_cmp w t) asked floor found) same_wanted
-    ∙ ap (λ (o : Option Acquisition). found_reply o asked floor found) at
-    ∙ ap (λ n. found_reply (Some a) n floor found) seq
-    ∙ ap (λ n. found_reply (Some a) a.seq n found) same_floor
-    ∙ sym (found_is half s t a found at finds)
-
 -- what is read of a store whose forms all stand under their own hashes
 pub finds_own : (half : Half) (st : Store) (s : State) (t : Hash) (found : Found) → IsOver st s → AreStored half (form_in s)
     → Finds half (own_forms half (map.get (nodes_of st))) t found → Finds half (form_in s) t found
 finds_own half st s t found is all finds =
     subst (λ (n : Lookup). Finds half n t found)
     (all_own half (map.get (nodes_of st)) (filed_over half st s is all) ∙ ap (λ (n : Nodes). map.get n) (sym is.nodes)) finds
+
+-- a change that changes nothing
+with_same : (s : State) (t : Hash) (a : Acquiring) (f : Acquiring → Acquiring) → get_in hash_cmp s.wanted t ≡ Some a → f a ≡ a
+    → with_wanted s t f ≡ s
+with_same s t a f at same =
+    (rw at refl) ∙ ap (λ (x : Acquiring). record s { wanted = set_in hash_cmp s.wanted t x }) same
+    ∙ ap (λ m. record s { wanted = m }) (set_same _ s.wanted a at)
+
+-- what an acquisition's answer ends is what the machine's ends
+settled_at : (s : State) (t : Hash) (seq : ℕ) (a : Acquiring) (v : Verdict) → get_in hash_cmp s.wanted t ≡ Some a
+    → settled (with_wanted s t (λ x. after_verdict x v)) t seq (acquire.check_reply v) ≡ after_check s t seq (check_said v)
+settled_at s t seq a complete at = ap (λ (x : State). ended (listed_with x t seq) t) (with_same s t a (λ x. x) at refl)
+settled_at s t seq a (incomplete (asks.Send p places)) at = refl
+settled_at s t seq a (incomplete (asks.Waiting n)) at = with_same s t a (λ x. x) at refl
+settled_at s t seq a (incomplete asks.NoPeer) at = with_same s t a (λ x. x) at refl
+settled_at s t seq a (seq_differs asked found) at = ap (λ (x : State). ended x t) (with_same s t a (λ x. x) at refl)
+settled_at s t seq a zero_state at = ap (λ (x : State). ended x t) (with_same s t a (λ x. x) at refl)
+settled_at s t seq a (below_floor floor) at = ap (λ (x : State). ended x t) (with_same s t a (λ x. x) at refl)
+settled_at s t seq a (malformed place fault) at = ap (λ (x : State). ended x t) (with_same s t a (λ x. x) at refl)
+
+module _ (s : State) (t : Hash) (floor : ℕ) (found : Found) where
+  abbrev judged : Acquiring → Acquiring
+  judged x = after_verdict x (acquire.found_verdict x floor found)
+
+  -- the state after a check that was settled
+  pub check_settled : (s1 s2 : State) (seq : ℕ) (r : Checked) → r ≡ judged_by (get_in hash_cmp s.wanted t) floor found
+      → s1 ≡ with_wanted s t judged → s2 ≡ settled s1 t seq r → s2 ≡ after_check s t seq (check_told r)
+  check_settled s1 s2 seq r is asked ends =
+      ends ∙ ap (settled s1 t seq) is ∙ ap (λ x. settled x t seq (judged_by (get_in hash_cmp s.wanted t) floor found)) asked
+      ∙ at (get_in hash_cmp s.wanted t) refl ∙ sym (ap (λ x. after_check s t seq (check_told x)) is)
+    where
+      at : (o : Option Acquiring) → get_in hash_cmp s.wanted t ≡ o
+          → settled (with_wanted s t judged) t seq (judged_by o floor found) ≡ after_check s t seq (check_told (judged_by o floor found))
+      at None none = rw none refl
+      at (Some a) open_ =
+          let v : Verdict = acquire.found_verdict a floor found in
+          let one : with_wanted s t judged ≡ with_wanted s t (λ x. after_verdict x v) = rw open_ refl in
+          ap (λ x. settled x t seq (acquire.check_reply v)) one ∙ settled_at s t seq a v open_ ∙ sym (ap (after_check s t seq) (named v))
+
+  -- an acquisition whose ledger is complete stays until it is listed
+  pub check_unsettled : (s1 : State) (r : Checked) → r ≡ judged_by (get_in hash_cmp s.wanted t) floor found
+      → s1 ≡ with_wanted s t judged → r ≡ checked.Complete → s1 ≡ s
+  check_unsettled s1 r is asked whole = asked ∙ at (get_in hash_cmp s.wanted t) refl (sym is ∙ whole)
+    where
+      kept : (a : Acquiring) (v : Verdict) → acquire.check_reply v ≡ checked.Complete → after_verdict a v ≡ a
+      kept a complete e = refl
+      kept a (incomplete (asks.Send p places)) e = cc
+      kept a (incomplete (asks.Waiting n)) e = cc
+      kept a (incomplete asks.NoPeer) e = cc
+      kept a (seq_differs asked found) e = cc
+      kept a zero_state e = cc
+      kept a (below_floor floor) e = cc
+      kept a (malformed place fault) e = cc
+
+      at : (o : Option Acquiring) → get_in hash_cmp s.wanted t ≡ o → judged_by o floor found ≡ checked.Complete
+          → with_wanted s t judged ≡ s
+      at None none e = cc
+      at (Some a) open_ e = with_same s t a judged open_ (kept a (acquire.found_verdict a floor found) e)

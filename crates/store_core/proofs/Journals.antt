@@ -18,7 +18,7 @@ use Rattle.ledger_machine.specs.State.{State}
 use Rattle.ledger_machine.specs.Steps.{Step}
 use Rattle.ledger_machine.specs.Runs.{Answers, IsRunOf, used_by, answered_by, Projects, opening_of}
 use Rattle.node_backend.specs.Counts.{held_sum}
-use Rattle.ledger_machine.specs.Scripts.{numbers_of, line_of, IsInRange, IsAcquiring}
+use Rattle.ledger_machine.specs.Scripts.{numbers_of, line_of, IsInRange, IsCovered}
 use Rattle.script_form.specs.Servable.{AreServable, IsServed}
 use Rattle.ledger_machine.specs.Sound.{Sound}
 use Rattle.ledger_laws.proofs.Openings.{records_are_sound}
@@ -35,10 +35,6 @@ use Rattle.ledger_machine.specs.Records.{AreRecords}
 use Rattle.ledger_machine.specs.declared.journal.Entry.{Entry}
 use Rattle.ledger_machine.specs.declared.commands.Command.{Command}
 use Rattle.ledger_machine.specs.declared.replies.Reply.{Reply}
-use Rattle.shamap_node.specs.Nodes.{held}
-use Rattle.shamap_node.specs.declared.Node.{Node}
-use Rattle.std.specs.declared.sync.Arc.{Arc}
-use Rattle.std.proofs.Common.{Global}
 use Rattle.store_core.proofs.Counting.{total-le, total-lt, part, parts_total, none_past}
 
 pub numbers-append : (a : ℕ) (xs ys : List Line) → numbers_of a (xs ++ ys) ≡ numbers_of a xs ++ numbers_of a ys
@@ -138,14 +134,18 @@ answers half lines s s' line e from at next is number _ step =
       step = step;
     }
 
--- the commands that are served acquire a ledger
-pub served_acquires : (c : Command) → IsServed c → IsAcquiring c
+-- the laws cover the commands that are served
+pub served_acquires : (c : Command) → IsServed c → IsCovered c
 served_acquires (command.Want t seq) served = tt
 served_acquires (command.Peer p t) served = tt
 served_acquires (command.Base p t head state tx) served = tt
 served_acquires (command.Node p t kind path blob) served = tt
 served_acquires (command.Check t) served = tt
 served_acquires (command.Tick t) served = tt
+served_acquires (command.View v t) served = tt
+served_acquires (command.Unview v) served = tt
+served_acquires (command.Get v kind key) served = tt
+served_acquires (command.Page v kind key n) served = tt
 served_acquires _ served = absurd served
 
 module _ (half : Half) (records : List Record) (lines : List Line) (cursors : List ℕ) (journal : List Entry) (capacity interval : ℕ)
@@ -183,8 +183,11 @@ module _ (half : Half) (records : List Record) (lines : List Line) (cursors : Li
       ∙ sym (ap (map (λ (l : Line). l.number)) (none_past (λ (l : Line). l.actor) 64 a lines past k.servable.actors_known))
 
   -- each line acquires a ledger
-  pub kept_acquires : (l : Line) → Contains lines l → IsAcquiring l.command
+  pub kept_acquires : (l : Line) → Contains lines l → IsCovered l.command
   kept_acquires l among = served_acquires l.command (All-contains (λ x. IsServed x.command) lines l k.servable.served among)
+
+  pub kept_ranges : (l : Line) → Contains lines l → IsInRange l.command
+  kept_ranges l among = All-contains (λ x. IsInRange x.command) lines l k.servable.in_range among
 
   pub kept_served : (at : ℕ) → at < length lines → (line : Line) → line ≡ get_or lines at line → IsServed line.command
   kept_served at lt line is = let P : Line → Type 0 = λ l. IsServed l.command in subst P (sym is) (k.servable.served at line lt)
@@ -422,7 +425,8 @@ moved {lines} cursors {from} {a} {len} {held} {at} same start whole size lt next
 
 -- and that there is none
 pub moved_end : {lines ls : List Line} (cursors : List ℕ) {from a len held : ℕ} → ls ≡ lines → from ≡ get_or cursors a from
-    → held ≡ length cursors → len ≡ held → a < len → numbers_of a (drop from ls) ≡ [] → numbers_of a (drop (slice_index cursors a) lines) ≡ []
+    → held ≡ length cursors → len ≡ held → a < len → numbers_of a (drop from ls) ≡ []
+    → numbers_of a (drop (slice_index cursors a) lines) ≡ []
 moved_end {lines} cursors {from} {a} same start whole size lt none =
     let e : from ≡ slice_index cursors a = get_or_read cursors a from (omega (arith, whole, size, lt)) start 0 in
     ap (λ (n : ℕ). numbers_of a (drop n lines)) (sym e) ∙ ap (λ (w : List Line). numbers_of a (drop from w)) (sym same) ∙ none
@@ -438,13 +442,6 @@ read_actor lines from i a d lt is line at =
 -- what a push that worked leaves
 pub pushed : {X E : Type 0} (r : Result X E) (x : X) (old new more : List Entry) → new ≡ cond (is_ok r) more old → r ≡ Ok x → new ≡ more
 pushed r x old new more e is = e ∙ ap (λ (b : Bool). cond b more old) (ap is_ok is)
-
--- a step that used nothing
-pub used_nothing : (half : Half) (s : State) (actor : ℕ) (c : Command) (r : Reply) (s' : State) (used : List (Arc Node Global))
-    → used ≡ [] → Step half s actor c r [] s' → Step half s actor c r (map (λ a. held a.value) used) s'
-used_nothing half s actor c r s' used none step =
-    let P : List (Arc Node Global) → Type 0 = λ u. Step half s actor c r (map (λ a. held a.value) u) s' in
-    subst P (sym none) step
 
 numbers_none : (a : ℕ) (lines : List Line) (n : ℕ) → n ≡ 0 → numbers_of a (take n lines) ≡ []
 numbers_none a lines n e = ap (λ (k : ℕ). numbers_of a (take k lines)) e

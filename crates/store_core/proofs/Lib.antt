@@ -3,7 +3,7 @@ pub mod States
 pub mod Waiting
 pub mod Journals
 pub mod Finding
-pub mod Asking
+pub mod Opens
 pub mod Listing
 pub mod Tables
 pub mod Founds
@@ -11,3 +11,7 @@ pub mod Parts
 pub mod Putting
 pub mod Numbering
 pub mod Dumps
+pub mod Following
+pub mod Viewing
+pub mod Paging
+pub mod Charging

@@ -1,31 +1,21 @@
 -- The state over a store, as the store changes.
-use Rattle.std.proofs.Common.{◌≡◌, inl, inr, ℕ, List, [], ◌∷◌, Option, None, Some, Result, Ok, Err, refl, sym, ap, ◌∙◌, subst}
+use Rattle.std.proofs.Common.{◌≡◌, ℕ, List, [], ◌∷◌, Option, None, Some, refl, sym, ap, ◌∙◌, subst}
 use Rattle.std.specs.Option.{option_or}
-use Rattle.std.specs.Prelude.{Bool, true, false, not, ◌&&◌, is_some, if◌then◌else◌, IfOk, IfErr, OnOk}
+use Rattle.std.specs.Prelude.{Bool, true, false, not, ◌&&◌, is_some, if◌then◌else◌}
 use Rattle.std.specs.FinMap as map
 use Rattle.std.specs.FinSet as set
 use Rattle.std.specs.FinSet.{contains-difference, same_set}
 use Rattle.std.specs.FinMap.{nat_cmp-IsAntisymmetric, slice_cmp-IsAntisymmetric}
 use Rattle.std.specs.Cmp.Lexicographic.{nat_list_cmp_total}
 use Rattle.rotating_store.proofs.Merging.{contains_hashes}
-use Rattle.ledger_spec.specs.declared.Kind.{Kind}
 use Rattle.ledger_spec.specs.Bytes.{Bytes, Hash, Half, Nodes}
 use Rattle.ledger_spec.specs.Maps.{SetOf, hashes_in, hash_cmp}
-use Rattle.ledger_spec.specs.Wire.{read_wire}
 use Rattle.ledger_spec.specs.Own.{AreStored}
-use Rattle.ledger_spec.specs.declared.outcomes.Offered.{Offered}
-use Rattle.ledger_spec.specs.declared.outcomes.HeadOffered.{HeadOffered}
-use Rattle.ledger_spec.specs.declared.outcomes.HeadOffered.TheVariants as head
-use Rattle.ledger_spec.specs.Offers.{Clash, head_forms, head_outcome, node_outcome, stored_by}
-use Rattle.ledger_machine.specs.Offers.{after_head, after_node}
 use Rattle.ledger_machine.specs.State.{State, form_in, opening, with_form, with_forms}
 use Rattle.rotating_store.specs.Stores.{Store, merged, nodes_of, born_of, Counted, with_pair}
 use Rattle.rotating_store.proofs.Merging.{get-merged, same_nodes, merged-insert, born_put}
-use Rattle.node_offer.specs.declared.fault.OfferFault.{OfferFault}
-use Rattle.node_offer.specs.declared.fault.OfferFault.TheVariants as fault
 use Rattle.node_offer.specs.Stored as store
 use Rattle.store_core.specs.Desks.{over}
-use Rattle.store_core.specs.Refusals.{Leaves}
 
 -- this is the state over this store
 pub record IsOver (st : Store) (s : State) : Type 0 where
@@ -69,83 +59,6 @@ pub stored_over : (half : Half) (st st' : Store) (s : State) (forms : List Bytes
     → over st' s ≡ with_forms half s forms
 stored_over half st st' s forms is e =
     ap (λ (x : Store). over x s) e ∙ sym (all_over half st s forms) ∙ ap (λ (x : State). with_forms half x forms) (over_self st s is)
-
-head_stores : (half : Half) (s : State) (bytes : Bytes) (o : HeadOffered)
-    → after_head half s bytes (Ok o) ≡ with_forms half s (head_forms (Ok o) bytes)
-head_stores half s bytes head.Good = refl
-head_stores half s bytes head.Duplicate = refl
-head_stores half s bytes (head.BadLength n) = refl
-head_stores half s bytes (head.BadHash found) = refl
-
-pub head_outcome_over : (half : Half) (st : Store) (s : State) (t : Hash) (bytes : Bytes) (r : Result HeadOffered OfferFault) → IsOver st s
-    → IfOk r (λ o. head_outcome half (map.get (nodes_of st)) t bytes ≡ Ok o) → IfOk r (λ o. head_outcome half (form_in s) t bytes ≡ Ok o)
-head_outcome_over half st s t bytes (Ok o) is outcome = ap (λ (n : Nodes). head_outcome half (map.get n) t bytes) is.nodes ∙ outcome
-head_outcome_over half st s t bytes (Err e) is outcome = tt
-
-pub head_after_over : (half : Half) (st st' : Store) (s : State) (t : Hash) (bytes : Bytes) (r : Result HeadOffered OfferFault)
-    → IsOver st s
-    → IfOk r (λ o. head_outcome half (map.get (nodes_of st)) t bytes ≡ Ok o)
-    → IfOk r (λ o. store.HasForms half (head_forms (Ok o) bytes) st st')
-    → OnOk r (over st' s ≡ after_head half s bytes (head_outcome half (form_in s) t bytes))
-head_after_over half st st' s t bytes (Ok o) is outcome stored =
-    stored_over half st st' s (head_forms (Ok o) bytes) is stored ∙ sym (head_stores half s bytes o)
-    ∙ ap (after_head half s bytes) (sym (head_outcome_over half st s t bytes (Ok o) is outcome))
-head_after_over half st st' s t bytes (Err e) is outcome stored = tt
-
-pub node_outcome_over : (half : Half) (st : Store) (s : State) (t : Hash) (kind : Kind) (path : List ℕ) (blob : Bytes)
-    (r : Result Offered OfferFault)
-    → IsOver st s → IfOk r (λ o. node_outcome half (map.get (nodes_of st)) t kind path blob ≡ Ok o)
-    → IfOk r (λ o. node_outcome half (form_in s) t kind path blob ≡ Ok o)
-node_outcome_over half st s t kind path blob (Ok o) is outcome =
-    ap (λ (n : Nodes). node_outcome half (map.get n) t kind path blob) is.nodes ∙ outcome
-node_outcome_over half st s t kind path blob (Err e) is outcome = tt
-
-pub node_after_over : (half : Half) (st st' : Store) (s : State) (t : Hash) (kind : Kind) (path : List ℕ) (blob : Bytes)
-    (r : Result Offered OfferFault) → IsOver st s → IfOk r (λ o. node_outcome half (map.get (nodes_of st)) t kind path blob ≡ Ok o)
-    → IfOk r (λ o. store.HasForms half (stored_by (read_wire half blob) (Ok o)) st st')
-    → OnOk r (over st' s ≡ after_node half s t kind path blob)
-node_after_over half st st' s t kind path blob (Ok o) is outcome stored =
-    stored_over half st st' s (stored_by (read_wire half blob) (Ok o)) is stored
-    ∙ ap (λ w. with_forms half s (stored_by (read_wire half blob) w)) (sym (node_outcome_over half st s t kind path blob (Ok o) is outcome))
-node_after_over half st st' s t kind path blob (Err e) is outcome stored = tt
-
--- what a refused part leaves
-leaves_over : {X : Type 0} (half : Half) (st st' : Store) (s : State) (o : Result X Clash) (forms : List Bytes) (e : OfferFault)
-    → IsOver st s
-    → store.Refuses half o forms st e st' → Leaves half o forms s e (over st' s)
-leaves_over half st st' s o forms (fault.Clash h old new) is r = (r.0, same_over st st' s is r.1)
-leaves_over half st st' s o forms fault.Fault is (inl same) = inl (same_over st st' s is same)
-leaves_over half st st' s o forms fault.Fault is (inr stored) = inr (stored_over half st st' s forms is stored)
-leaves_over half st st' s o forms fault.Memory is (inl same) = inl (same_over st st' s is same)
-leaves_over half st st' s o forms fault.Memory is (inr stored) = inr (stored_over half st st' s forms is stored)
-
-pub head_leaves_over : (half : Half) (st st' : Store) (s : State) (t : Hash) (bytes : Bytes) (r : Result HeadOffered OfferFault)
-    → IsOver st s
-    → IfErr r (λ e. store.Refuses half (head_outcome half (map.get (nodes_of st)) t bytes)
-    (head_forms (head_outcome half (map.get (nodes_of st)) t bytes) bytes) st e st')
-    → IfErr r (λ e. Leaves half (head_outcome half (form_in s) t bytes) (head_forms (head_outcome half (form_in s) t bytes) bytes) s e
-    (over st' s))
-head_leaves_over half st st' s t bytes (Ok o) is left = tt
-head_leaves_over half st st' s t bytes (Err e) is left =
-    subst (λ (n : Nodes). Leaves half (head_outcome half (map.get n) t bytes)
-    (head_forms (head_outcome half (map.get n) t bytes) bytes) s e (over st' s))
-    (sym is.nodes)
-    (leaves_over {X = HeadOffered} half st st' s (head_outcome half (map.get (nodes_of st)) t bytes)
-    (head_forms (head_outcome half (map.get (nodes_of st)) t bytes) bytes) e is left)
-
-pub node_leaves_over : (half : Half) (st st' : Store) (s : State) (t : Hash) (kind : Kind) (path : List ℕ) (blob : Bytes)
-    (r : Result Offered OfferFault) → IsOver st s
-    → IfErr r (λ e. store.Refuses half (node_outcome half (map.get (nodes_of st)) t kind path blob)
-    (stored_by (read_wire half blob) (node_outcome half (map.get (nodes_of st)) t kind path blob)) st e st')
-    → IfErr r (λ e. Leaves half (node_outcome half (form_in s) t kind path blob)
-    (stored_by (read_wire half blob) (node_outcome half (form_in s) t kind path blob)) s e (over st' s))
-node_leaves_over half st st' s t kind path blob (Ok o) is left = tt
-node_leaves_over half st st' s t kind path blob (Err e) is left =
-    subst (λ (n : Nodes). Leaves half (node_outcome half (map.get n) t kind path blob)
-    (stored_by (read_wire half blob) (node_outcome half (map.get n) t kind path blob)) s e (over st' s))
-    (sym is.nodes)
-    (leaves_over {X = Offered} half st st' s (node_outcome half (map.get (nodes_of st)) t kind path blob)
-    (stored_by (read_wire half blob) (node_outcome half (map.get (nodes_of st)) t kind path blob)) e is left)
 
 pub filed_over : (half : Half) (st : Store) (s : State) → IsOver st s → AreStored half (form_in s) → AreStored half (map.get (nodes_of st))
 filed_over half st s is all = subst (λ (n : Nodes). AreStored half (map.get n)) is.nodes all

@@ -14,6 +14,7 @@ use Rattle.ledger_machine.specs.State.{State, form_in, retained}
 use Rattle.ledger_machine.specs.Sound.{Sound}
 use Rattle.ledger_machine.specs.Runs.{Answers, IsRunOf, opening_of, Projects, answered_by, actors, Waits, next_line}
 use Rattle.ledger_machine.specs.Receipts.{AllStay}
+use Rattle.ledger_machine.specs.Exact.{AreEveryMaps}
 use Rattle.ledger_machine.specs.Complete.{IsAllStored, AreExact}
 use Rattle.ledger_machine.specs.Collisions.{IsClash, Collides, offered_in}
 use Rattle.run_io.specs.Bytes.{Rose}
@@ -105,6 +106,9 @@ pub record IsMachineRun (half : Half) (c : CoreView) : Type 0 where
   pub checks : (along : IsRun half c) → AreExact half c.lines (opening_of c.records c.interval) c.journal c.state along
   -- what an answer says was received for a target stays, as long as the target is open or its ledger retained
   pub received : (along : IsRun half c) → AllStay half c.lines (opening_of c.records c.interval) c.journal c.state along
+  -- what a read of a view says of a key is what each map of that kind with the view's root has there, or the nodes that it used and
+  -- the map's show two different nodes with one hash
+  pub reads : (along : IsRun half c) → AreEveryMaps half c.lines (opening_of c.records c.interval) c.journal c.state along
   -- each form is stored under its own hash, and each retained ledger is whole
   pub sound : Sound half c.state
   -- nothing that a retained ledger reaches is absent

@@ -1,6 +1,7 @@
 pub mod Desks
-pub mod Finding
+pub mod Wanting
 pub mod Refusals
 pub mod Journal
 pub mod Dumping
 pub mod Totals
+pub mod Reads

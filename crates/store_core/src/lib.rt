@@ -1,10 +1,14 @@
 //! The core of the store: a script, the journal of what was answered, and the state after it.
 #![tactic(auto)]
 
-mod acquire;
-mod header;
+mod acquiring;
+mod laws;
 mod machine;
+mod pages;
 mod records;
 mod store;
+mod told;
+mod views;
 
+pub use laws::what_is_wanted_charges_nobody;
 pub use store::{Core, OpenFault, Stepped};

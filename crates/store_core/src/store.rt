@@ -153,12 +153,12 @@ impl<H: NodeHash, Sh: Shelf> Core<H, Sh> {
             return Stepped::Blocked;
         }
         let line = &self.script.lines[at];
-        let reply = self.machine.answer(alloc, actor, &line.command);
+        let (reply, used) = self.machine.answer(alloc, actor, &line.command);
         let entry = Entry {
             line: line.number,
             actor,
             reply,
-            used: Vec::new(alloc),
+            used,
         };
         self.journal.push(entry).unwrap();
         self.cursors[actor as usize] = at + 1;
@@ -201,10 +201,11 @@ impl<H: NodeHash, Sh: Shelf> Core<H, Sh> {
     /// What was answered so far.
     pub fn journal(&self) -> &[Entry]
         ensures journal { result.now ≡ self.now.journal }
-        // A run from the opening, each check exact, to a sound state, and what else holds each time.
+        // A run from the opening, each check exact and each read every map's, to a sound state, and what else holds each time.
         ensures kept { IsJournal H.half Sh.B.tells self.now }
         ensures few { length self.now.journal ≤ length self.now.lines }
     {
+        known_half::<H>();
         &self.journal
     }
 

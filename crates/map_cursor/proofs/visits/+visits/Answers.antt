@@ -111,6 +111,7 @@ visit_branches-loop-b-init g t c =
       visited = nothing_done _ c.args.query.now.kind _ _ _ _ _ (λ rest. refl);
       further = λ all. all;
       same = λ told. refl;
+      rest = refl;
       later =
           omega arith;
     }
@@ -144,5 +145,6 @@ visit_branches-loop-b-preserved g t c = record {
       c.in_ok-visit.ensures.visited;
   further = λ all. c.in_ok-visit.ensures.further (c.loop-b.invariant.further all);
   same = λ told. c.in_ok-visit.ensures.same told ∙ c.loop-b.invariant.same told;
+  rest = c.in_ok-visit.ensures.rest ∙ c.loop-b.invariant.rest;
   later = omega arith;
 }

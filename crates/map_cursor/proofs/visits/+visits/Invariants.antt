@@ -22,5 +22,6 @@ invariant-visit_branches-loop-b g l = record {
       (shown l.fn.page) (shown l.page);
   further : HasFurther l.query.after l.fn.page → HasFurther l.query.after l.page;
   same : IsTrue g.S.NodeSource.tells → g.S.NodeSource.stored l.source ≡ g.S.NodeSource.stored l.fn.source;
+  rest : g.S.NodeSource.rest l.source ≡ g.S.NodeSource.rest l.fn.source;
   later : g.S.NodeSource.faults l.fn.source ≤ g.S.NodeSource.faults l.source;
 }

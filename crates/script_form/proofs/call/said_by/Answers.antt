@@ -10,7 +10,8 @@ pub returns-in-Peer : goal.returns-in-Peer
 returns-in-Peer c = read_as c.args.form form.Peer (texts c.args.arguments.now) (Ok c.peer_of.result) c.in-Peer.is c.peer_of.ensures
 
 pub returns-in-Base : goal.returns-in-Base
-returns-in-Base c = read_as c.args.form form.Base _ _ c.in-Base.is (base_read c.args.arguments.now (rw c.in-Base.is at c.requires) _ c.base_of.ensures)
+returns-in-Base c = read_as c.args.form form.Base _ _ c.in-Base.is (base_read c.args.arguments.now
+    (rw c.in-Base.is at c.requires) _ c.base_of.ensures)
 
 pub returns-in-BaseState : goal.returns-in-BaseState
 returns-in-BaseState c = read_as c.args.form form.BaseState _ _ c.in-BaseState.is c.base_state_of.ensures
@@ -26,3 +27,16 @@ returns-in-Check c = read_as c.args.form form.Check (texts c.args.arguments.now)
 
 pub returns-in-Tick : goal.returns-in-Tick
 returns-in-Tick c = read_as c.args.form form.Tick (texts c.args.arguments.now) (Ok c.tick_of.result) c.in-Tick.is c.tick_of.ensures
+
+pub returns-in-View : goal.returns-in-View
+returns-in-View c = read_as c.args.form form.View (texts c.args.arguments.now) (Ok c.view_of.result) c.in-View.is c.view_of.ensures
+
+pub returns-in-Unview : goal.returns-in-Unview
+returns-in-Unview c = read_as c.args.form form.Unview (texts c.args.arguments.now)
+    (Ok c.unview_of.result) c.in-Unview.is c.unview_of.ensures
+
+pub returns-in-Get : goal.returns-in-Get
+returns-in-Get c = read_as c.args.form form.Get (texts c.args.arguments.now) (Ok c.get_of.result) c.in-Get.is c.get_of.ensures
+
+pub returns-in-Page : goal.returns-in-Page
+returns-in-Page c = read_as c.args.form form.Page (texts c.args.arguments.now) (Ok c.page_of.result) c.in-Page.is c.page_of.ensures

@@ -1,28 +1,53 @@
-use Rattle.std.proofs.Common.{sym, ◌∙◌}
-use Rattle.store_core.proofs.States.{base_after}
-use Rattle.store_core.proofs.Parts.{base_asked, base_judged}
+-- the acquisition that is lent is open, and stays so whatever it is charged
+use Rattle.std.proofs.Common.{◌≡◌, [], Some, refl, sym, subst}
+use Rattle.ledger_spec.specs.Maps.{ForHash, hash_cmp, get_in, set_in}
+use Rattle.ledger_spec.specs.Acquiring.{Acquiring}
+use Rattle.ledger_spec.specs.Own.{AreStored}
+use Rattle.ledger_machine.specs.State.{State}
+use Rattle.ledger_machine.specs.declared.commands.Command.{Command}
+use Rattle.ledger_machine.specs.declared.commands.Command.TheVariants as command
+use Rattle.ledger_machine.specs.Steps.{Step}
+use Rattle.acquire_core.specs.Answers.{forms_in}
+use Rattle.rotating_store.specs.Stores.{Store}
+use Rattle.store_core.specs.Desks.{over}
+use Rattle.store_core.specs.Wanting.{AreOpen, base_answer}
+use Rattle.store_core.proofs.Opens.{set_open, found_open, based_open, taken_desk}
+use Rattle.store_core.proofs.Parts.{step_base, same_parts}
+use Rattle.store_core.proofs.Tables.{IsOver, filed_over}
 use Rattle.store_core.proofs.machine.Machine.base.Goals as goal
 
--- the peer serves the open acquisition, so the reply is what its parts come to
-pub returns-clause-reply : goal.returns-clause-reply
-returns-clause-reply g c told =
-    base_judged g.H.NodeHash.half c.args.self.now.state c.args.target.now c.args.header.now c.args.state.now c.args.tx.now c.args.peer
-    c.in-Some.acquire.now
-    c.offer_parts.result (rw (← c.self.view_is) (sym c.in-Some.ensures.value)) (sym c.is_present.ensures ∙ c.if-not-is_present.false)
-    (c.offer_parts.ensures.reply told)
+-- a charge is no tick and changes no target
+pub invariant_of-self-2 : goal.invariant_of-self-2
+invariant_of-self-2 g c =
+    let t = c.args.target.now in
+    let wanted : ForHash Acquiring = c.self.inside.wanted.entries in
+    let a : Acquiring = c.in-Some.acquire.now in
+    subst AreOpen (sym (c.get_mut.follows.holds c.base-taken.new.self).0)
+    (set_open t wanted c.base-taken.new.self c.self.invariant
+    (based_open t a c.base-taken.new.self c.args.peer c.base-taken.result c.base-taken.ensures.after
+    (found_open t wanted a c.self.invariant (sym c.in-Some.ensures.value))))
 
--- the peer serves the open acquisition, so it was asked, and parts that aren't judged to their end are a reply that isn't
-pub returns-clause-err : goal.returns-clause-err
-returns-clause-err g c told =
-    base_asked g.H.NodeHash.half c.args.self.now.state c.args.target.now c.args.header.now c.args.state.now c.args.tx.now c.args.peer
-    c.in-Some.acquire.now
-    c.offer_parts.new.self.state c.offer_parts.result
-    (rw (← c.self.view_is) (sym c.in-Some.ensures.value)) (sym c.is_present.ensures ∙ c.if-not-is_present.false)
-    (c.offer_parts.ensures.err told)
-
--- the parts were judged, so the reply says them
-pub returns-clause-after : goal.returns-clause-after
-returns-clause-after g c told =
-    base_after g.H.NodeHash.half c.args.self.now.state _ c.args.peer c.args.target.now c.args.header.now c.args.state.now c.args.tx.now
-    c.offer_parts.result
-    (c.offer_parts.ensures.reply told) (c.offer_parts.ensures.after told)
+-- what the acquisition answers over the store is what the machine's row answers over the state
+pub returns-clause-step : goal.returns-clause-step
+returns-clause-step g c told actor =
+    let half = g.H.NodeHash.half in
+    let s : State = c.args.self.now.state in
+    let t = c.args.target.now in
+    let st : Store = c.self.inside.store in
+    let st' : Store = c.base-taken.new.store in
+    let a : Acquiring = c.in-Some.acquire.now in
+    let a' : Acquiring = c.base-taken.new.self in
+    let asks : Command = command.Base c.args.peer t c.args.header.now c.args.state.now c.args.tx.now in
+    let after : State = record (over st' s) { wanted = set_in hash_cmp s.wanted t a' } in
+    let is : IsOver st s = rw (← c.self.view_is) (record { nodes = refl; born = refl; epoch = refl }) in
+    let at : get_in hash_cmp s.wanted t ≡ Some a = rw (← c.self.view_is) (sym c.in-Some.ensures.value) in
+    let own : a.target ≡ t = (found_open t c.self.inside.wanted.entries a c.self.invariant (sym c.in-Some.ensures.value)).own in
+    let all : AreStored half (forms_in st) = filed_over half st s is (c.requires.filed told) in
+    let answers = same_parts half st st' a c.args.peer c.base-taken.result c.args.header.now _ c.args.state.now _ c.args.tx.now _
+    c.bytes.ensures c.lent-state.ensures c.lent-tx.ensures (c.base-taken.ensures.answer told all) in
+    let step : Step half s actor asks (base_answer c.base-taken.result) [] after =
+    step_base half st st' s t c.args.peer a a' is at own c.args.header.now c.args.state.now c.args.tx.now c.known_half.ensures
+    c.requires.offered actor c.known.ensures.turning c.base-taken.result c.base-taken.ensures.after answers in
+    let same = taken_desk t _ _ c.self.view_is _ st' a' (c.get_mut.follows.holds c.base-taken.new.self).0 in
+    rw c.base_answer.ensures
+    (subst (λ (x : State). Step half s actor asks (base_answer c.base-taken.result) [] x) (sym same) step)

@@ -1,16 +1,18 @@
 -- what the search found decides as the machine's row does
-use Rattle.std.proofs.Common.{◌≡◌, refl, sym, subst, ap, ◌∙◌, Some, length, arith}
-use Rattle.run_io.specs.Bytes.{Rose}
+use Rattle.std.proofs.Common.{refl, sym, ap, ◌∙◌, length, arith}
 use Rattle.ledger_spec.specs.Maps.{hash_cmp, get_in}
-use Rattle.ledger_machine.specs.State.{State}
+use Rattle.ledger_spec.specs.Acquiring.{after_verdict}
+use Rattle.missing_walk.specs.Sees.{Finds}
+use Rattle.own_forms.proofs.Reading.{stored_notes}
+use Rattle.acquire_core.specs.Replies.{found_verdict}
+use Rattle.ledger_machine.specs.State.{State, form_in, with_wanted, stored_seq}
 use Rattle.ledger_machine.specs.Check.{after_check}
 use Rattle.store_core.specs.Desks.{Desk, over}
-use Rattle.store_core.specs.Finding.{found_seq}
-use Rattle.own_forms.proofs.Reading.{stored_notes}
-use Rattle.store_core.proofs.States.{on_err, handed_on}
+use Rattle.store_core.specs.Wanting.{judged_by, check_told}
+use Rattle.store_core.proofs.States.{on_err}
 use Rattle.store_core.proofs.Tables.{IsOver, same_over, filed_over}
-use Rattle.store_core.proofs.Founds.{check_found, finds_own, found_seq_is}
-use Rattle.store_core.proofs.Listing.{checked_few}
+use Rattle.store_core.proofs.Founds.{check_found, check_settled, check_unsettled, finds_own, found_seq_is}
+use Rattle.store_core.proofs.Listing.{settled_few}
 use Rattle.store_core.proofs.machine.Machine.check.Goals as goal
 
 -- all that is stored are own forms, so the search finds what is missing of the ledger, and that decides the reply
@@ -18,15 +20,15 @@ pub returns-clause-reply : goal.returns-clause-reply
 returns-clause-reply g c told =
     let half = g.H.NodeHash.half in
     let s : State = c.args.self.now.state in
-    let at : get_in hash_cmp c.args.self.now.state.wanted c.args.target.now ≡ Some c.in-Some.acquire.now =
-    rw (← c.self.view_is) (sym c.in-Some.ensures.value)
-    in
-    let is : IsOver c.self.inside.store s = rw (← c.self.view_is) (record { nodes = refl; born = refl; epoch = refl }) in
-    let finds = finds_own half c.self.inside.store s c.args.target.now c.in_ok-found.found is (c.requires told)
-    (c.in_ok-found.ensures.found (told, stored_notes half c.self.inside.store (filed_over half c.self.inside.store s is (c.requires told)))) in
-    check_found half s c.args.target.now c.in-Some.acquire.now _ _ _ c.in_ok-found.found c.in_ok-reply.reply at c.seq-asked.ensures
-    (ap (λ (d : Desk). d.state.wanted) c.self.view_is) (ap (λ (d : Desk). d.state.floor) c.self.view_is) finds
-    (c.in_ok-reply.ensures.reply finds.header.reads)
+    let t = c.args.target.now in
+    let st = c.self.inside.store in
+    let is : IsOver st s = rw (← c.self.view_is) (record { nodes = refl; born = refl; epoch = refl }) in
+    let finds : Finds half (form_in s) t c.in_ok-found.found = finds_own half st s t c.in_ok-found.found is (c.requires told)
+    (c.in_ok-found.ensures.found (told, stored_notes half st (filed_over half st s is (c.requires told)))) in
+    c.check_told.ensures
+    ∙ ap check_told (c.in_ok-reply.ensures.reply
+    ∙ ap (λ (d : Desk). judged_by (get_in hash_cmp d.state.wanted t) d.state.floor c.in_ok-found.found) c.self.view_is)
+    ∙ check_found half s t c.in_ok-found.found finds
 
 -- the search only read, so the state changes as the reply says, with the sequence of the stored header
 pub returns-clause-after : goal.returns-clause-after
@@ -34,44 +36,54 @@ returns-clause-after g c told =
     let half = g.H.NodeHash.half in
     let s : State = c.args.self.now.state in
     let t = c.args.target.now in
-    let is : IsOver c.self.inside.store s = rw (← c.self.view_is) (record { nodes = refl; born = refl; epoch = refl }) in
-    let finds = finds_own half c.self.inside.store s t c.in_ok-found.found is (c.requires told)
-    (c.in_ok-found.ensures.found (told, stored_notes half c.self.inside.store (filed_over half c.self.inside.store s is (c.requires told)))) in
-    c.in_ok-reply.ensures.after
-    ∙ ap (λ (x : State). after_check x t (found_seq c.in_ok-found.found) c.in_ok-reply.reply)
+    let st = c.self.inside.store in
+    let f = c.in_ok-found.found in
+    let is : IsOver st s = rw (← c.self.view_is) (record { nodes = refl; born = refl; epoch = refl }) in
+    let finds : Finds half (form_in s) t f = finds_own half st s t f is (c.requires told)
+    (c.in_ok-found.ensures.found (told, stored_notes half st (filed_over half st s is (c.requires told)))) in
+    let reply = c.in_ok-reply.ensures.reply
+    ∙ ap (λ (d : Desk). judged_by (get_in hash_cmp d.state.wanted t) d.state.floor f) c.self.view_is in
+    let asked = c.in_ok-reply.ensures.after
+    ∙ ap (λ (x : State). with_wanted x t (λ a. after_verdict a (found_verdict a x.floor f)))
     (ap (λ (d : Desk). over c.whole.new.store d.state) c.self.view_is
-    ∙ same_over c.self.inside.store c.whole.new.store s is (c.whole.ensures.read.same told))
-    ∙ ap (λ n. after_check s t n c.in_ok-reply.reply) (found_seq_is half s t c.in_ok-found.found finds)
+    ∙ same_over st c.whole.new.store s is (c.whole.ensures.read.same told)) in
+    check_settled s t s.floor f c.judge.new.self.state c.settle.new.self.state c.found_seq.result c.in_ok-reply.reply reply asked
+    c.in_ok-settle.ensures.ok
+    ∙ ap (λ n. after_check s t n (check_told c.in_ok-reply.reply)) (c.found_seq.ensures ∙ found_seq_is half s t f finds)
+    ∙ ap (after_check s t (stored_seq s t)) (sym c.check_told.ensures)
+
+-- only to list a complete ledger wants memory, and its acquisition stayed as it was
+pub returns-in_err-settle-clause-err : goal.returns-in_err-settle-clause-err
+returns-in_err-settle-clause-err g c told =
+    let s : State = c.args.self.now.state in
+    let t = c.args.target.now in
+    let st = c.self.inside.store in
+    let f = c.in_ok-found.found in
+    let is : IsOver st s = rw (← c.self.view_is) (record { nodes = refl; born = refl; epoch = refl }) in
+    let reply = c.in_ok-reply.ensures.reply
+    ∙ ap (λ (d : Desk). judged_by (get_in hash_cmp d.state.wanted t) d.state.floor f) c.self.view_is in
+    let asked = c.in_ok-reply.ensures.after
+    ∙ ap (λ (x : State). with_wanted x t (λ a. after_verdict a (found_verdict a x.floor f)))
+    (ap (λ (d : Desk). over c.whole.new.store d.state) c.self.view_is
+    ∙ same_over st c.whole.new.store s is (c.whole.ensures.read.same told)) in
+    on_err c.from_residual-in_err-settle.result (ap (λ (d : Desk). d.state) c.in_err-settle.ensures.err.1
+    ∙ check_unsettled s t s.floor f c.judge.new.self.state c.in_ok-reply.reply reply asked c.in_err-settle.ensures.err.0)
 
 -- a reply lists one ledger at most, and neither the search nor the judgement takes a fault back
 pub returns-clause-grows : goal.returns-clause-grows
 returns-clause-grows g c = record {
-  later = omega (arith, c.whole.ensures.read.later.faults, ap (λ (d : Desk). d.faults) c.self.view_is, c.judge.ensures.faults);
-  few = checked_few (over c.whole.new.store c.args.self.now.state) c.judge.new.self.state c.args.target.now
-      (found_seq c.in_ok-found.found) c.in_ok-reply.reply
-      (length c.args.self.now.state.listed)
-      (c.in_ok-reply.ensures.after ∙ ap (λ (x : State). after_check x c.args.target.now (found_seq c.in_ok-found.found) c.in_ok-reply.reply)
-      (ap (λ (d : Desk). over c.whole.new.store d.state) c.self.view_is)) refl;
+  later = omega (
+    arith,
+    c.whole.ensures.read.later.faults,
+    ap (λ (d : Desk). d.faults) c.self.view_is,
+    c.judge.ensures.faults,
+    c.settle.ensures.faults,
+  );
+  few = omega (
+    arith,
+    settled_few c.judge.new.self.state c.args.target.now c.found_seq.result c.in_ok-reply.reply,
+    ap (λ (x : State). length x.listed) c.in_ok-settle.ensures.ok,
+    ap (λ (x : State). length x.listed) c.in_ok-reply.ensures.after,
+    ap (λ (d : Desk). length d.state.listed) c.self.view_is,
+  );
 }
-
--- the search only read the store, so without an answer the state is as it was
-pub returns-in_err-found-clause-err : goal.returns-in_err-found-clause-err
-returns-in_err-found-clause-err g c told =
-    let s : State = c.args.self.now.state in
-    let is : IsOver c.self.inside.store s = rw (← c.self.view_is) (record { nodes = refl; born = refl; epoch = refl }) in
-    on_err c.from_residual.result (ap (λ (d : Desk). over c.whole.new.store d.state) c.self.view_is
-    ∙ same_over c.self.inside.store c.whole.new.store s is (c.whole.ensures.read.same told))
-
-pub returns-in_err-found-clause-fault : goal.returns-in_err-found-clause-fault
-returns-in_err-found-clause-fault g c =
-    handed_on _ _ _ c.from_residual.ensures.1
-    (λ f. subst (λ n. Rose n c.whole.new.store.faults) (ap (λ (d : Desk). d.faults) c.self.view_is) (c.in_err-found.ensures.fault f))
-
--- the search only read the store, and a judgement without memory changes nothing, so the state is as it was
-pub returns-in_err-reply-clause-err : goal.returns-in_err-reply-clause-err
-returns-in_err-reply-clause-err g c told =
-    let s : State = c.args.self.now.state in
-    let is : IsOver c.self.inside.store s = rw (← c.self.view_is) (record { nodes = refl; born = refl; epoch = refl }) in
-    on_err c.from_residual-in_err-reply.result (ap (λ (d : Desk). d.state) c.in_err-reply.ensures.err
-    ∙ ap (λ (d : Desk). over c.whole.new.store d.state) c.self.view_is
-    ∙ same_over c.self.inside.store c.whole.new.store s is (c.whole.ensures.read.same told))

@@ -1,57 +1,47 @@
-use Rattle.std.proofs.Common.{◌≡◌, ◌≢◌, sym, ◌∙◌, ap, Option, ℕ, [], rules}
-use Rattle.std.proofs.lemmas.Grind.{common_steps}
-use Rattle.ledger_machine.specs.declared.replies.CheckReply.TheVariants as check
-use Rattle.ledger_machine.specs.Check.{missing_reply}
-use Rattle.ledger_machine.specs.State.{Acquisition}
-use Rattle.store_core.specs.Finding.{place_reply}
-use Rattle.store_core.specs.Refusals.{asked_reply}
-use Rattle.store_core.proofs.States.{asked_after}
-use Rattle.store_core.proofs.Founds.{head_decides, places_answer, open_at, lent_verdict}
+-- the acquisition that is lent is open, and a check leaves it so
+use Rattle.std.proofs.Common.{Option, Some, sym, ◌∙◌, ap, subst}
+use Rattle.ledger_spec.specs.Maps.{ForHash, hash_cmp, get_in, set_in}
+use Rattle.ledger_spec.specs.Acquiring.{Acquiring, after_verdict}
+use Rattle.acquire_core.specs.Replies.{found_verdict}
+use Rattle.store_core.specs.Desks.{Desk}
+use Rattle.store_core.specs.Wanting.{IsOpen, AreOpen, judged_by}
+use Rattle.store_core.proofs.States.{set_same, same_desk, on_err}
+use Rattle.store_core.proofs.Opens.{set_open, found_open, judged_open, changed_desk}
 use Rattle.store_core.proofs.machine.Machine.judge.Goals as goal
 
--- the header refuses the ledger
-pub returns-in-Some-clause-reply : goal.returns-in-Some-clause-reply
-returns-in-Some-clause-reply g c reads =
-    head_decides _ c.args.asked c.args.self.now.state.floor c.args.found c.head_fault.result c.in-Some.fault c.requires
-    (lent_verdict c.args.asked c.args.self.now.state.floor c.as_ref.result c.args.found.header c.head_fault.result c.as_ref.ensures.value
-    (rw (← c.self.view_is) c.head_fault.ensures.verdict) reads)
-    c.in-Some.is
+-- without memory the lent acquisition was given back as it was
+pub invariant_of-self-in_err-check : goal.invariant_of-self-in_err-check
+invariant_of-self-in_err-check g c =
+    subst AreOpen (sym ((c.get_mut.follows.holds c.check.new.self).0 ∙ set_same _ _ _ (sym c.in-Some.ensures.value
+    ∙ ap Some (sym c.in_err-check.ensures.err))))
+    c.self.invariant
 
--- a place is broken
-pub returns-in-Some-broken-clause-reply : goal.returns-in-Some-broken-clause-reply
-returns-in-Some-broken-clause-reply g c reads =
-    places_answer _ c.args.asked c.args.self.now.state.floor c.args.found c.head_fault.result _ c.requires
-    (lent_verdict c.args.asked c.args.self.now.state.floor c.as_ref.result c.args.found.header c.head_fault.result c.as_ref.ensures.value
-    (rw (← c.self.view_is) c.head_fault.ensures.verdict) reads)
-    c.in_default.is
-    (λ a at. ap (λ (n : ℕ). check.Malformed c.in-Some-broken.place n) c.number.ensures
-    ∙ ap (place_reply a c.args.found) (sym c.in-Some-broken.is))
+-- the lent acquisition was given back as it was
+pub returns-in_err-check-clause-err : goal.returns-in_err-check-clause-err
+returns-in_err-check-clause-err g c =
+    on_err c.from_residual.result (same_desk _ _ c.self.view_is _ ((c.get_mut.follows.holds c.check.new.self).0
+    ∙ set_same _ _ _ (sym c.in-Some.ensures.value ∙ ap Some (sym c.in_err-check.ensures.err))))
 
--- nothing is missing
-pub returns-then-is_empty-clause-reply : goal.returns-then-is_empty-clause-reply
-returns-then-is_empty-clause-reply g c reads =
-    let none : c.args.found.missing ≡ [] = search (rules, common_steps) in
-    places_answer _ c.args.asked c.args.self.now.state.floor c.args.found c.head_fault.result _ c.requires
-    (lent_verdict c.args.asked c.args.self.now.state.floor c.as_ref.result c.args.found.header c.head_fault.result c.as_ref.ensures.value
-    (rw (← c.self.view_is) c.head_fault.ensures.verdict) reads)
-    c.in_default.is
-    (λ a at. sym (ap (place_reply a c.args.found) c.in_default-broken.is ∙ ap (missing_reply a) none))
+-- a check changes at most the turns and what was asked
+pub invariant_of-self-2 : goal.invariant_of-self-2
+invariant_of-self-2 g c =
+    subst AreOpen (sym (c.get_mut.follows.holds c.check.new.self).0)
+    (set_open c.args.target.now c.self.inside.wanted.entries c.check.new.self c.self.invariant
+    (subst (IsOpen c.args.target.now) (sym c.in_ok-check.ensures.after)
+    (judged_open c.args.target.now c.in-Some.acquire.now _
+    (found_open c.args.target.now c.self.inside.wanted.entries c.in-Some.acquire.now c.self.invariant (sym c.in-Some.ensures.value)))))
 
--- places are missing
+-- the floor and the acquisition are the state's
 pub returns-clause-reply : goal.returns-clause-reply
-returns-clause-reply g c reads =
-    let same : c.as_slice.result.now ≡ c.args.found.missing = search (rules, common_steps) in
-    places_answer _ c.args.asked c.args.self.now.state.floor c.args.found c.head_fault.result _ c.requires
-    (lent_verdict c.args.asked c.args.self.now.state.floor c.as_ref.result c.args.found.header c.head_fault.result c.as_ref.ensures.value
-    (rw (← c.self.view_is) c.head_fault.ensures.verdict) reads)
-    c.in_default.is
-    (λ a at. c.in_ok-ask.ensures.reply ∙ ap (λ (o : Option Acquisition). asked_reply o c.as_slice.result.now) at
-    ∙ ap (missing_reply a) same ∙ sym (ap (place_reply a c.args.found) c.in_default-broken.is))
+returns-clause-reply g c =
+    c.in_ok-check.ensures.answer
+    ∙ ap (λ (o : Option Acquiring). judged_by o c.self.inside.floor c.args.found.now) c.in-Some.ensures.value
+    ∙ ap (λ (d : Desk). judged_by (get_in hash_cmp d.state.wanted c.args.target.now) d.state.floor c.args.found.now) c.self.view_is
 
--- places are missing, so at most the acquisition changes, by what it asks, and nothing is listed
+-- only the acquisition changes
 pub returns-clause-after : goal.returns-clause-after
 returns-clause-after g c =
-    let some : c.as_slice.result.now ≢ [] = search (rules, common_steps) in
-    let w = open_at _ c.requires in
-    c.in_ok-ask.ensures.after ∙ asked_after c.args.self.now.state c.args.target.now w.0 _ c.as_slice.result.now c.in_ok-ask.field-0 w.1
-    some c.in_ok-ask.ensures.reply
+    let wanted : ForHash Acquiring = c.self.inside.wanted.entries in
+    changed_desk c.args.target.now _ _ c.self.view_is _ c.in-Some.acquire.now
+    (λ d a. after_verdict a (found_verdict a d.state.floor c.args.found.now)) (sym c.in-Some.ensures.value)
+    ((c.get_mut.follows.holds c.check.new.self).0 ∙ ap (set_in hash_cmp wanted c.args.target.now) c.in_ok-check.ensures.after)

@@ -1,12 +1,53 @@
-use Rattle.std.proofs.Common.{sym, ◌∙◌}
-use Rattle.store_core.proofs.Parts.{node_asked}
+-- the acquisition that is lent is open, and stays so whatever it is charged
+use Rattle.std.proofs.Common.{◌≡◌, [], Some, refl, sym, subst}
+use Rattle.ledger_spec.specs.Maps.{ForHash, hash_cmp, get_in, set_in}
+use Rattle.ledger_spec.specs.Acquiring.{Acquiring}
+use Rattle.ledger_spec.specs.Own.{AreStored}
+use Rattle.ledger_machine.specs.State.{State}
+use Rattle.ledger_machine.specs.declared.commands.Command.{Command}
+use Rattle.ledger_machine.specs.declared.commands.Command.TheVariants as command
+use Rattle.ledger_machine.specs.Steps.{Step}
+use Rattle.acquire_core.specs.Answers.{forms_in}
+use Rattle.rotating_store.specs.Stores.{Store}
+use Rattle.store_core.specs.Desks.{over}
+use Rattle.store_core.specs.Wanting.{AreOpen, node_answer}
+use Rattle.store_core.proofs.Opens.{set_open, found_open, noded_open, taken_desk}
+use Rattle.store_core.proofs.Parts.{step_node, same_blob}
+use Rattle.store_core.proofs.Tables.{IsOver, filed_over}
 use Rattle.store_core.proofs.machine.Machine.node.Goals as goal
 
--- the peer serves the open acquisition, so an offer that isn't judged is a node that isn't, and leaves at most its form
-pub returns-in_err-offered-clause-err : goal.returns-in_err-offered-clause-err
-returns-in_err-offered-clause-err g c told =
-    node_asked g.H.NodeHash.half c.args.self.now.state c.args.target.now c.args.kind c.args.id.now c.args.blob.now c.args.peer
-    c.in-Some.acquire.now
-    c.offer.new.self.state c.in_err-offered.field-0.0 c.from_residual.result
-    (rw (← c.self.view_is) (sym c.in-Some.ensures.value)) (sym c.is_present.ensures ∙ c.if-not-is_present.false)
-    (c.in_err-offered.ensures.err told) c.from_residual.ensures.1
+-- a charge is no tick and changes no target
+pub invariant_of-self-2 : goal.invariant_of-self-2
+invariant_of-self-2 g c =
+    let t = c.args.target.now in
+    let wanted : ForHash Acquiring = c.self.inside.wanted.entries in
+    let a : Acquiring = c.in-Some.acquire.now in
+    subst AreOpen (sym (c.get_mut.follows.holds c.node-taken.new.self).0)
+    (set_open t wanted c.node-taken.new.self c.self.invariant
+    (noded_open t a c.node-taken.new.self c.args.peer c.node-taken.result c.node-taken.ensures.after
+    (found_open t wanted a c.self.invariant (sym c.in-Some.ensures.value))))
+
+-- what the acquisition answers over the store is what the machine's row answers over the state
+pub returns-clause-step : goal.returns-clause-step
+returns-clause-step g c told actor =
+    let half = g.H.NodeHash.half in
+    let s : State = c.args.self.now.state in
+    let t = c.args.target.now in
+    let st : Store = c.self.inside.store in
+    let st' : Store = c.node-taken.new.store in
+    let a : Acquiring = c.in-Some.acquire.now in
+    let a' : Acquiring = c.node-taken.new.self in
+    let asks : Command = command.Node c.args.peer t c.args.kind c.args.id.now c.args.blob.now in
+    let after : State = record (over st' s) { wanted = set_in hash_cmp s.wanted t a' } in
+    let is : IsOver st s = rw (← c.self.view_is) (record { nodes = refl; born = refl; epoch = refl }) in
+    let at : get_in hash_cmp s.wanted t ≡ Some a = rw (← c.self.view_is) (sym c.in-Some.ensures.value) in
+    let own : a.target ≡ t = (found_open t c.self.inside.wanted.entries a c.self.invariant (sym c.in-Some.ensures.value)).own in
+    let all : AreStored half (forms_in st) = filed_over half st s is (c.requires.filed told) in
+    let answers = same_blob half st st' a c.args.peer c.args.kind c.args.id.now c.node-taken.result c.args.blob.now _ c.bytes.ensures
+    (c.node-taken.ensures.answer told all) in
+    let step : Step half s actor asks (node_answer c.node-taken.result) [] after =
+    step_node half st st' s t c.args.peer a a' is at own c.args.kind c.args.id.now c.args.blob.now c.known_half.ensures
+    c.requires.bytes actor c.known.ensures.turning c.node-taken.result c.node-taken.ensures.after answers in
+    let same = taken_desk t _ _ c.self.view_is _ st' a' (c.get_mut.follows.holds c.node-taken.new.self).0 in
+    rw c.node_answer.ensures
+    (subst (λ (x : State). Step half s actor asks (node_answer c.node-taken.result) [] x) (sym same) step)

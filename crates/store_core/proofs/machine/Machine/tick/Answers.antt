@@ -1,27 +1,42 @@
-use Rattle.std.proofs.Common.{◌≡◌, ◌==◌, ◌+◌, ◌<◌, ℕ, IfSome, Option, Some, if◌then◌else◌, refl, sym, ap, ◌∙◌, subst, arith}
-use Rattle.ledger_spec.specs.Maps.{hash_cmp, get_in}
-use Rattle.ledger_machine.specs.State.{Acquisition}
-use Rattle.ledger_machine.specs.Ticks.{tick_given}
-use Rattle.ledger_machine.specs.declared.replies.TickReply.TheVariants.{Timeout, GaveUp}
+-- the acquisition that is lent is open, so it had fewer than seven ticks; one that is given up is open no more
+use Rattle.std.proofs.Common.{sym, ◌∙◌, ap, subst}
+use Rattle.ledger_spec.specs.Maps.{ForHash, hash_cmp, set_in, remove_in}
+use Rattle.ledger_spec.specs.Acquiring.{Acquiring}
+use Rattle.ledger_spec.specs.Peers.{after_tick}
+use Rattle.store_core.specs.Wanting.{AreOpen}
+use Rattle.store_core.proofs.Opens.{set_open, found_open, remove_open, remove_set, ticked_open, removed_desk}
 use Rattle.store_core.proofs.machine.Machine.tick.Goals as goal
 
--- there were six ticks before, so this is the seventh, which gives the acquisition up
-pub returns-then-ticks-eq-LAST_TICK-clause-reply : goal.returns-then-ticks-eq-LAST_TICK-clause-reply
-returns-then-ticks-eq-LAST_TICK-clause-reply g c =
-    let at : get_in hash_cmp c.args.self.now.state.wanted c.args.target.now ≡ Some c.in-Some.acquire.now =
-    rw (← c.self.view_is) (sym c.in-Some.ensures.value)
-    in
-    let six : c.in-Some.acquire.now.ticks ≡ 6 = omega (arith, c.ticks.ensures.count, c.if-ticks-eq-LAST_TICK.true) in
-    sym (ap tick_given at ∙ ap (λ (n : ℕ). if n == 6 then GaveUp 7 else Timeout (n + 1)) six)
+pub tick-requires : goal.tick-requires
+tick-requires g c =
+    (found_open c.args.target.now c.self.inside.wanted.entries c.in-Some.acquire.now c.self.invariant (sym c.in-Some.ensures.value)).awaited
 
-pub returns-then-ticks-eq-LAST_TICK-clause-after : goal.returns-then-ticks-eq-LAST_TICK-clause-after
-returns-then-ticks-eq-LAST_TICK-clause-after g c = rw (← c.self.view_is, c.remove.ensures.entries) refl
+-- it isn't the seventh tick, so there were fewer than six before
+pub invariant_of-self-in-Timeout : goal.invariant_of-self-in-Timeout
+invariant_of-self-in-Timeout g c =
+    let wanted : ForHash Acquiring = c.self.inside.wanted.entries in
+    let a : Acquiring = c.in-Some.acquire.now in
+    let after : Acquiring = record a { peers = after_tick a.peers } in
+    let is = (c.get_mut.follows.holds c.tick.new.self).0 ∙ ap (set_in hash_cmp wanted c.args.target.now) c.in-Timeout.ensures.after in
+    subst AreOpen (sym is)
+    (set_open c.args.target.now wanted after c.self.invariant
+    (ticked_open c.args.target.now a c.in-Timeout.number (sym c.in-Timeout.ensures.answer)
+    (found_open c.args.target.now wanted a c.self.invariant (sym c.in-Some.ensures.value))))
 
--- an open acquisition has had at most six ticks, and here not six, so fewer
-pub wait-requires-after_bounds : goal.wait-requires-after_bounds
-wait-requires-after_bounds g c =
-    let at : get_in hash_cmp c.args.self.now.state.wanted c.args.target.now ≡ Some c.in-Some.acquire.now =
-    rw (← c.self.view_is) (sym c.in-Some.ensures.value)
-    in
-    let few : c.in-Some.acquire.now.ticks < 6 = omega (arith, c.ticks.ensures.count, c.ticks.ensures.few, c.if-ticks-eq-LAST_TICK.false) in
-    λ κs within. subst (λ (o : Option Acquisition). IfSome o (λ a. a.ticks < 6)) (sym at) few
+-- the others stay open
+pub invariant_of-self-in-GaveUp : goal.invariant_of-self-in-GaveUp
+invariant_of-self-in-GaveUp g c =
+    let wanted : ForHash Acquiring = c.self.inside.wanted.entries in
+    let is = c.remove.ensures.entries
+    ∙ ap (λ (m : ForHash Acquiring). remove_in hash_cmp m c.args.target.now) (c.get_mut.follows.holds c.tick.new.self).0
+    ∙ remove_set _ wanted c.tick.new.self in
+    subst AreOpen (sym is) (remove_open c.args.target.now wanted c.self.invariant)
+
+-- what is taken out is the acquisition that was open, whatever the tick made of it
+pub returns-in-GaveUp-clause-after : goal.returns-in-GaveUp-clause-after
+returns-in-GaveUp-clause-after g c =
+    let wanted : ForHash Acquiring = c.self.inside.wanted.entries in
+    removed_desk c.args.target.now _ _ c.self.view_is _
+    (c.remove.ensures.entries
+    ∙ ap (λ (m : ForHash Acquiring). remove_in hash_cmp m c.args.target.now) (c.get_mut.follows.holds c.tick.new.self).0
+    ∙ remove_set _ wanted c.tick.new.self)

@@ -2,7 +2,8 @@
 use Rattle.ledger_laws.proofs.Completeness.{retained_stored, run_exact}
 use Rattle.ledger_laws.proofs.Collisions.{clash_collides}
 use Rattle.ledger_laws.proofs.Receipts.{all_stay}
-use Rattle.store_core.proofs.Journals.{kept_few, kept_projects, kept_acquires}
+use Rattle.ledger_laws.proofs.EveryMaps.{reads_exact}
+use Rattle.store_core.proofs.Journals.{kept_few, kept_projects, kept_acquires, kept_ranges}
 use Rattle.store_core.proofs.store.Core.journal.Goals as goal
 
 pub returns-clause-few : goal.returns-clause-few
@@ -18,6 +19,7 @@ returns-clause-kept g c =
         run = k.run told;
         checks = λ run. run_exact g.H.NodeHash.half _ _ _ _ run;
         received = λ run. all_stay g.H.NodeHash.half _ acquires _ _ _ run;
+        reads = λ run. reads_exact g.H.NodeHash.half c.known_half.ensures _ (kept_ranges _ _ _ _ _ _ _ _ _ _ _ _ k) _ _ _ run;
         sound = k.sound told;
         present = λ t i. retained_stored g.H.NodeHash.half _ t (k.sound told) i;
         clashes = λ e among is. clash_collides g.H.NodeHash.half _ _ _ _ _ e k.recorded acquires (k.run told) among is;

@@ -4,9 +4,9 @@ use Rattle.std.proofs.Common.{◌≡◌, ◌≢◌, ℕ, true, take, length, ref
 use Rattle.std.proofs.lemmas.Bool.{false≢true}
 use Rattle.ledger_machine.specs.declared.commands.Line.{Line}
 use Rattle.ledger_machine.specs.Runs.{is_answered}
-use Rattle.ledger_laws.proofs.SoundSteps.{acquiring_step_sound}
+use Rattle.ledger_laws.proofs.SoundSteps.{covered_step_sound}
 use Rattle.store_core.proofs.Journals.{kept_few, kept_less, kept_next, kept_moved, kept_step, kept_done, kept_past, kept_end, kept_served}
-use Rattle.store_core.proofs.Journals.{kept_in_range, served_acquires, moved, moved_end, pushed, answers, used_nothing}
+use Rattle.store_core.proofs.Journals.{kept_in_range, served_acquires, moved, moved_end, pushed, answers}
 use Rattle.store_core.proofs.Waiting.{done_free, next_left, blocked_by, blocked_at, same_line}
 use Rattle.store_core.proofs.store.Core.step.Goals as goal
 use Rattle.store_core.proofs.store.Core.step.Goals.{else-after-ne0-via-then-after-ne0+else-not-is_answered}
@@ -143,8 +143,8 @@ invariant_of-self-2 g c =
     let step = c.answer-reply.ensures.step in
     rw (pushed c.push.result _ _ _ _ c.push.ensures.items c.unwrap.ensures)
     (kept_step _ _ _ _ _ _ _ _ _ _ _ _ k c.args.actor _ (omega (arith, k.cursor_count, c.len.ensures, c.if-actor-len.false)) next
-    c.index-line.result.now c.index-line.ensures _ _ _ _ refl refl free (λ t. used_nothing _ _ _ _ _ _ _ c.new.ensures.items (step t))
-    (λ t. acquiring_step_sound _ c.known_half.ensures _ _ _ _ _ _ served range (k.sound t) (step t))
+    c.index-line.result.now c.index-line.ensures _ _ _ _ refl refl free step
+    (λ t. covered_step_sound _ c.known_half.ensures _ _ _ _ _ _ served range (k.sound t) (step t))
     c.answer-reply.ensures.grows.few c.push.ensures.capacity c.answer-reply.ensures.grows.later
     c.answer-reply.ensures.fault)
 
@@ -159,7 +159,13 @@ returns-clause-answered g c _ =
       next = kept_next _ _ _ _ _ _ _ _ _ _ _ _ k c.args.actor _
           (omega (arith, k.cursor_count, c.len.ensures, c.if-actor-len.false)) next c.index-line.result.now c.index-line.ensures;
       number = refl;
-      entry = record { line = c.index-line.result.now.number; actor = c.args.actor; reply = c.answer-reply.result; used = c.new.result };
+      entry = record {
+        line = c.index-line.result.now.number;
+        actor = c.args.actor;
+        reply = c.answer-reply.result.0;
+        used =
+            c.answer-reply.result.1;
+      };
       records = refl;
       lines = refl;
       interval = refl;
@@ -171,7 +177,7 @@ returns-clause-answered g c _ =
       cause = c.answer-reply.ensures.fault;
       step = λ t. answers g.H.NodeHash.half c.self.inside.script.lines.items c.self.inside.machine.state c.answer-reply.new.self.state
           c.index-line.result.now _ _ _ next c.index-line.ensures refl refl
-          (used_nothing _ _ _ _ _ _ _ c.new.ensures.items (c.answer-reply.ensures.step t));
+          (c.answer-reply.ensures.step t);
     })
 
 pub returns-in_default-clause-few : goal.returns-in_default-clause-few

@@ -1,0 +1,108 @@
+-- Views keep a state sound: each is of a ledger that was retained before.
+use Rattle.std.proofs.Common.{◌≡◌, ⊎_elim, ℕ, ◌++◌, Bool, true, false, not, if◌then◌else◌, ◌||◌, ◌==◌, List, [], ◌∷◌, length}
+use Rattle.std.proofs.Common.{Contains, get_or, refl, sym, arith}
+use Rattle.std.specs.Map.{keys_of, values_of}
+use Rattle.std.specs.List.{All, list_any}
+use Rattle.std.specs.Cmp.{IsTotalOrder}
+use Rattle.std.specs.Cmp.Lexicographic.{same_text}
+use Rattle.std.proofs.lemmas.Cmp.{nat_cmp_total, then_total}
+use Rattle.std.proofs.lemmas.List.Elements.{All-contains, Contains-get_or, Contains-append_cases, Contains-append_left}
+use Rattle.std.proofs.lemmas.List.Elements.{Contains-append_right}
+use Rattle.std.proofs.lemmas.Map.Views.{All-values-insert_entry, All-map-remove_entry}
+use Rattle.ledger_spec.specs.Maps.{ForActor, numbered_cmp, IsMap, insert_in, remove_in, has_in}
+use Rattle.ledger_spec.specs.Bytes.{Hash, Half, same_bytes}
+use Rattle.ledger_machine.specs.State.{State, form_in, retained, bases}
+use Rattle.ledger_machine.specs.Sound.{Sound, IsWholeLedger}
+use Rattle.ledger_machine.specs.Views.{is_retained, view_reply, after_view, after_unview}
+use Rattle.ledger_machine.specs.declared.replies.ViewReply.{ViewReply}
+use Rattle.ledger_machine.specs.declared.replies.ViewReply.TheVariants as view
+use Rattle.ledger_laws.proofs.SoundTables.{insert_rises, remove_rises}
+
+-- the order of an actor's numbers is total
+numbered_total : IsTotalOrder numbered_cmp
+numbered_total = then_total
+    (record {
+      antisymm = λ x y. nat_cmp_total.antisymm x.0 y.0;
+      trans = λ x y z. nat_cmp_total.trans x.0 y.0 z.0;
+      congr = λ x y z. nat_cmp_total.congr x.0 y.0 z.0;
+    })
+    (record {
+      antisymm = λ x y. nat_cmp_total.antisymm x.1 y.1;
+      trans = λ x y z. nat_cmp_total.trans x.1 y.1 z.1;
+      congr = λ x y z. nat_cmp_total.congr x.1 y.1 z.1;
+    })
+
+-- what is found among hashes is one of them
+among : (t : Hash) (ts : List Hash) → list_any (same_bytes t) ts ≡ true → Contains ts t
+among t [] e = cc
+among t (x ∷ ts) e = first (same_bytes t x) refl (among t ts) e
+  where
+    first : (b : Bool) → same_bytes t x ≡ b → (list_any (same_bytes t) ts ≡ true → Contains ts t)
+        → (b || list_any (same_bytes t) ts) ≡ true → Contains (x ∷ ts) t
+    first true same rest found = (0, omega arith, sym (same_text t x (sym same)))
+    first false other rest found = Contains-append_right (x ∷ []) ts t (rest found)
+
+-- a view that is opened is of a retained ledger
+fine_retained : (a b c : Bool) → (if a then view.InUse else if not b then view.NotRetained else if c then view.TooMany
+    else view.Fine) ≡ view.Fine
+    → b ≡ true
+fine_retained true b c e = cc
+fine_retained false false c e = cc
+fine_retained false true c e = refl
+
+-- the ledgers of open views are whole
+pub views_whole : (half : Half) (s : State) → Sound half s → All (IsWholeLedger half (form_in s)) (values_of s.views)
+views_whole half s sound k d lt =
+    let t : Hash = get_or (values_of s.views) k d in
+    sound.retained_whole t (Contains-append_left (keys_of s.listed ++ values_of s.views) (bases s) t
+    (Contains-append_right (keys_of s.listed) (values_of s.views) t (Contains-get_or (values_of s.views) k d lt)))
+
+-- other views, of whole ledgers, keep a state sound
+views_sound : (half : Half) (s : State) (views : ForActor Hash) → Sound half s → (IsMap numbered_cmp s.views → IsMap numbered_cmp views)
+    → All (IsWholeLedger half (form_in s)) (values_of views) → Sound half (record s { views = views })
+views_sound half s views sound rises whole = record {
+  forms = sound.forms;
+  tables = record {
+    listed = sound.tables.listed;
+    wanted = sound.tables.wanted;
+    charges = sound.tables.charges;
+    views = rises sound.tables.views;
+    sessions = sound.tables.sessions;
+    edits = sound.tables.edits;
+  };
+  retained_whole = λ t c. ⊎_elim
+      (λ kept. ⊎_elim
+      (λ listed. sound.retained_whole t (Contains-append_left (keys_of s.listed ++ values_of s.views) (bases s) t
+      (Contains-append_left (keys_of s.listed) (values_of s.views) t listed)))
+      (λ viewed. All-contains (IsWholeLedger half (form_in s)) (values_of views) t whole viewed)
+      (Contains-append_cases (keys_of s.listed) (values_of views) t kept))
+      (λ edited. sound.retained_whole t (Contains-append_right (keys_of s.listed ++ values_of s.views) (bases s) t edited))
+      (Contains-append_cases (keys_of s.listed ++ values_of views) (bases s) t c);
+  listed_seq = sound.listed_seq;
+  base_seq = sound.base_seq;
+}
+
+-- each answer to `view` keeps a state sound
+pub view_sound : (half : Half) (s : State) (v : ℕ × ℕ) (t : Hash) (r : ViewReply) → view_reply s v t ≡ r → Sound half s
+    → Sound half (after_view s v t r)
+view_sound half s v t view.Fine is sound =
+    let kept : is_retained s t ≡ true = fine_retained (has_in numbered_cmp s.views v) (is_retained s t) (length s.views == 1024) is in
+    views_sound half s (insert_in numbered_cmp s.views v t) sound (insert_rises numbered_total s.views v t)
+    (All-values-insert_entry numbered_cmp v t (IsWholeLedger half (form_in s)) s.views (views_whole half s sound)
+    (sound.retained_whole t (among t (retained s) kept)))
+view_sound half s v t view.InUse is sound = sound
+view_sound half s v t view.NotRetained is sound = sound
+view_sound half s v t view.TooMany is sound = sound
+
+-- and so does the end of a view
+pub unview_sound : (half : Half) (s : State) (v : ℕ × ℕ) → Sound half s → Sound half (after_unview s v)
+unview_sound half s v sound =
+    views_sound half s (remove_in numbered_cmp s.views v) sound (remove_rises numbered_cmp _ s.views)
+    (All-map-remove_entry _ (λ e. e.1) (IsWholeLedger half (form_in s)) s.views (views_whole half s sound))
+
+-- what is stored stays with any answer to `view`
+pub view_nodes : (s : State) (v : ℕ × ℕ) (t : Hash) (r : ViewReply) → (after_view s v t r).nodes ≡ s.nodes
+view_nodes s v t view.Fine = refl
+view_nodes s v t view.InUse = refl
+view_nodes s v t view.NotRetained = refl
+view_nodes s v t view.TooMany = refl

@@ -1,0 +1,28 @@
+-- What a store is as a source of nodes.
+use Rattle.std.specs.Prelude.{Bool, is_some, if◌then◌else◌}
+use Rattle.std.specs.FinMap as finite
+use Rattle.ledger_spec.specs.Bytes.{Half, Nodes}
+use Rattle.ledger_spec.specs.Own.{own_form}
+use Rattle.node_backend.specs.declared.back.BackFault.{BackFault}
+use Rattle.node_backend.specs.declared.back.BackFault.TheVariants as back
+use Rattle.path_proof.specs.declared.source.FetchFault.{FetchFault}
+use Rattle.path_proof.specs.declared.source.FetchFault.TheVariants.{Fault, Memory}
+use Rattle.rotating_store.specs.Stores.{Store}
+
+-- of what is stored, the forms that stand under their own hashes
+abbrev pub own_nodes : Half → Nodes → Nodes
+own_nodes half nodes = finite.retain_keys nodes (λ h. is_some (own_form half h (finite.get nodes h)))
+
+-- what asking leaves of a store: all but the counts, where it tells what it holds, and else all but the maps too
+abbrev pub rest_of : Bool → Store → Store
+rest_of tells s = record s {
+  writable = if tells then s.writable else finite.empty;
+  archive = if tells then s.archive else finite.empty;
+  faults = 0;
+  gets = 0;
+}
+
+-- why a fetch fails, by the backend's fault
+abbrev pub fetch_fault : BackFault → FetchFault
+fetch_fault back.Fault = Fault
+fetch_fault back.Memory = Memory

@@ -1,0 +1,12 @@
+use Rattle.std.proofs.Common.{◌≡◌, ◌≢◌, ◌<◌, length, subst, arith}
+use Rattle.script_form.specs.declared.forms.Form.{Form}
+use Rattle.script_form.specs.Commands.{word_in, arguments_in}
+use Rattle.script_form.proofs.Shapes.{form_stands}
+use Rattle.script_form.proofs.forms.form_of.Goals as goal
+
+-- every form stands somewhere among those that were tried
+pub returns : goal.returns
+returns c f =
+    let at = form_stands f in
+    let tried : at.0 < c.loop-form.form-index = omega (arith, at.1, c.loop-form-test.false) in
+    subst (λ (g : Form). c.args.word.now ≡ word_in g → c.args.count ≢ length (arguments_in g)) (at.2 f) (c.loop-form.invariant at.0 f tried)

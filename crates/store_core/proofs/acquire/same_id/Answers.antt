@@ -1,6 +1,0 @@
-use Rattle.std.proofs.Common.{◌∙◌}
-use Rattle.store_core.proofs.Asking.{same_ids}
-use Rattle.store_core.proofs.acquire.same_id.Goals as goal
-
-pub returns : goal.returns
-returns c = c.eq.ensures ∙ same_ids c.args.id.now c.args.other.now c.known.ensures c.known-2.ensures

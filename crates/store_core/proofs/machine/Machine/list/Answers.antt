@@ -1,0 +1,9 @@
+use Rattle.std.proofs.Common.{sym, subst}
+use Rattle.store_core.specs.Wanting.{AreOpen}
+use Rattle.store_core.proofs.Opens.{remove_open}
+use Rattle.store_core.proofs.machine.Machine.list.Goals as goal
+
+-- the other acquisitions stay open
+pub invariant_of-self-2 : goal.invariant_of-self-2
+invariant_of-self-2 g c =
+    subst AreOpen (sym c.remove.ensures.entries) (remove_open c.args.target.now c.self.inside.wanted.entries c.self.invariant)

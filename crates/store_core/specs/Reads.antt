@@ -1,0 +1,42 @@
+-- What the core says of reads.
+use Rattle.std.specs.Prelude.{◌≡◌, ℕ, Option, Some}
+use Rattle.ledger_spec.specs.declared.Kind.{Kind}
+use Rattle.ledger_spec.specs.Bytes.{Hash, Half}
+use Rattle.ledger_spec.specs.Reads.{follow}
+use Rattle.path_proof.specs.declared.reading.Answer.{Answer}
+use Rattle.path_proof.specs.Paths.{held_nodes, outcome_by}
+use Rattle.ledger_machine.specs.declared.commands.Command.{Command}
+use Rattle.ledger_machine.specs.declared.commands.Command.TheVariants as command
+use Rattle.ledger_machine.specs.declared.replies.GetReply.{GetReply}
+use Rattle.ledger_machine.specs.declared.replies.Reply.TheVariants as says
+use Rattle.ledger_machine.specs.Reading.{outcome_of}
+use Rattle.ledger_machine.specs.State.{State}
+use Rattle.ledger_machine.specs.Steps.{Gets, Pages, UsesNodes}
+use Rattle.store_core.specs.declared.views.Got.{Got}
+use Rattle.store_core.specs.declared.pages.Paged.{Paged}
+
+-- the commands that read nothing of nodes
+abbrev pub ReadsNothing : Command → Type 0
+ReadsNothing (command.Get v kind key) = ⊥
+ReadsNothing (command.Page v kind key n) = ⊥
+ReadsNothing _ = Unit {0}
+
+-- the nodes of an answer's path say its outcome of the key
+abbrev pub IsFollowed : Half → Kind → Hash → Hash → Answer → Type 0
+IsFollowed half kind root key a =
+    follow half kind root key (held_nodes a.used.items) ≡ Some (outcome_by (held_nodes a.used.items) a.outcome)
+
+-- the reply says an answer's outcome
+abbrev pub Says : Answer → GetReply → Type 0
+Says a reply = outcome_of (says.Get reply) ≡ Some (outcome_by (held_nodes a.used.items) a.outcome)
+
+-- what a step of the machine gets at a key below a view's root, where the view is open
+pub record IsGot (half : Half) (s : State) (kind : Kind) (key : Hash) (root : Option Hash) (s' : State) (got : Got) : Type 0 where
+  pub gets : Gets half s kind key root (says.Get got.reply) (held_nodes got.used.items) s'
+  pub uses : UsesNodes (says.Get got.reply) (held_nodes got.used.items)
+
+-- what a step of the machine lists behind a key below a view's root, where the view is open
+pub record IsListed (half : Half) (s : State) (kind : Kind) (key : Hash) (n : ℕ) (root : Option Hash) (s' : State) (paged : Paged)
+    : Type 0 where
+  pub pages : Pages half s kind key n root (says.Page paged.reply) (held_nodes paged.used.items) s'
+  pub uses : UsesNodes (says.Page paged.reply) (held_nodes paged.used.items)

@@ -1,0 +1,248 @@
+//! The commands that acquire a ledger from peers. Each is answered by the acquisition that is open under the target.
+ghost use Rattle.std.specs.Prelude.{◌≡◌, [], ℕ, IsTrue, OnOk, OnErr, IfOk, IfErr};
+ghost use Rattle.run_io.specs.Bytes.{Rose};
+ghost use Rattle.std.specs.Option.{option_copied};
+ghost use Rattle.ledger_spec.specs.Bytes.{is_nonzero};
+ghost use Rattle.ledger_spec.specs.Maps.{hash_cmp, get_in};
+ghost use Rattle.ledger_spec.specs.Acquiring.{after_verdict};
+ghost use Rattle.acquire_core.specs.Replies.{found_verdict};
+ghost use Rattle.ledger_machine.specs.Scripts.{AreBytes, AreOffered};
+ghost use Rattle.ledger_machine.specs.State.{stored_seq, with_wanted, ended};
+ghost use Rattle.ledger_machine.specs.Want.{want_reply, after_want};
+ghost use Rattle.ledger_machine.specs.Peer.{peer_reply, after_peer};
+ghost use Rattle.ledger_machine.specs.Check.{check_reply, after_check};
+ghost use Rattle.ledger_machine.specs.Ticks.{tick_reply, after_tick};
+ghost use Rattle.ledger_machine.specs.Steps.{Step};
+ghost use Rattle.store_core.specs.Desks.{IsFiled, Stays, Grows};
+ghost use Rattle.store_core.specs.Wanting.{judged_by, found_seq as seq_found, settled};
+
+use crate::machine::Machine;
+use crate::told::{base_answer, check_told, node_answer, peer_told};
+use acquire_core::{Acquire, CheckReply as Checked, TickReply as Ticked};
+use half_hash::{Blob, Hash32, Memory, NodeHash, known_half};
+use ledger_machine::{
+    BaseReply, CheckReply, Command, NodeReply, PeerReply, Reply, TickReply, WantReply,
+};
+use missing_walk::{Found, SearchFault, whole};
+use nib_path::NodeId;
+use node_backend::Shelf;
+use shamap_node::Kind;
+use std::alloc::Global;
+
+/// The most acquisitions that are open at a time.
+const MOST_WANTED: usize = 64;
+
+impl<H: NodeHash, Sh: Shelf> Machine<H, Sh> {
+    /// Opens an acquisition.
+    pub(crate) fn want(
+        &mut self,
+        alloc: Global,
+        target: &Hash32,
+        seq: u32,
+    ) -> Result<WantReply, Memory>
+        requires { IsTrue (is_nonzero target.now) }
+        ensures reply { IfOk result (λ r. r ≡ want_reply self.old.state target.now seq) }
+        ensures after { IfOk result (λ r. self.new.state ≡ after_want self.old.state target.now seq r) }
+        ensures err { OnErr result (self.new ≡ self.old) }
+        ensures faults { self.new.faults ≡ self.old.faults }
+    {
+        if self.listed.contains_key(target) {
+            return Ok(WantReply::Listed);
+        }
+        if self.wanted.contains_key(target) {
+            return Ok(WantReply::Open);
+        }
+        if seq != 0 && seq < self.floor {
+            return Ok(WantReply::BelowFloor(self.floor));
+        }
+        if self.wanted.len() == MOST_WANTED {
+            return Ok(WantReply::TooMany);
+        }
+        self.wanted
+            .insert(*target, Acquire::new(alloc, *target, seq))?;
+        Ok(WantReply::Opened)
+    }
+
+    /// Adds a peer to an acquisition.
+    pub(crate) fn peer(&mut self, peer: u16, target: &Hash32) -> Result<PeerReply, Memory>
+        ensures reply { IfOk result (λ r. r ≡ peer_reply self.old.state peer target.now) }
+        ensures after { IfOk result (λ _. self.new.state ≡ after_peer self.old.state peer target.now) }
+        ensures err { OnErr result (self.new ≡ self.old) }
+        ensures faults { self.new.faults ≡ self.old.faults }
+    {
+        let Some(acquire) = self.wanted.get_mut(target) else {
+            return Ok(PeerReply::NotOpen);
+        };
+        let reply = acquire.peer(peer)?;
+        Ok(peer_told(reply))
+    }
+
+    /// Takes a base reply of a peer: a header, and the roots of its maps where they are given.
+    pub(crate) fn base(
+        &mut self,
+        alloc: Global,
+        peer: u16,
+        target: &Hash32,
+        header: &Blob,
+        state: &Option<Blob>,
+        tx: &Option<Blob>,
+    ) -> Reply
+        requires filed { IsFiled H.half Sh.B.tells self.old.state }
+        requires offered { AreOffered target.now header.now state.now tx.now }
+        ensures step { IsTrue Sh.B.tells → (actor : ℕ)
+            → Step H.half self.old.state actor (Command.Base peer target.now header.now state.now tx.now) result [] self.new.state }
+        ensures stays { Stays self.old self.new }
+        ensures fault { result ≡ Reply.Fault → Rose self.old.faults self.new.faults }
+    {
+        known_half::<H>();
+        self.known();
+        let Some(acquire) = self.wanted.get_mut(target) else {
+            return Reply::Base(BaseReply::NotOpen);
+        };
+        let (state, tx) = (lent(state), lent(tx));
+        let taken = acquire.base::<H, Sh>(alloc, &mut self.store, peer, header.bytes(), state, tx);
+        base_answer(taken)
+    }
+
+    /// Takes a node of a peer.
+    pub(crate) fn node(
+        &mut self,
+        alloc: Global,
+        peer: u16,
+        target: &Hash32,
+        kind: Kind,
+        id: &NodeId,
+        blob: &Blob,
+    ) -> Reply
+        requires filed { IsFiled H.half Sh.B.tells self.old.state }
+        requires bytes { AreBytes blob.now }
+        ensures step { IsTrue Sh.B.tells → (actor : ℕ)
+            → Step H.half self.old.state actor (Command.Node peer target.now kind id.now blob.now) result [] self.new.state }
+        ensures stays { Stays self.old self.new }
+        ensures fault { result ≡ Reply.Fault → Rose self.old.faults self.new.faults }
+    {
+        known_half::<H>();
+        self.known();
+        let Some(acquire) = self.wanted.get_mut(target) else {
+            return Reply::Node(NodeReply::NotOpen);
+        };
+        let taken = acquire.node::<H, Sh>(alloc, &mut self.store, peer, kind, id, blob.bytes());
+        node_answer(taken)
+    }
+
+    /// Searches for what is missing of a ledger, and lists it where nothing is and it is acceptable.
+    pub(crate) fn check(
+        &mut self,
+        alloc: Global,
+        target: &Hash32,
+    ) -> Result<CheckReply, SearchFault>
+        requires { IsFiled H.half Sh.B.tells self.old.state }
+        ensures reply { IsTrue Sh.B.tells → IfOk result (λ r. r ≡ check_reply H.half self.old.state target.now) }
+        ensures after { IsTrue Sh.B.tells
+            → IfOk result (λ r. self.new.state ≡ after_check self.old.state target.now (stored_seq self.old.state target.now) r) }
+        ensures err { IsTrue Sh.B.tells → OnErr result (self.new.state ≡ self.old.state) }
+        ensures grows { Grows self.old self.new }
+        ensures fault { IfErr result (λ e. e ≡ SearchFault.Fault → Rose self.old.faults self.new.faults) }
+    {
+        if !self.wanted.contains_key(target) {
+            return Ok(CheckReply::NotOpen);
+        }
+        let found = whole::<H, Sh>(alloc, &mut self.store, target)?;
+        let reply = self.judge(alloc, target, &found)?;
+        self.settle(target, found_seq(&found), &reply)?;
+        Ok(check_told(reply))
+    }
+
+    // What an acquisition comes to by what a search found.
+    fn judge(&mut self, alloc: Global, target: &Hash32, found: &Found) -> Result<Checked, Memory>
+        ensures reply { IfOk result (λ r. r ≡ judged_by (get_in hash_cmp self.old.state.wanted target.now) self.old.state.floor found.now) }
+        ensures after { IfOk result (λ _. self.new.state ≡ with_wanted self.old.state target.now
+            (λ a. after_verdict a (found_verdict a self.old.state.floor found.now))) }
+        ensures err { OnErr result (self.new ≡ self.old) }
+        ensures faults { self.new.faults ≡ self.old.faults }
+    {
+        let floor = self.floor;
+        let Some(acquire) = self.wanted.get_mut(target) else {
+            return Ok(Checked::NotOpen);
+        };
+        Ok(acquire.check(alloc, found, floor)?)
+    }
+
+    // Ends what the answer ends: a complete ledger is listed, and one that isn't acceptable is wanted no more.
+    fn settle(&mut self, target: &Hash32, seq: u32, reply: &Checked) -> Result<(), Memory>
+        ensures ok { OnOk result (self.new.state ≡ settled self.old.state target.now seq reply.now) }
+
+        // only to list a ledger takes memory
+        ensures err { OnErr result ((reply.now ≡ Checked.Complete) × (self.new ≡ self.old)) }
+        ensures faults { self.new.faults ≡ self.old.faults }
+    {
+        match reply {
+            Checked::Complete => self.list(target, seq)?,
+            Checked::SeqDiffers { .. }
+            | Checked::ZeroState
+            | Checked::BelowFloor(_)
+            | Checked::Malformed { .. } => self.end(target),
+            _ => {}
+        }
+        Ok(())
+    }
+
+    // Lists a ledger with a sequence, and ends its acquisition.
+    fn list(&mut self, target: &Hash32, seq: u32) -> Result<(), Memory>
+        ensures ok { OnOk result (self.new.state ≡ after_check self.old.state target.now seq CheckReply.Complete) }
+        ensures err { OnErr result (self.new ≡ self.old) }
+        ensures faults { self.new.faults ≡ self.old.faults }
+    {
+        self.listed.insert(*target, seq)?;
+        self.wanted.remove(target);
+        self.last = Some(self.last.unwrap_or(seq));
+        Ok(())
+    }
+
+    // Ends an acquisition.
+    fn end(&mut self, target: &Hash32)
+        ensures after { self.new.state ≡ ended self.old.state target.now }
+        ensures faults { self.new.faults ≡ self.old.faults }
+    {
+        self.wanted.remove(target);
+    }
+
+    /// Takes a tick of an acquisition; the seventh gives it up.
+    pub(crate) fn tick(&mut self, target: &Hash32) -> TickReply
+        ensures reply { result ≡ tick_reply self.old.state target.now }
+        ensures after { self.new.state ≡ after_tick self.old.state target.now result }
+        ensures faults { self.new.faults ≡ self.old.faults }
+    {
+        let Some(acquire) = self.wanted.get_mut(target) else {
+            return TickReply::NotOpen;
+        };
+        match acquire.tick() {
+            Ticked::Timeout(number) => TickReply::Timeout(number),
+            Ticked::GaveUp(number) => {
+                self.wanted.remove(target);
+                TickReply::GaveUp(number)
+            }
+            Ticked::NotOpen => TickReply::NotOpen,
+        }
+    }
+}
+
+// The bytes of a part that is given.
+fn lent(blob: &Option<Blob>) -> Option<&[u8]>
+    ensures { option_copied result ≡ blob.now }
+{
+    match blob {
+        Some(blob) => Some(blob.bytes()),
+        None => None,
+    }
+}
+
+// The sequence of the header that was found, 0 where none was.
+fn found_seq(found: &Found) -> u32
+    ensures { result ≡ seq_found found.now }
+{
+    match &found.header {
+        Some(header) => header.seq,
+        None => 0,
+    }
+}

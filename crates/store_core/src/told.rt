@@ -1,0 +1,103 @@
+//! The machine's names for what an acquisition answers.
+ghost use Rattle.std.specs.Prelude.{◌≡◌};
+ghost use Rattle.store_core.specs.Refusals.{refusal_of, search_refusal};
+ghost use Rattle.store_core.specs.Wanting as told;
+
+use acquire_core::{
+    BaseReply as Taken, CheckReply as Checked, NodeReply as TakenNode, PeerReply as Joined,
+};
+use ledger_machine::{BaseReply, CheckReply, NodeReply, PeerReply, Reply};
+use missing_walk::SearchFault;
+use node_offer::OfferFault;
+
+/// What became of a peer that joins.
+pub(crate) fn peer_told(reply: Joined) -> PeerReply
+    ensures { result ≡ told.peer_told reply }
+{
+    match reply {
+        Joined::Added => PeerReply::Added,
+        Joined::Known => PeerReply::Known,
+        Joined::NotOpen => PeerReply::NotOpen,
+    }
+}
+
+/// The reply to a base reply of a peer.
+pub(crate) fn base_answer(taken: Result<Taken, OfferFault>) -> Reply
+    ensures { result ≡ told.base_answer taken }
+{
+    match taken {
+        Ok(reply) => Reply::Base(base_told(reply)),
+        Err(fault) => refusal(fault),
+    }
+}
+
+fn base_told(reply: Taken) -> BaseReply
+    ensures { result ≡ told.base_told reply }
+{
+    match reply {
+        Taken::Parts { header, state, tx } => BaseReply::Parts { header, state, tx },
+        Taken::Unasked => BaseReply::Unasked,
+        Taken::NotOpen => BaseReply::NotOpen,
+    }
+}
+
+/// The reply to a node of a peer.
+pub(crate) fn node_answer(taken: Result<TakenNode, OfferFault>) -> Reply
+    ensures { result ≡ told.node_answer taken }
+{
+    match taken {
+        Ok(reply) => Reply::Node(node_told(reply)),
+        Err(fault) => refusal(fault),
+    }
+}
+
+fn node_told(reply: TakenNode) -> NodeReply
+    ensures { result ≡ told.node_told reply }
+{
+    match reply {
+        TakenNode::One(outcome) => NodeReply::One(outcome),
+        TakenNode::Unasked => NodeReply::Unasked,
+        TakenNode::NotOpen => NodeReply::NotOpen,
+    }
+}
+
+/// What a check comes to; a broken rule is told by its number.
+pub(crate) fn check_told(reply: Checked) -> CheckReply
+    ensures { result ≡ told.check_told reply }
+{
+    match reply {
+        Checked::Complete => CheckReply::Complete,
+        Checked::Need { peer, places } => CheckReply::Need { peer, places },
+        Checked::Waiting(places) => CheckReply::Waiting(places),
+        Checked::NoPeer => CheckReply::NoPeer,
+        Checked::SeqDiffers { asked, found } => CheckReply::SeqDiffers { asked, found },
+        Checked::ZeroState => CheckReply::ZeroState,
+        Checked::BelowFloor(floor) => CheckReply::BelowFloor(floor),
+        Checked::Malformed { place, rule } => CheckReply::Malformed {
+            place,
+            rule: rule.number(),
+        },
+        Checked::NotOpen => CheckReply::NotOpen,
+    }
+}
+
+/// The reply where an offer was not judged.
+fn refusal(fault: OfferFault) -> Reply
+    ensures { result ≡ refusal_of fault }
+{
+    match fault {
+        OfferFault::Fault => Reply::Fault,
+        OfferFault::Clash { hash, old, new } => Reply::Clash { hash, old, new },
+        OfferFault::Memory => Reply::Memory,
+    }
+}
+
+/// The reply where a search has no answer.
+pub(crate) fn unsearched(fault: SearchFault) -> Reply
+    ensures { result ≡ search_refusal fault }
+{
+    match fault {
+        SearchFault::Fault => Reply::Fault,
+        SearchFault::Memory => Reply::Memory,
+    }
+}

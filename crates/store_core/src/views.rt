@@ -1,0 +1,174 @@
+//! Views, which pin a ledger under a number of an actor's, and reads of them.
+ghost use Rattle.std.specs.Prelude.{◌≡◌, IsTrue, OnErr, IfErr, IfOk};
+ghost use Rattle.std.specs.List.{list_any};
+ghost use Rattle.std.specs.Map.{values_of};
+ghost use Rattle.ledger_spec.specs.Bytes.{Hash, Half, same_bytes};
+ghost use Rattle.ledger_spec.specs.declared.Kind.{Kind as the_kind};
+ghost use Rattle.run_io.specs.Bytes.{Rose};
+ghost use Rattle.ledger_machine.specs.Views.{is_retained as state_retains, view_reply, after_view, unview_reply, after_unview};
+ghost use Rattle.ledger_machine.specs.Reading.{IsRead, view_root};
+ghost use Rattle.store_core.specs.Desks.{IsFiled, OnlyReads};
+ghost use Rattle.path_proof.specs.Paths.{held_nodes};
+ghost use Rattle.store_core.specs.Reads.{IsFollowed, IsGot, Says};
+
+use crate::machine::Machine;
+use half_hash::{Hash32, Memory, NodeHash};
+use ledger_machine::{GetReply, Reply, ViewReply};
+use node_backend::{BackFault, Shelf};
+use node_offer::root_in;
+use path_proof::{Answer, Outcome, ReadFault, read};
+use rotating_store::RotStore;
+use shamap_node::{Kind, Node};
+use std::alloc::Global;
+use std::collections::BTreeMap;
+use std::sync::Arc;
+
+/// The most views that are open at a time.
+const MOST_VIEWS: usize = 1024;
+
+/// A reply to `get`, with the nodes of the path that was read.
+#[derive(Drop)]
+pub(crate) struct Got {
+    pub(crate) reply: GetReply,
+    pub(crate) used: Vec<Arc<Node>>,
+}
+
+impl<H: NodeHash, Sh: Shelf> Machine<H, Sh> {
+    /// Opens a view of a retained ledger.
+    pub(crate) fn view(
+        &mut self,
+        actor: u8,
+        view: u16,
+        target: &Hash32,
+    ) -> Result<ViewReply, Memory>
+        ensures reply { IfOk result (λ r. r ≡ view_reply self.old.state (actor, view) target.now) }
+        ensures after { IfOk result (λ r. self.new.state ≡ after_view self.old.state (actor, view) target.now r) }
+        ensures err { OnErr result (self.new ≡ self.old) }
+        ensures faults { self.new.faults ≡ self.old.faults }
+    {
+        let id = (actor, view);
+        if self.views.contains_key(&id) {
+            return Ok(ViewReply::InUse);
+        }
+        if !self.is_retained(target) {
+            return Ok(ViewReply::NotRetained);
+        }
+        if self.views.len() == MOST_VIEWS {
+            return Ok(ViewReply::TooMany);
+        }
+        self.views.insert(id, *target)?;
+        Ok(ViewReply::Fine)
+    }
+
+    /// Whether the ledger is listed, or pinned by a view.
+    fn is_retained(&self, target: &Hash32) -> bool
+        ensures { result ≡ state_retains self.now.state target.now }
+    {
+        self.listed.contains_key(target) || is_pinned(&self.views, target)
+    }
+
+    /// Ends a view; whether it was open.
+    pub(crate) fn unview(&mut self, actor: u8, view: u16) -> bool
+        ensures reply { result ≡ unview_reply self.old.state (actor, view) }
+        ensures after { self.new.state ≡ after_unview self.old.state (actor, view) }
+        ensures faults { self.new.faults ≡ self.old.faults }
+    {
+        self.views.remove(&(actor, view)).is_some()
+    }
+
+    /// Reads a key in the map of a view.
+    pub(crate) fn get(
+        &mut self,
+        alloc: Global,
+        actor: u8,
+        view: u16,
+        kind: Kind,
+        key: &Hash32,
+    ) -> Result<Got, BackFault>
+        requires { IsFiled H.half Sh.B.tells self.old.state }
+        ensures got { IsTrue Sh.B.tells
+            → IfOk result (IsGot H.half self.old.state kind key.now (view_root self.old.state kind (actor, view)) self.new.state) }
+        ensures reads { OnlyReads Sh.B.tells self.old self.new }
+        ensures fault { IfErr result (λ e. e ≡ BackFault.Fault → Rose self.old.faults self.new.faults) }
+    {
+        match self.root_of_view(alloc, actor, view, kind)? {
+            Some(root) => self.read(alloc, &root, kind, key),
+            None => Ok(Got {
+                reply: GetReply::NoView,
+                used: Vec::new(alloc),
+            }),
+        }
+    }
+
+    // The root of the map of this kind of a view's ledger, or none where the view isn't open.
+    pub(crate) fn root_of_view(
+        &mut self,
+        alloc: Global,
+        actor: u8,
+        view: u16,
+        kind: Kind,
+    ) -> Result<Option<Hash32>, BackFault>
+        requires { IsFiled H.half Sh.B.tells self.old.state }
+        ensures root { IsTrue Sh.B.tells → IfOk result (λ r. r ≡ view_root self.old.state kind (actor, view)) }
+        ensures reads { OnlyReads Sh.B.tells self.old self.new }
+        ensures fault { IfErr result (λ e. e ≡ BackFault.Fault → Rose self.old.faults self.new.faults) }
+    {
+        match self.views.get(&(actor, view)).copied() {
+            Some(target) => root_in::<H, Sh>(alloc, &mut self.store, &target, kind),
+            None => Ok(None),
+        }
+    }
+
+    // Reads a key in the map below a root.
+    fn read(
+        &mut self,
+        alloc: Global,
+        root: &Hash32,
+        kind: Kind,
+        key: &Hash32,
+    ) -> Result<Got, BackFault>
+        ensures read { IfOk result (λ got. IsRead H.half kind key.now root.now (Reply.Get got.reply) (held_nodes got.used.items)) }
+        ensures reads { OnlyReads Sh.B.tells self.old self.new }
+        ensures fault { IfErr result (λ e. e ≡ BackFault.Fault → Rose self.old.faults self.new.faults) }
+    {
+        match read::<H, RotStore<Sh>>(alloc, &mut self.store, root, kind, key) {
+            Ok(answer) => answered(answer),
+            Err(ReadFault::Fault) => Err(BackFault::Fault),
+            // the map of a retained ledger is whole, so that only memory was wanted
+            Err(_) => Err(BackFault::Memory),
+        }
+    }
+}
+
+// Whether a view pins the ledger.
+fn is_pinned(views: &BTreeMap<(u8, u16), Hash32>, target: &Hash32) -> bool
+    ensures { result ≡ list_any (same_bytes target.now) (values_of views.now.entries) }
+{
+    views.values().any(|pinned| target.equals(pinned))
+}
+
+// The reply that an answer gives, with its path.
+fn answered(answer: Answer) -> Result<Got, BackFault>
+    ensures got { (half : Half) (kind : the_kind) (root key : Hash) → IsFollowed half kind root key answer
+        → IfOk result (λ got. IsRead half kind key root (Reply.Get got.reply) (held_nodes got.used.items)) }
+    ensures memory { IfErr result (λ e. e ≡ BackFault.Memory) }
+{
+    match said(&answer) {
+        Ok(reply) => Ok(Got {
+            reply,
+            used: answer.used,
+        }),
+        Err(_) => Err(BackFault::Memory),
+    }
+}
+
+// What an answer says of its key: a value is the last node of the path.
+fn said(answer: &Answer) -> Result<GetReply, Memory>
+    ensures { (half : Half) (kind : the_kind) (root key : Hash) → IsFollowed half kind root key answer.now
+        → IfOk result (Says answer.now) }
+{
+    match (answer.outcome, answer.used.last()) {
+        (Outcome::Value, Some(leaf)) => Ok(GetReply::Value(Arc::try_clone(leaf)?)),
+        _ => Ok(GetReply::Nothing),
+    }
+}
