@@ -1,0 +1,23 @@
+-- all that is reached is in the writable backend, which a swap leaves
+use Rattle.online_rotate.proofs.Rotating.{on_err, some_alike, rotated}
+use Rattle.online_rotate.proofs.rotator.rotate.Goals as goal
+
+-- what was copied before the refusal stays
+pub returns-in_err-copy_reached-clause-some : goal.returns-in_err-copy_reached-clause-some
+returns-in_err-copy_reached-clause-some g c told = on_err _ c.from_residual.result (c.copy_reached.ensures.some told)
+
+-- no fresh backend is ready, and what was copied stays
+pub returns-in_err-prepare-clause-some : goal.returns-in_err-prepare-clause-some
+returns-in_err-prepare-clause-some g c told =
+    let same = c.prepare.ensures.same told in
+    on_err _ c.from_residual-in_err-prepare.result
+    (some_alike c.args.shaded.now.keys c.args.store.now c.copy_reached.new.store c.prepare.new.self (c.copy_reached.ensures.some told)
+    same.0 same.1)
+
+-- what was copied is what the swap leaves
+pub returns-clause-rotated : goal.returns-clause-rotated
+returns-clause-rotated g c told =
+    let same = c.prepare.ensures.same told in
+    rotated c.args.shaded.now.keys c.args.store.now c.copy_reached.new.store c.prepare.new.self c.swap.new.self
+    (c.copy_reached.ensures.some told) (c.in_ok-copy_reached.ensures.all told) same.0 same.1 (c.swap.ensures.nodes told)
+    (c.swap.ensures.writable told)

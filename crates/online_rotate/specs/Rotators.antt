@@ -1,0 +1,61 @@
+-- What contracts see of a rotator.
+use Rattle.std.specs.Prelude.{◌≡◌, ◌↔◌, ◌⊎◌, ◌+◌, ℕ, Bool, true, false, List, [], Option, None, Some, is_some, Result, IfOk, OnErr}
+use Rattle.std.specs.List.{Contains}
+use Rattle.ledger_spec.specs.Bytes.{Hash}
+use Rattle.ledger_spec.specs.Retaining.{Retention, IsRootFrom, after_begin, after_finish, floor_behind}
+use Rattle.rotating_store.specs.Stores.{Store}
+use Rattle.rotating_store.specs.declared.store.StoreFault.{StoreFault}
+use Rattle.online_rotate.specs.declared.rotator.Begun.{Begun}
+use Rattle.online_rotate.specs.declared.rotator.Begun.TheVariants as begun
+
+-- whether a rotation is under way, the hashes that it was told to keep, and how many of its slices left something
+pub record Turning : Type 0 where
+  pub turning : Bool
+  pub shaded : List Hash
+  pub slices : ℕ
+
+-- the book has a rotation under way exactly where the rotator has
+abbrev pub InStep : Turning → Retention → Type 0
+InStep t b = t.turning ≡ is_some b.turning
+
+-- the answer to `begin`: busy where a rotation is under way, and else by the sequence at which one is due
+abbrev pub begun_by : Bool → Option ℕ → Option ℕ → Begun
+begun_by true seq last = begun.Busy
+begun_by false None last = begun.NotDue
+begun_by false (Some seq) last = begun.Begun seq (floor_behind last)
+
+-- the rotation begins, and was told to keep the roots for the new floor and these targets
+pub record Begins (b : Retention) (targets : List Hash) (t : Turning) : Type 0 where
+  pub under_way : t.turning ≡ true
+  pub none_sliced : t.slices ≡ 0
+  pub told : (h : Hash) → Contains t.shaded h ↔ (IsRootFrom b (floor_behind b.last) h ⊎ Contains targets h)
+
+-- what `begin` leaves of the rotator, and of the book
+abbrev pub AfterBegin : Retention → List Hash → Turning → Begun → Retention → Turning → Type 0
+AfterBegin b targets t (begun.Begun seq floor) b' t' = (b' ≡ after_begin b) × Begins b targets t'
+AfterBegin b targets t begun.NotDue b' t' = (b' ≡ b) × (t' ≡ t)
+AfterBegin b targets t begun.Busy b' t' = (b' ≡ b) × (t' ≡ t)
+
+-- the rotation was told to keep this hash too
+pub record Shades (t : Turning) (h : Hash) (t' : Turning) : Type 0 where
+  pub told : (q : Hash) → Contains t'.shaded q ↔ (Contains t.shaded q ⊎ (q ≡ h))
+  pub rest : t' ≡ record t { shaded = t'.shaded }
+
+-- the rotation is over, and with it the epoch: in the new one nothing is noted yet
+pub record Ends (t : Turning) (b : Retention) (s : Store) (answer : ℕ) (t' : Turning) (b' : Retention) (s' : Store) : Type 0 where
+  pub rotator : t' ≡ record t { turning = false; shaded = [] }
+  pub book : b' ≡ after_finish b
+  pub new : answer ≡ s.epoch + 1
+  pub epoch : s'.epoch ≡ answer
+  pub notes : s'.noted ≡ []
+
+-- the rotation is under way as before, in the same epoch
+pub record GoesOn (t : Turning) (b : Retention) (s : Store) (t' : Turning) (b' : Retention) (s' : Store) : Type 0 where
+  pub rotator : t' ≡ t
+  pub book : b' ≡ b
+  pub epoch : s'.epoch ≡ s.epoch
+  pub notes : s'.noted ≡ s.noted
+
+-- what `finish` leaves of the rotator, of the book, and of the store's epoch and notes
+abbrev pub AfterFinish : Turning → Retention → Store → Result ℕ StoreFault → Turning → Retention → Store → Type 0
+AfterFinish t b s r t' b' s' = IfOk r (λ epoch. Ends t b s epoch t' b' s') × OnErr r (GoesOn t b s t' b' s')
