@@ -1,6 +1,6 @@
 -- What a run keeps, and how far it has come in line order.
 use Rattle.std.specs.Prelude.{◌≡◌, ℕ, List, true, take}
-use Rattle.std.specs.List.{All}
+use Rattle.std.specs.List.{All, Contains}
 use Rattle.ledger_machine.specs.declared.commands.Line.{Line}
 use Rattle.ledger_machine.specs.declared.commands.Record.{Record}
 use Rattle.ledger_machine.specs.declared.journal.Entry.{Entry}
@@ -34,3 +34,7 @@ pub record IsSameRun (old new : CoreView) : Type 0 where
 -- the first n lines have their entries
 abbrev pub AreAnswered : List Line → List Entry → ℕ → Type 0
 AreAnswered lines journal n = All (λ l. is_answered journal l.number ≡ true) (take n lines)
+
+-- all lines are of one actor
+abbrev pub AreOfOne : List Line → Type 0
+AreOfOne lines = (a : ℕ) × ((l : Line) → Contains lines l → l.actor ≡ a)

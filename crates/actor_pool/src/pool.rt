@@ -1,8 +1,9 @@
 //! One worker for each actor, in rounds.
-ghost use Rattle.std.specs.Prelude.{◌≡◌, ◌<◌, ◌+◌, length};
+ghost use Rattle.std.specs.Prelude.{◌≡◌, ◌↔◌, ◌<◌, ◌+◌, ◌==◌, false, not, length};
+ghost use Rattle.std.specs.List.{list_any};
 ghost use Rattle.ledger_machine.specs.Runs.{Projects, IsFull};
 ghost use Rattle.store_core.specs.Journal.{IsJournal};
-ghost use Rattle.actor_pool.specs.Order.{IsOf, IsSameRun, AreAnswered};
+ghost use Rattle.actor_pool.specs.Order.{IsOf, IsSameRun, AreAnswered, AreOfOne};
 
 use crate::gate::{Gate, Point};
 use crate::shared::{Pinned, Shared, answered_locked, is_left_locked, step_locked, unlocked};
@@ -46,11 +47,20 @@ pub fn run_actors<R: Threads + Wait + Sync, H: NodeHash, Sh: Shelf, G: Gate>(
 }
 
 /// Whether more than one actor has lines. A single one needs no thread.
-fn are_several(lines: &[Line]) -> bool {
-    let Some(first) = lines.first() else {
-        return false;
-    };
-    lines.iter().any(|line| line.actor != first.actor)
+fn are_several(lines: &[Line]) -> bool
+    ensures { (result ≡ false) ↔ AreOfOne lines.now }
+{
+    match lines.first() {
+        Some(first) => has_others(lines, first.actor),
+        None => false,
+    }
+}
+
+// Whether a line is another actor's.
+fn has_others(lines: &[Line], actor: u8) -> bool
+    ensures { result ≡ list_any (λ l. not (l.actor == actor)) lines.now }
+{
+    lines.iter().any(|line| line.actor != actor)
 }
 
 /// What the workers do of the lines, in rounds: while lines are left, and the last round answered

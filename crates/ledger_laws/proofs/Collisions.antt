@@ -1,6 +1,9 @@
--- A clash shows two different forms that the script offers, with one hash.
-use Rattle.std.proofs.Common.{◌≡◌, ◌⊎◌, inl, inr, ⊎_elim, ℕ, Bool, true, false, not, if◌then◌else◌, ◌==◌, List, [], ◌∷◌, ◌++◌, length}
+-- A clash shows two different forms with one hash, and a zero hash a form that has it, of those that a run brings.
+use Rattle.std.proofs.Common.{◌≡◌, ◌⊎◌, inl, inr, ⊎_elim, ℕ, Bool, true, false, not, if◌then◌else◌, ◌==◌}
+use Rattle.std.proofs.Common.{nat_lt, IsTrue, List, [], ◌∷◌, ◌++◌, length}
 use Rattle.std.proofs.Common.{Option, None, Some, is_some, Result, Ok, Err, All, Contains, refl, sym, ap, ◌∙◌, subst}
+use Rattle.std.specs.Option.{option_or}
+use Rattle.std.specs.List.{find}
 use Rattle.std.specs.FinMap as finite
 use Rattle.std.specs.FinSet as set
 use Rattle.std.specs.Cmp.Lexicographic.{same_text, other_text}
@@ -8,8 +11,9 @@ use Rattle.std.proofs.lemmas.List.Elements.{All-nil, All-cons, All-weaker, All-c
 use Rattle.ledger_spec.specs.declared.Kind.{Kind}
 use Rattle.ledger_spec.specs.declared.Kind.TheVariants as kinds
 use Rattle.ledger_spec.specs.declared.ShapeFault.{ShapeFault}
-use Rattle.ledger_spec.specs.Maps.{hash_cmp, get_in}
-use Rattle.ledger_spec.specs.Bytes.{Bytes, Hash, Half, Lookup, Nodes, same_bytes}
+use Rattle.ledger_spec.specs.Maps.{hash_cmp, numbered_cmp, get_in, has_in}
+use Rattle.ledger_spec.specs.Bytes.{Bytes, Hash, Half, Lookup, Nodes, is_zero, same_bytes}
+use Rattle.ledger_spec.specs.Header.{seq_of}
 use Rattle.ledger_spec.specs.Forms.{Held, form_of, hash_of, header_prefix}
 use Rattle.ledger_spec.specs.Rules.{fault_of}
 use Rattle.ledger_spec.specs.Spots.{Spot, no_base, no_parent, empty_branch, under_leaf, wanted, spot_of}
@@ -35,7 +39,7 @@ use Rattle.ledger_machine.specs.declared.replies.BaseReply.TheVariants as base
 use Rattle.ledger_machine.specs.declared.replies.NodeReply.TheVariants as node
 use Rattle.ledger_machine.specs.declared.replies.Reply.{Reply}
 use Rattle.ledger_machine.specs.declared.replies.Reply.TheVariants as says
-use Rattle.ledger_machine.specs.State.{State, form_in, with_form, with_forms, stored_seq}
+use Rattle.ledger_machine.specs.State.{State, Session, form_in, with_form, with_forms, stored_seq}
 use Rattle.ledger_machine.specs.Want.{want_reply, after_want}
 use Rattle.ledger_machine.specs.Peer.{after_peer}
 use Rattle.ledger_machine.specs.Check.{check_reply, after_check}
@@ -52,8 +56,14 @@ use Rattle.ledger_laws.proofs.SoundViews.{view_nodes}
 use Rattle.ledger_laws.proofs.SoundSteps.{gets_after, pages_after}
 use Rattle.ledger_machine.specs.Scripts.{IsCovered}
 use Rattle.ledger_machine.specs.Steps.{Step, IsAfter, Answered, IsRow, own_forms}
-use Rattle.ledger_machine.specs.Runs.{Run, used_by, opening_of}
-use Rattle.ledger_machine.specs.Collisions.{form_read, part_form, head_form, offered_by, offered_in, Collides, IsClash}
+use Rattle.ledger_machine.specs.Runs.{Run, IsRunOf, used_by, opening_of}
+use Rattle.ledger_machine.specs.Collisions.{form_read, part_form, head_form, offered_by, offered_in, Collides, made_by, made_along}
+use Rattle.ledger_machine.specs.Collisions.{brought_by, HasZero, ShowsIn}
+use Rattle.ledger_machine.specs.declared.replies.CloseReply.TheVariants as close
+use Rattle.ledger_machine.specs.Sessions.{edit_reply, after_edit, after_put, after_tx, after_del, without_session}
+use Rattle.ledger_machine.specs.Closing.{new_header, closing_forms, clash_under, first_clash, closed_or_clash, zero_or, close_given}
+use Rattle.ledger_machine.specs.Closing.{closed, after_close, closes_into, unless_zero}
+use Rattle.ledger_laws.proofs.SoundSessions.{edit_nodes, with_session_nodes}
 use Rattle.ledger_laws.proofs.SoundOffers.{present_form, parts_cases}
 use Rattle.ledger_laws.proofs.SoundKeeps.{shaded_same}
 use Rattle.ledger_laws.proofs.SoundForms.{new_or_old, in_nothing, in_head, in_tail, forms_looked_up}
@@ -179,8 +189,13 @@ module _ (half : Half) (bytes : Bytes) (state tx : Option Bytes) (form : Bytes) 
       (λ three. of_tx (root_read half (behind_state half nodes t bytes state tx) t kinds.Tx tx form three)) more)
       (parts_cases half nodes t bytes state tx form c)
 
--- a command's own forms are among those that it offers
-own_offered : (half : Half) (s : State) (a : ℕ) (c : Command) (form : Bytes) → IsCovered c → Contains (own_forms half s a c) form
+-- a close offers no form, and makes its own
+abbrev IsNoClose : Command → Type 0
+IsNoClose (command.Close x given) = ⊥
+IsNoClose _ = Unit {0}
+
+-- another command's own forms are among those that it offers
+own_offered : (half : Half) (s : State) (a : ℕ) (c : Command) (form : Bytes) → IsNoClose c → Contains (own_forms half s a c) form
     → Contains (offered_by half c) form
 own_offered half s a (command.Base p t bytes state tx) form covered c =
     parts_read half bytes state tx form (form_in s) t
@@ -195,8 +210,34 @@ own_offered half s a (command.Tick t) form covered c = absurd (in_nothing c)
 own_offered half s a (command.View v t) form covered c = absurd (in_nothing c)
 own_offered half s a (command.Unview v) form covered c = absurd (in_nothing c)
 own_offered half s a (command.Get v kind key) form covered c = absurd (in_nothing c)
-own_offered half s a (command.Page v kind key n) form covered c = absurd (in_nothing c)
-own_offered half s a _ form covered c = absurd covered
+own_offered half s a (command.Close x given) form other c = absurd other
+own_offered half s a _ form other c = absurd (in_nothing c)
+
+-- a command's own forms are among these, where those are that it offers and makes
+own_among : (half : Half) (forms : List Bytes) (s : State) (a : ℕ) (c : Command)
+    → ((form : Bytes) → Contains (offered_by half c) form → Contains forms form)
+    → ((form : Bytes) → Contains (made_by half s a c) form → Contains forms form)
+    → (form : Bytes) → Contains (own_forms half s a c) form → Contains forms form
+own_among half forms s a (command.Close x given) each made form i =
+    let all : List Bytes = closes_into half s given (get_in numbered_cmp s.sessions (a, x)) in
+    made form (at (find (λ f. is_zero (half f)) all) all i)
+  where
+    at : (z : Option Bytes) (all : List Bytes) → Contains (unless_zero z all) form → Contains all form
+    at None all c = c
+    at (Some f) all c = absurd (in_nothing c)
+own_among half forms s a c each made form i = each form (own_offered half s a c form tt i)
+
+-- what is found holds
+find_holds : {A : Type 0} (test : A → Bool) (xs : List A) (x : A) → find test xs ≡ Some x → Contains xs x × IsTrue (test x)
+find_holds test [] x e = cc
+find_holds test (y ∷ xs) x e = by (test y) refl e (λ later. find_holds test xs x later)
+  where
+    by : (t : Bool) → test y ≡ t → (if t then Some y else find test xs) ≡ Some x
+        → (find test xs ≡ Some x → Contains xs x × IsTrue (test x)) → Contains (y ∷ xs) x × IsTrue (test x)
+    by true is e later =
+        let same : y ≡ x = cc in
+        (subst (λ z. Contains (y ∷ xs) z) same (in_head y xs), subst (λ z. IsTrue (test z)) same is)
+    by false is e later = let there = later e in (in_tail y x xs there.0, there.1)
 
 -- what isn't a duplicate differs
 differs : {A : Type 0} (b : Bool) (x : A) (d c : Clash) → (if b then Ok x else Err d) ≡ Err c → b ≡ false
@@ -223,51 +264,80 @@ module _ (half : Half) (forms : List Bytes) where
       (λ form c. each form (stored_read (read_wire half blob) (node_outcome half (form_in s) t kind path blob) form c)) from
   node_from s p t kind path blob _ each from = from
 
+  close_from : (s : State) (x : ℕ × ℕ) (given : List ℕ) (reply : Reply)
+      → ((form : Bytes) → Contains (closes_into half s given (get_in numbered_cmp s.sessions x)) form → Contains forms form)
+      → IsFrom half forms s → IsFrom half forms (after_close half s x given reply)
+  close_from s x given (says.Close (close.Closed h)) made from = at (get_in numbered_cmp s.sessions x) made
+    where
+      at : (o : Option Session) → ((form : Bytes) → Contains (closes_into half s given o) form → Contains forms form)
+          → IsFrom half forms (closed half s x given h o)
+      at None made = from
+      at (Some e) made = with_forms_from half forms s (closing_forms half e (new_header half s e given)) made from
+  close_from s x given _ made from = from
+
   row_from : (s : State) (a : ℕ) (c : Command) (reply : Reply) (used : List Held) (s' : State) → IsCovered c
       → ((form : Bytes) → Contains (offered_by half c) form → Contains forms form)
+      → ((form : Bytes) → Contains (made_by half s a c) form → Contains forms form)
       → IsFrom half forms s → Answered half s a c reply used s' → IsFrom half forms s'
-  row_from s a (command.Want t seq) reply used s' covered each from g =
+  row_from s a (command.Want t seq) reply used s' covered each made from g =
       after_from half forms (after_want s t seq (want_reply s t seq)) s' g.after
       (same_from half forms s (after_want s t seq (want_reply s t seq)) (want_nodes s t seq (want_reply s t seq)) from)
-  row_from s a (command.Peer p t) reply used s' covered each from g =
+  row_from s a (command.Peer p t) reply used s' covered each made from g =
       after_from half forms (after_peer s p t) s' g.after
       (same_from half forms s (after_peer s p t) refl from)
-  row_from s a (command.Base p t bytes state tx) reply used s' covered each from g =
+  row_from s a (command.Base p t bytes state tx) reply used s' covered each made from g =
       after_from half forms (after_base half s p t bytes state tx reply) s' g.after (base_from s p t bytes state tx reply each from)
-  row_from s a (command.Node p t kind path blob) reply used s' covered each from g =
+  row_from s a (command.Node p t kind path blob) reply used s' covered each made from g =
       after_from half forms (after_node half s p t kind path blob reply) s' g.after (node_from s p t kind path blob reply each from)
-  row_from s a (command.Check t) reply used s' covered each from g =
+  row_from s a (command.Check t) reply used s' covered each made from g =
       after_from half forms (after_check s t (stored_seq s t) (check_reply half s t)) s' g.after
       (same_from half forms s (after_check s t (stored_seq s t) (check_reply half s t))
       (check_nodes s t (stored_seq s t) (check_reply half s t)) from)
-  row_from s a (command.Tick t) reply used s' covered each from g =
+  row_from s a (command.Tick t) reply used s' covered each made from g =
       after_from half forms (after_tick s t (tick_reply s t)) s' g.after
       (same_from half forms s (after_tick s t (tick_reply s t)) (tick_nodes s t (tick_reply s t)) from)
-  row_from s a (command.View v t) reply used s' covered each from g =
+  row_from s a (command.View v t) reply used s' covered each made from g =
       after_from half forms (after_view s (a, v) t (view_reply s (a, v) t)) s' g.after
       (same_from half forms s (after_view s (a, v) t (view_reply s (a, v) t)) (view_nodes s (a, v) t (view_reply s (a, v) t)) from)
-  row_from s a (command.Unview v) reply used s' covered each from g =
+  row_from s a (command.Unview v) reply used s' covered each made from g =
       after_from half forms (after_unview s (a, v)) s' g.after (same_from half forms s (after_unview s (a, v)) refl from)
-  row_from s a (command.Get v kind key) reply used s' covered each from g =
+  row_from s a (command.Get v kind key) reply used s' covered each made from g =
       after_from half forms s s' (gets_after half s kind key (view_root s kind (a, v)) reply used s' g) from
-  row_from s a (command.Page v kind key n) reply used s' covered each from g =
+  row_from s a (command.Page v kind key n) reply used s' covered each made from g =
       after_from half forms s s' (pages_after half s kind key n (view_root s kind (a, v)) reply used s' g) from
-  row_from s a _ reply used s' covered each from g = absurd covered
+  row_from s a (command.Edit x t) reply used s' covered each made from g =
+      after_from half forms (after_edit half s (a, x) t (edit_reply s (a, x) t)) s' g.after
+      (same_from half forms s (after_edit half s (a, x) t (edit_reply s (a, x) t)) (edit_nodes half s (a, x) t (edit_reply s (a, x) t))
+      from)
+  row_from s a (command.Put x item) reply used s' covered each made from g =
+      after_from half forms (after_put s (a, x) item.key item.value) s' g.after
+      (same_from half forms s (after_put s (a, x) item.key item.value) (with_session_nodes s (a, x) _) from)
+  row_from s a (command.Tx x item) reply used s' covered each made from g =
+      after_from half forms (after_tx s (a, x) item.key item.value) s' g.after
+      (same_from half forms s (after_tx s (a, x) item.key item.value) (with_session_nodes s (a, x) _) from)
+  row_from s a (command.Del x key) reply used s' covered each made from g =
+      after_from half forms (after_del s (a, x) key) s' g.after
+      (same_from half forms s (after_del s (a, x) key) (with_session_nodes s (a, x) _) from)
+  row_from s a (command.Close x given) reply used s' covered each made from g =
+      after_from half forms (after_close half s (a, x) given reply) s' g.after (close_from s (a, x) given reply made from)
+  row_from s a (command.Abandon x) reply used s' covered each made from g =
+      after_from half forms (without_session s (a, x)) s' g.after (same_from half forms s (without_session s (a, x)) refl from)
+  row_from s a _ reply used s' covered each made from g = absurd covered
 
-  -- after each step all that is stored is offered
+  -- after each step all that is stored is offered or made
   step_from : (s : State) (a : ℕ) (c : Command) (reply : Reply) (used : List Held) (s' : State) → IsCovered c
       → ((form : Bytes) → Contains (offered_by half c) form → Contains forms form)
+      → ((form : Bytes) → Contains (made_by half s a c) form → Contains forms form)
       → IsFrom half forms s → Step half s a c reply used s' → IsFrom half forms s'
-  step_from s a c reply used s' covered each from step =
+  step_from s a c reply used s' covered each made from step =
       ⊎_elim
       (λ r. after_from half forms (with_forms half s r.forms) s' r.same
-      (with_forms_from half forms s r.forms (λ form i. each form (own_offered half s a c form covered (r.own form i).0)) from))
-      (λ g. row_from s a c reply used s' covered each from g) (outcome_cases half s a c reply used s' step.outcome)
+      (with_forms_from half forms s r.forms (λ form i. own_among half forms s a c each made form (r.own form i).0) from))
+      (λ g. row_from s a c reply used s' covered each made from g) (outcome_cases half s a c reply used s' step.outcome)
 
   -- a form that isn't the one under its hash is another with that hash
   found_other : (nodes : Lookup) (h : Hash) (old new : Bytes) → AreFrom half forms nodes → nodes h ≡ Some old → half new ≡ h
-      → Contains forms new
-      → same_bytes old new ≡ false → Collides half forms
+      → Contains forms new → same_bytes old new ≡ false → Collides half forms
   found_other nodes h old new from stored own offers apart = record {
     one = old;
     other = new;
@@ -467,64 +537,124 @@ module _ (half : Half) (forms : List Bytes) where
           (λ form c. of_one form (root_read half first t kinds.State state form c))
           (with_forms_from half forms s F1 among_first from)
 
+  -- the first clash of several forms
+  forms_clash : (s : State) (more : List Bytes) (c : Clash) → ((form : Bytes) → Contains more form → Contains forms form)
+      → IsFrom half forms s → first_clash half s more ≡ Some c → Collides half forms
+  forms_clash s [] c each from e = cc
+  forms_clash s (form ∷ more) c each from e =
+      by (form_in s (half form)) refl e (λ rest. forms_clash (with_form half s form) more c (λ f i. each f (in_tail form f more i))
+      (with_form_from half forms s form (each form (in_head form more)) from) rest)
+    where
+      rest : Option Clash
+      rest = first_clash half (with_form half s form) more
+
+      by : (o : Option Bytes) → form_in s (half form) ≡ o → option_or (clash_under (half form) form o) rest ≡ Some c
+          → (rest ≡ Some c → Collides half forms) → Collides half forms
+      by None is e later = later e
+      by (Some old) is e later = at (same_bytes old form) (record { hash = half form; old = old; new = form }) refl e
+        where
+          at : (t : Bool) (d : Clash) → same_bytes old form ≡ t → option_or (if t then None else Some d) rest ≡ Some c → Collides half forms
+          at true d same e = later e
+          at false d apart e = found_other half forms (form_in s) (half form) old form from is refl (each form (in_head form more)) apart
+
+  -- a clash or a zero hash of a close is one of its forms'
+  close_shows : (s : State) (x : ℕ × ℕ) (fields : List ℕ) (o : Option Session) (reply : Reply)
+      → ((form : Bytes) → Contains (closes_into half s fields o) form → Contains forms form) → IsFrom half forms s
+      → close_given half s fields o ≡ reply → ShowsIn half forms reply
+  close_shows s x fields None reply made from e = subst (ShowsIn half forms) e tt
+  close_shows s x fields (Some e) reply made from is =
+      let bytes : Bytes = new_header half s e fields in
+      let all : List Bytes = closing_forms half e bytes in
+      at (length e.accounts == 0) (nat_lt (seq_of bytes) s.floor) (find (λ f. is_zero (half f)) all) refl
+      (has_in hash_cmp s.listed (half (header_prefix ++ bytes))) (first_clash half s all) refl is
+    where
+      whole : List Bytes
+      whole = closing_forms half e (new_header half s e fields)
+
+      at : (a b : Bool) (z : Option Bytes) → find (λ f. is_zero (half f)) whole ≡ z → (d : Bool) (c : Option Clash)
+          → first_clash half s whole ≡ c
+          → (if a then says.Close close.ZeroState else if b then says.Close (close.BelowFloor s.floor)
+          else zero_or z (if d then says.Close close.Listed
+          else closed_or_clash (half (header_prefix ++ new_header half s e fields)) c)) ≡ reply
+          → ShowsIn half forms reply
+      at true b z zero d c clash is = subst (ShowsIn half forms) is tt
+      at false true z zero d c clash is = subst (ShowsIn half forms) is tt
+      at false false (Some form) zero d c clash is =
+          let found : Contains whole form × IsTrue (is_zero (half form)) = find_holds (λ f. is_zero (half f)) whole form zero in
+          subst (ShowsIn half forms) is (record { form = form; among = made form found.0; zero = found.1 })
+      at false false None zero true c clash is = subst (ShowsIn half forms) is tt
+      at false false None zero false None clash is = subst (ShowsIn half forms) is tt
+      at false false None zero false (Some c) clash is = subst (ShowsIn half forms) is (forms_clash s whole c made from clash)
+
   -- a clash in the answer of a row
   row_clash : (s : State) (a : ℕ) (c : Command) (h : Hash) (old new : Bytes) → IsCovered c
-      → ((form : Bytes) → Contains (offered_by half c) form → Contains forms form) → IsFrom half forms s
+      → ((form : Bytes) → Contains (offered_by half c) form → Contains forms form)
+      → ((form : Bytes) → Contains (made_by half s a c) form → Contains forms form) → IsFrom half forms s
       → IsRow half s a c (says.Clash h old new) → Collides half forms
-  row_clash s a (command.Base p t bytes state tx) h old new covered each from e =
+  row_clash s a (command.Base p t bytes state tx) h old new covered each made from e =
       base_clash s p t bytes state tx h old new each from (sym e)
-  row_clash s a (command.Node p t kind path blob) h old new covered each from e =
+  row_clash s a (command.Node p t kind path blob) h old new covered each made from e =
       let r : (c : Clash) × (node_outcome half (form_in s) t kind path blob ≡ Err c) =
       node_present half s p t kind path blob (get_in hash_cmp s.wanted t) h old new (sym e) in
       read_clash half forms (form_in s) t kind path (read_wire half blob) r.0 from each r.1
-  row_clash s a (command.Want t seq) h old new covered each from e = absurd e
-  row_clash s a (command.Peer p t) h old new covered each from e = absurd e
-  row_clash s a (command.Check t) h old new covered each from e = absurd e
-  row_clash s a (command.Tick t) h old new covered each from e = absurd e
-  row_clash s a (command.View v t) h old new covered each from e = absurd e
-  row_clash s a (command.Unview v) h old new covered each from e = absurd e
-  row_clash s a (command.Get v kind key) h old new covered each from e = absurd e
-  row_clash s a (command.Page v kind key n) h old new covered each from e = absurd e
-  row_clash s a _ h old new covered each from e = absurd covered
+  row_clash s a (command.Want t seq) h old new covered each made from e = absurd e
+  row_clash s a (command.Peer p t) h old new covered each made from e = absurd e
+  row_clash s a (command.Check t) h old new covered each made from e = absurd e
+  row_clash s a (command.Tick t) h old new covered each made from e = absurd e
+  row_clash s a (command.View v t) h old new covered each made from e = absurd e
+  row_clash s a (command.Unview v) h old new covered each made from e = absurd e
+  row_clash s a (command.Get v kind key) h old new covered each made from e = absurd e
+  row_clash s a (command.Page v kind key n) h old new covered each made from e = absurd e
+  row_clash s a (command.Edit x t) h old new covered each made from e = absurd e
+  row_clash s a (command.Put x item) h old new covered each made from e = absurd e
+  row_clash s a (command.Tx x item) h old new covered each made from e = absurd e
+  row_clash s a (command.Del x key) h old new covered each made from e = absurd e
+  row_clash s a (command.Close x given) h old new covered each made from e =
+      close_shows s (a, x) given (get_in numbered_cmp s.sessions (a, x)) (says.Clash h old new) made from (sym e)
+  row_clash s a (command.Abandon x) h old new covered each made from e = absurd e
+  row_clash s a _ h old new covered each made from e = absurd covered
 
-  -- no such row has a zero hash
-  row_zero : (s : State) (a : ℕ) (c : Command) (form : Bytes) → IsCovered c → IsRow half s a c (says.ZeroHash form) → ⊥
-  row_zero s a (command.Base p t bytes state tx) form covered e =
-      no_zero_base half s p t bytes state tx (get_in hash_cmp s.wanted t) form (sym e)
-  row_zero s a (command.Node p t kind path blob) form covered e =
-      no_zero_node half s p t kind path blob (get_in hash_cmp s.wanted t) form (sym e)
-  row_zero s a (command.Want t seq) form covered e = e
-  row_zero s a (command.Peer p t) form covered e = e
-  row_zero s a (command.Check t) form covered e = e
-  row_zero s a (command.Tick t) form covered e = e
-  row_zero s a (command.View v t) form covered e = e
-  row_zero s a (command.Unview v) form covered e = e
-  row_zero s a (command.Get v kind key) form covered e = e
-  row_zero s a (command.Page v kind key n) form covered e = e
-  row_zero s a _ form covered e = absurd covered
+  -- only a close has a zero hash in its answer
+  row_zero : (s : State) (a : ℕ) (c : Command) (form : Bytes) → IsCovered c
+      → ((form : Bytes) → Contains (made_by half s a c) form → Contains forms form) → IsFrom half forms s
+      → IsRow half s a c (says.ZeroHash form) → HasZero half forms
+  row_zero s a (command.Base p t bytes state tx) form covered made from e =
+      absurd (no_zero_base half s p t bytes state tx (get_in hash_cmp s.wanted t) form (sym e))
+  row_zero s a (command.Node p t kind path blob) form covered made from e =
+      absurd (no_zero_node half s p t kind path blob (get_in hash_cmp s.wanted t) form (sym e))
+  row_zero s a (command.Close x given) form covered made from e =
+      close_shows s (a, x) given (get_in numbered_cmp s.sessions (a, x)) (says.ZeroHash form) made from (sym e)
+  row_zero s a _ form covered made from e = absurd e
 
-  -- a step that answers a clash shows two forms
-  step_clash : (s : State) (a : ℕ) (c : Command) (reply : Reply) (used : List Held) (s' : State) → IsCovered c
+  -- a step that answers a clash or a zero hash shows it
+  step_shows : (s : State) (a : ℕ) (c : Command) (reply : Reply) (used : List Held) (s' : State) → IsCovered c
       → ((form : Bytes) → Contains (offered_by half c) form → Contains forms form)
-      → IsFrom half forms s → Step half s a c reply used s' → IsClash reply → Collides half forms
-  step_clash s a c (says.Clash h old new) used s' covered each from step is = row_clash s a c h old new covered each from step.outcome.0
-  step_clash s a c (says.ZeroHash form) used s' covered each from step is = absurd (row_zero s a c form covered step.outcome.0)
-  step_clash s a c _ used s' covered each from step is = cc
+      → ((form : Bytes) → Contains (made_by half s a c) form → Contains forms form)
+      → IsFrom half forms s → Step half s a c reply used s' → ShowsIn half forms reply
+  step_shows s a c (says.Clash h old new) used s' covered each made from step =
+      row_clash s a c h old new covered each made from step.outcome.0
+  step_shows s a c (says.ZeroHash form) used s' covered each made from step = row_zero s a c form covered made from step.outcome.0
+  step_shows s a c _ used s' covered each made from step = tt
 
   -- and so does a run
-  run_clash : (lines : List Line) (s : State) (entries : List Entry) (s' : State) → ((l : Line) → Contains lines l → IsCovered l.command)
+  run_shows : (lines : List Line) (s : State) (entries : List Entry) (s' : State) → ((l : Line) → Contains lines l → IsCovered l.command)
       → ((l : Line) → Contains lines l → (form : Bytes) → Contains (offered_by half l.command) form → Contains forms form)
-      → IsFrom half forms s → Run half lines s entries s'
-      → All (λ e. IsClash e.reply → Collides half forms) entries
-  run_clash lines s [] s' covered each from run = All-nil (λ e. IsClash e.reply → Collides half forms)
-  run_clash lines s (e ∷ rest) s' covered each from run =
+      → IsFrom half forms s → (run : Run half lines s entries s')
+      → ((form : Bytes) → Contains (made_along half lines s entries s' run) form → Contains forms form)
+      → All (λ e. ShowsIn half forms e.reply) entries
+  run_shows lines s [] s' covered each from run made = All-nil (λ e. ShowsIn half forms e.reply)
+  run_shows lines s (e ∷ rest) s' covered each from run made =
       let line : Line = run.1.line in
       let among : Contains lines line = line_at lines run.1.place line run.1.stands in
-      All-cons (λ x. IsClash x.reply → Collides half forms) e rest
-      (λ is. step_clash s e.actor line.command e.reply (used_by e) run.0 (covered line among) (each line among) from run.1.step is)
-      (run_clash lines run.0 rest s' covered each
-      (step_from half forms s e.actor line.command e.reply (used_by e) run.0 (covered line among) (each line among) from run.1.step)
-      run.2)
+      let here : List Bytes = made_by half s e.actor line.command in
+      let behind : List Bytes = made_along half lines run.0 rest s' run.2 in
+      let first : (form : Bytes) → Contains here form → Contains forms form =
+      λ form c. made form (Contains-append_left here behind form c) in
+      All-cons (λ x. ShowsIn half forms x.reply) e rest
+      (step_shows s e.actor line.command e.reply (used_by e) run.0 (covered line among) (each line among) first from run.1.step)
+      (run_shows lines run.0 rest s' covered each
+      (step_from half forms s e.actor line.command e.reply (used_by e) run.0 (covered line among) (each line among) first from run.1.step)
+      run.2 (λ form c. made form (Contains-append_right here behind form c)))
 
 -- what a line offers is among what the lines offer
 line_offers : (half : Half) (lines : List Line)
@@ -556,21 +686,25 @@ module _ (half : Half) (records : List Record) (lines : List Line) where
       let among = forms_among records k d lt in
       (own.own, Contains-append_left (forms_of records) (offered_in half [] lines) _ among))
 
-  -- each clash of a run from the script's records shows two different forms that the script offers, with one hash
-  pub clashes_collide : (interval : ℕ) (entries : List Entry) (s' : State) → AreRecords half records
+  -- each clash and each zero hash of a run from the script's records is shown by the forms that the run brings
+  pub run_shown : (interval : ℕ) (entries : List Entry) (s' : State) → AreRecords half records
       → ((l : Line) → Contains lines l → IsCovered l.command)
-      → Run half lines (opening_of records interval) entries s'
-      → All (λ e. IsClash e.reply → Collides half (offered_in half records lines)) entries
-  clashes_collide interval entries s' are covered run =
-      run_clash half (offered_in half records lines) lines (opening_of records interval) entries s' covered
-      among_offered (records_from interval are) run
+      → (run : IsRunOf half records lines interval entries s')
+      → All (λ e. ShowsIn half (brought_by half records lines interval entries s' run) e.reply) entries
+  run_shown interval entries s' are covered run =
+      let offered : List Bytes = offered_in half records lines in
+      let made : List Bytes = made_along half lines (opening_of records interval) entries s' run in
+      run_shows half (offered ++ made) lines (opening_of records interval) entries s' covered
+      (λ l among form c. Contains-append_left offered made form (among_offered l among form c))
+      (λ h form e. let from = records_from interval are h form e in (from.0, Contains-append_left offered made form from.1)) run
+      (λ form c. Contains-append_right offered made form c)
 
 -- the same of one entry
-pub clash_collides : (half : Half) (records : List Record) (lines : List Line) (interval : ℕ) (entries : List Entry) (s' : State)
+pub entry_shown : (half : Half) (records : List Record) (lines : List Line) (interval : ℕ) (entries : List Entry) (s' : State)
     (e : Entry)
     → AreRecords half records → ((l : Line) → Contains lines l → IsCovered l.command)
-    → Run half lines (opening_of records interval) entries s' → Contains entries e → IsClash e.reply
-    → Collides half (offered_in half records lines)
-clash_collides half records lines interval entries s' e are covered run among =
-    All-contains (λ x. IsClash x.reply → Collides half (offered_in half records lines)) entries e
-    (clashes_collide half records lines interval entries s' are covered run) among
+    → (run : IsRunOf half records lines interval entries s') → Contains entries e
+    → ShowsIn half (brought_by half records lines interval entries s' run) e.reply
+entry_shown half records lines interval entries s' e are covered run among =
+    All-contains (λ x. ShowsIn half (brought_by half records lines interval entries s' run) x.reply) entries e
+    (run_shown half records lines interval entries s' are covered run) among

@@ -5,7 +5,7 @@ use Rattle.ledger_spec.specs.declared.Kind.TheVariants.{State, Tx, Set}
 use Rattle.ledger_spec.specs.Bytes.{Hash, Half, IsHalf, Items}
 use Rattle.ledger_spec.specs.Forms.{Held}
 use Rattle.ledger_spec.specs.Pages.{IsPageOrShows}
-use Rattle.ledger_spec.specs.Reads.{Outcome, AreNodes, AnswersOrShows}
+use Rattle.ledger_spec.specs.Reads.{Outcome, AreNodes}
 use Rattle.tree_laws.proofs.ByteItems.{is_key}
 use Rattle.tree_laws.proofs.PathLaw.{answers_or_shows}
 use Rattle.path_proof.proofs.PathLaws.{nodes_are}

@@ -16,3 +16,7 @@ pub mod Openings
 pub mod Collisions
 pub mod EveryMaps
 pub mod WholeMaps
+pub mod Making
+pub mod SoundSessions
+pub mod SoundClosing
+pub mod Beside

@@ -9,7 +9,7 @@ use Rattle.std.proofs.lemmas.Cmp.{nat_list_cmp_total, tied_itself}
 use Rattle.ledger_spec.specs.declared.Kind.{Kind}
 use Rattle.ledger_spec.specs.declared.Kind.TheVariants as kinds
 use Rattle.ledger_spec.specs.declared.ShapeFault.{ShapeFault}
-use Rattle.ledger_spec.specs.Maps.{hash_cmp, get_in}
+use Rattle.ledger_spec.specs.Maps.{hash_cmp, numbered_cmp, get_in}
 use Rattle.ledger_spec.specs.Bytes.{Bytes, Hash, Half, Lookup, Nodes, same_bytes}
 use Rattle.ledger_spec.specs.Forms.{Held, header, form_of, hash_of, header_prefix}
 use Rattle.ledger_spec.specs.Reach.{root}
@@ -37,7 +37,7 @@ use Rattle.ledger_machine.specs.declared.replies.TickReply.TheVariants as tick
 use Rattle.ledger_machine.specs.Ticks.{tick_reply, after_tick}
 use Rattle.ledger_machine.specs.declared.replies.Reply.{Reply}
 use Rattle.ledger_machine.specs.declared.replies.Reply.TheVariants as says
-use Rattle.ledger_machine.specs.State.{State, form_in, roots, with_form, with_forms, stored_seq}
+use Rattle.ledger_machine.specs.State.{State, Session, form_in, roots, with_form, with_forms, stored_seq}
 use Rattle.ledger_machine.specs.Want.{want_reply, after_want}
 use Rattle.ledger_machine.specs.Peer.{after_peer}
 use Rattle.ledger_machine.specs.Check.{check_reply, after_check}
@@ -51,6 +51,11 @@ use Rattle.ledger_spec.specs.Acquiring.{Acquiring}
 use Rattle.ledger_machine.specs.Base.{base_said, base_for, base_reply, after_base, node_said, node_for, node_reply, node_forms, after_node}
 use Rattle.ledger_machine.specs.Views.{view_reply, after_view, after_unview}
 use Rattle.ledger_machine.specs.Reading.{view_root}
+use Rattle.ledger_machine.specs.declared.replies.EditReply.{EditReply}
+use Rattle.ledger_machine.specs.declared.replies.CloseReply.TheVariants as close
+use Rattle.ledger_machine.specs.Sessions.{edit_reply, after_edit, after_put, after_tx, after_del, without_session}
+use Rattle.ledger_machine.specs.Closing.{after_close, closed, closing_forms, new_header}
+use Rattle.ledger_laws.proofs.SoundSessions.{edit_nodes, with_session_nodes}
 use Rattle.ledger_laws.proofs.SoundViews.{view_nodes}
 use Rattle.ledger_laws.proofs.SoundSteps.{gets_after, pages_after}
 use Rattle.ledger_machine.specs.Scripts.{IsCovered}
@@ -58,29 +63,10 @@ use Rattle.ledger_machine.specs.Steps.{Step, IsAfter, Answered, Gives}
 use Rattle.ledger_machine.specs.Runs.{Run, used_by}
 use Rattle.ledger_machine.specs.Receipts.{IsReceived, IsHeadReceived, IsReceivedPart, Receives, IsKept, Stays, AllStay}
 use Rattle.ledger_laws.proofs.SoundKeeps.{shaded_same}
-use Rattle.ledger_laws.proofs.SoundForms.{get_more, old_stays, in_head, forms_looked_up, with_forms-append}
+use Rattle.ledger_laws.proofs.SoundForms.{get_more, in_head, forms_looked_up, with_forms-append, grows_on, with_forms_grow}
 use Rattle.ledger_spec.proofs.Storing.{in_one}
 use Rattle.ledger_laws.proofs.SoundSteps.{outcome_cases, line_at}
 use Rattle.ledger_laws.proofs.Ways.{IsNamed, named_reached, wanted_named}
-
--- growth upon growth
-grows_on : {l m n : Lookup} → Grows l m → Grows m n → Grows l n
-grows_on a b h form e = b h form (a h form e)
-
--- what is stored stays beside one more form
-with_form_grows : (half : Half) (s : State) (form : Bytes) → Grows (form_in s) (form_in (with_form half s form))
-with_form_grows half s form = at (form_in s (half form)) refl
-  where
-    at : (o : Option Bytes) → form_in s (half form) ≡ o
-        → Grows (form_in s) (form_in
-        (if is_some o then s else record s { nodes = finite.insert s.nodes (half form) form; born = set.insert s.born (half form) }))
-    at (Some old) e = λ h was x. x
-    at None e = old_stays s.nodes (half form) form e
-
--- and beside several
-with_forms_grow : (half : Half) (s : State) (forms : List Bytes) → Grows (form_in s) (form_in (with_forms half s forms))
-with_forms_grow half s [] = λ h was x. x
-with_forms_grow half s (form ∷ forms) = grows_on (with_form_grows half s form) (with_forms_grow half (with_form half s form) forms)
 
 -- what a rotation keeps is no part of what is stored
 after_grows : (t s' : State) → IsAfter t s' → Grows (form_in t) (form_in s')
@@ -127,6 +113,18 @@ tick_grows s t tick.NotOpen = λ h was x. x
 same_grows : (s s' : State) → s'.nodes ≡ s.nodes → Grows (form_in s) (form_in s')
 same_grows s s' same h form e = ap (λ (n : Nodes). finite.get n h) same ∙ e
 
+edit_grows : (half : Half) (s : State) (x : ℕ × ℕ) (t : Hash) (r : EditReply) → Grows (form_in s) (form_in (after_edit half s x t r))
+edit_grows half s x t r = same_grows s (after_edit half s x t r) (edit_nodes half s x t r)
+
+close_grows : (half : Half) (s : State) (x : ℕ × ℕ) (given : List ℕ) (reply : Reply)
+    → Grows (form_in s) (form_in (after_close half s x given reply))
+close_grows half s x given (says.Close (close.Closed h)) = at (get_in numbered_cmp s.sessions x)
+  where
+    at : (o : Option Session) → Grows (form_in s) (form_in (closed half s x given h o))
+    at None = λ h was e. e
+    at (Some e) = with_forms_grow half s (closing_forms half e (new_header half s e given))
+close_grows half s x given _ = λ h was e. e
+
 -- the answer of a row
 answer_grows : (half : Half) (s : State) (a : ℕ) (c : Command) (reply : Reply) (used : List Held) (s' : State) → IsCovered c
     → Answered half s a c reply used s' → Grows (form_in s) (form_in s')
@@ -151,6 +149,20 @@ answer_grows half s a (command.Get v kind key) reply used s' covered g =
     after_grows s s' (gets_after half s kind key (view_root s kind (a, v)) reply used s' g)
 answer_grows half s a (command.Page v kind key n) reply used s' covered g =
     after_grows s s' (pages_after half s kind key n (view_root s kind (a, v)) reply used s' g)
+answer_grows half s a (command.Edit x t) reply used s' covered g =
+    grows_on (edit_grows half s (a, x) t (edit_reply s (a, x) t))
+    (after_grows (after_edit half s (a, x) t (edit_reply s (a, x) t)) s' g.after)
+answer_grows half s a (command.Put x item) reply used s' covered g =
+    grows_on (same_grows s (after_put s (a, x) item.key item.value) (with_session_nodes s (a, x) _))
+    (after_grows (after_put s (a, x) item.key item.value) s' g.after)
+answer_grows half s a (command.Tx x item) reply used s' covered g =
+    grows_on (same_grows s (after_tx s (a, x) item.key item.value) (with_session_nodes s (a, x) _))
+    (after_grows (after_tx s (a, x) item.key item.value) s' g.after)
+answer_grows half s a (command.Del x key) reply used s' covered g =
+    grows_on (same_grows s (after_del s (a, x) key) (with_session_nodes s (a, x) _)) (after_grows (after_del s (a, x) key) s' g.after)
+answer_grows half s a (command.Close x given) reply used s' covered g =
+    grows_on (close_grows half s (a, x) given reply) (after_grows (after_close half s (a, x) given reply) s' g.after)
+answer_grows half s a (command.Abandon x) reply used s' covered g = after_grows (without_session s (a, x)) s' g.after
 answer_grows half s a _ reply used s' covered g = absurd covered
 
 -- what is stored stays at each step of such a command

@@ -33,10 +33,9 @@ use Rattle.ledger_spec.specs.Acquiring.{place_verdict, header_verdict, after_ver
 use Rattle.ledger_spec.specs.Findings.{missing_of, first_broken, seen, header_or_foreign, header_sight, maps_of, walk_ledger}
 use Rattle.ledger_machine.specs.Sound.{Sound, IsWholeLedger}
 use Rattle.ledger_machine.specs.Complete.{IsAcceptable}
-use Rattle.std.proofs.lemmas.Map.Views.{All-map-remove_entry}
 use Rattle.std.specs.Cmp.Lexicographic.{nat_list_cmp_total}
-use Rattle.ledger_laws.proofs.SoundTables.{insert_rises, remove_rises}
-use Rattle.ledger_laws.proofs.SoundKeeps.{HasCharges, keeps_sound, with_wanted_keeps, ended_keeps}
+use Rattle.ledger_laws.proofs.SoundTables.{insert_rises}
+use Rattle.ledger_laws.proofs.SoundKeeps.{keeps_sound, with_wanted_keeps, ended_keeps}
 use Rattle.ledger_laws.proofs.SoundForms.{some_same, same_hash}
 
 -- a verdict that is answered `complete` is complete
@@ -239,7 +238,7 @@ retained_more s t seq u c =
 
 -- a whole ledger may be listed
 pub listed_sound : (half : Half) (s : State) (t : Hash) (seq : ℕ) → Sound half s → IsWholeLedger half (form_in s) t → s.floor ≤ seq
-    → IsSomeAnd (header_in (form_in s) t) (λ h. seq_of h ≡ seq) → Sound half (ended (listed_with s t seq) t)
+    → IsSomeAnd (header_in (form_in s) t) (λ h. seq_of h ≡ seq) → Sound half (listed_with s t seq)
 listed_sound half s t seq sound whole above same = record {
   forms = sound.forms;
   retained_whole = λ u c. ⊎_elim (λ (e : u ≡ t). subst (λ x. IsWholeLedger half (form_in s) x) (sym e) whole)
@@ -254,8 +253,8 @@ listed_sound half s t seq sound whole above same = record {
   base_seq = sound.base_seq;
   tables = record {
     listed = insert_rises nat_list_cmp_total s.listed t seq sound.tables.listed;
-    wanted = remove_rises hash_cmp _ s.wanted sound.tables.wanted;
-    charges = All-map-remove_entry _ (λ e. e.1) HasCharges s.wanted sound.tables.charges;
+    wanted = sound.tables.wanted;
+    charges = sound.tables.charges;
     views = sound.tables.views;
     sessions = sound.tables.sessions;
     edits = sound.tables.edits;
@@ -277,7 +276,10 @@ complete_sound half s t sound e =
     let fits : IsSomeAnd (header_in (form_in s) t) (λ h. IsTrue (is_nonzero (state_root_of h))) × (s.floor ≤ stored_seq s t)
     × IsSomeAnd (header_in (form_in s) t) (λ h. seq_of h ≡ stored_seq s t) =
     stored_seq_fits is.0.seq s.floor (header_in (form_in s) t) is.2.header in
-    listed_sound half s t (stored_seq s t) sound (record { header = fits.0; whole = is.2.whole }) fits.1 fits.2
+    let listed : State = listed_with s t (stored_seq s t) in
+    keeps_sound half listed (ended listed t)
+    (listed_sound half s t (stored_seq s t) sound (record { header = fits.0; whole = is.2.whole }) fits.1 fits.2)
+    (ended_keeps half listed t)
 
 -- each answer of a check leaves a sound state
 pub check_sound : (half : Half) (s : State) (t : Hash) (r : CheckReply) → check_reply half s t ≡ r → Sound half s

@@ -9,7 +9,7 @@ use Rattle.std.specs.FinMap as finite
 use Rattle.std.specs.FinMap.{get-insert}
 use Rattle.std.specs.FinSet as set
 use Rattle.ledger_spec.specs.Maps.{hash_cmp}
-use Rattle.ledger_spec.specs.Bytes.{Bytes, Hash, Half, Nodes, is_nonzero, are_bytes, same_bytes}
+use Rattle.ledger_spec.specs.Bytes.{Bytes, Hash, Half, Lookup, Nodes, is_nonzero, are_bytes, same_bytes}
 use Rattle.ledger_spec.specs.Bases as lookup
 use Rattle.ledger_spec.specs.Forms.{Held, Form}
 use Rattle.ledger_spec.proofs.ReachLaws.{Grows}
@@ -99,6 +99,25 @@ with_form_keeps half s form fit = at (form_in s (half form)) refl
       floor = refl;
       tables = same_tables half s _ refl refl refl refl;
     }
+
+-- growth upon growth
+pub grows_on : {l m n : Lookup} → Grows l m → Grows m n → Grows l n
+grows_on a b h form e = b h form (a h form e)
+
+-- what is stored stays beside one more form
+pub with_form_grows : (half : Half) (s : State) (form : Bytes) → Grows (form_in s) (form_in (with_form half s form))
+with_form_grows half s form = at (form_in s (half form)) refl
+  where
+    at : (o : Option Bytes) → form_in s (half form) ≡ o
+        → Grows (form_in s) (form_in
+        (if is_some o then s else record s { nodes = finite.insert s.nodes (half form) form; born = set.insert s.born (half form) }))
+    at (Some old) e = λ h was x. x
+    at None e = old_stays s.nodes (half form) form e
+
+-- and beside several
+pub with_forms_grow : (half : Half) (s : State) (forms : List Bytes) → Grows (form_in s) (form_in (with_forms half s forms))
+with_forms_grow half s [] = λ h was x. x
+with_forms_grow half s (form ∷ forms) = grows_on (with_form_grows half s form) (with_forms_grow half (with_form half s form) forms)
 
 -- the first entry is in the list
 pub in_head : {A : Type 0} (x : A) (xs : List A) → Contains (x ∷ xs) x

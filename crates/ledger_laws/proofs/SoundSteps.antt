@@ -1,8 +1,7 @@
 -- Steps and runs of the commands that acquire a ledger keep a state sound.
-use Rattle.std.proofs.Common.{◌≡◌, ◌⊎◌, inl, inr, ⊎_elim, ℕ, List, [], ◌∷◌, Option, None, Some, Contains, slice_get, All, refl, sym}
+use Rattle.std.proofs.Common.{◌≡◌, ◌⊎◌, inl, inr, ⊎_elim, ℕ, List, [], ◌∷◌, Option, None, Some, Contains, slice_get, refl, sym}
 use Rattle.std.proofs.Common.{subst}
 use Rattle.std.proofs.lemmas.Option.{slice_get_within, get_or_from_slice_get}
-use Rattle.std.proofs.lemmas.List.Elements.{All-contains}
 use Rattle.ledger_spec.specs.declared.Kind.{Kind}
 use Rattle.ledger_spec.specs.Bytes.{Bytes, Hash, Half, IsHalf}
 use Rattle.ledger_spec.specs.Forms.{Held}
@@ -42,6 +41,13 @@ use Rattle.ledger_machine.specs.Views.{view_reply, after_view, unview_reply, aft
 use Rattle.ledger_machine.specs.Reading.{view_root}
 use Rattle.ledger_machine.specs.Steps.{Gets, Pages, IsAfter}
 use Rattle.ledger_laws.proofs.SoundViews.{view_sound, unview_sound}
+use Rattle.shamap_node.specs.declared.parts.Item.{Item}
+use Rattle.cow_map.specs.Unloaded.{IsLeftWhole}
+use Rattle.ledger_machine.specs.Scripts.{AreFields}
+use Rattle.ledger_machine.specs.Sessions.{edit_reply, after_edit, has_session, after_put, after_tx, del_reply, after_del, without_session}
+use Rattle.ledger_machine.specs.Closing.{close_reply, after_close}
+use Rattle.ledger_laws.proofs.SoundSessions.{edit_sound, put_sound, tx_sound, del_sound, without_sound}
+use Rattle.ledger_laws.proofs.SoundClosing.{close_sound, close_own}
 use Rattle.ledger_laws.proofs.SoundOffers.{after_base_keeps, after_node_keeps, base_own, node_own}
 
 -- a command is refused, or answered by its row
@@ -183,52 +189,110 @@ page_step_sound half s s' a v kind key n reply used sound step =
     (pages_after half s kind key n (view_root s kind (a, v)) reply used s' g)))
     (outcome_cases half s a (command.Page v kind key n) reply used s' step.outcome)
 
+-- a step of `edit`
+edit_step_sound : (half : Half) (sized : IsHalf half) (s s' : State) (a x : ℕ) (t : Hash) (reply : Reply) (used : List Held) → Sound half s
+    → Step half s a (command.Edit x t) reply used s' → Sound half s'
+edit_step_sound half sized s s' a x t reply used sound step =
+    ⊎_elim (λ r. keeps_sound half s s' sound (refused_none half s a (command.Edit x t) s' refl r))
+    (λ g. gives_same half (after_edit half s (a, x) t (edit_reply s (a, x) t)) s' (says.Edit (edit_reply s (a, x) t)) reply
+    (edit_sound half sized s (a, x) t (edit_reply s (a, x) t) refl sound) g)
+    (outcome_cases half s a (command.Edit x t) reply used s' step.outcome)
+
+-- a step of `put`
+put_step_sound : (half : Half) (s s' : State) (a x : ℕ) (item : Item) (reply : Reply) (used : List Held)
+    → IsInRange (command.Put x item) → Sound half s → Step half s a (command.Put x item) reply used s' → Sound half s'
+put_step_sound half s s' a x item reply used range sound step =
+    ⊎_elim (λ r. keeps_sound half s s' sound (refused_none half s a (command.Put x item) s' refl r))
+    (λ g. gives_same half (after_put s (a, x) item.key item.value) s' (says.Put (has_session s (a, x))) reply
+    (put_sound half s (a, x) item.key item.value item.valid range.0 range.1 sound) g)
+    (outcome_cases half s a (command.Put x item) reply used s' step.outcome)
+
+-- a step of `tx`
+tx_step_sound : (half : Half) (s s' : State) (a x : ℕ) (item : Item) (reply : Reply) (used : List Held)
+    → IsInRange (command.Tx x item) → Sound half s → Step half s a (command.Tx x item) reply used s' → Sound half s'
+tx_step_sound half s s' a x item reply used range sound step =
+    ⊎_elim (λ r. keeps_sound half s s' sound (refused_none half s a (command.Tx x item) s' refl r))
+    (λ g. gives_same half (after_tx s (a, x) item.key item.value) s' (says.Tx (has_session s (a, x))) reply
+    (tx_sound half s (a, x) item.key item.value item.valid range.0 range.1 sound) g)
+    (outcome_cases half s a (command.Tx x item) reply used s' step.outcome)
+
+-- a step of `del`
+del_step_sound : (half : Half) (s s' : State) (a x : ℕ) (key : Hash) (reply : Reply) (used : List Held) → Sound half s
+    → Step half s a (command.Del x key) reply used s' → Sound half s'
+del_step_sound half s s' a x key reply used sound step =
+    ⊎_elim (λ r. keeps_sound half s s' sound (refused_none half s a (command.Del x key) s' refl r))
+    (λ g. gives_same half (after_del s (a, x) key) s' (says.Del (del_reply s (a, x) key)) reply (del_sound half s (a, x) key sound) g)
+    (outcome_cases half s a (command.Del x key) reply used s' step.outcome)
+
+-- a step of `close`
+close_step_sound : (half : Half) (sized : IsHalf half) (law : IsLeftWhole) (s s' : State) (a x : ℕ) (given : List ℕ) (reply : Reply)
+    (used : List Held) → AreFields given → Sound half s → Step half s a (command.Close x given) reply used s' → Sound half s'
+close_step_sound half sized law s s' a x given reply used are sound step =
+    ⊎_elim (λ r. keeps_sound half s s' sound
+    (refused_keeps half s a (command.Close x given) s' (λ form i. close_own half sized law s (a, x) given form are sound i) r))
+    (λ g. gives_same half (after_close half s (a, x) given reply) s' (close_reply half s (a, x) given) reply
+    (close_sound half sized law s (a, x) given reply are (sym g.says) sound) g)
+    (outcome_cases half s a (command.Close x given) reply used s' step.outcome)
+
+-- a step of `abandon`
+abandon_step_sound : (half : Half) (s s' : State) (a x : ℕ) (reply : Reply) (used : List Held) → Sound half s
+    → Step half s a (command.Abandon x) reply used s' → Sound half s'
+abandon_step_sound half s s' a x reply used sound step =
+    ⊎_elim (λ r. keeps_sound half s s' sound (refused_none half s a (command.Abandon x) s' refl r))
+    (λ g. gives_same half (without_session s (a, x)) s' (says.Abandon (has_session s (a, x))) reply (without_sound half s (a, x) sound) g)
+    (outcome_cases half s a (command.Abandon x) reply used s' step.outcome)
+
 -- each step of a command that the laws cover leads from a sound state to a sound state
-pub covered_step_sound : (half : Half) (sized : IsHalf half) (s s' : State) (a : ℕ) (c : Command) (reply : Reply) (used : List Held)
+pub covered_step_sound : (half : Half) (sized : IsHalf half) (law : IsLeftWhole) (s s' : State) (a : ℕ) (c : Command) (reply : Reply)
+    (used : List Held)
     → IsCovered c → IsInRange c → Sound half s → Step half s a c reply used s'
     → Sound half s'
-covered_step_sound half sized s s' a (command.Want t seq) reply used covered range sound step =
+covered_step_sound half sized law s s' a (command.Want t seq) reply used covered range sound step =
     want_sound half s s' a t seq reply used sound step
-covered_step_sound half sized s s' a (command.Peer p t) reply used covered range sound step =
+covered_step_sound half sized law s s' a (command.Peer p t) reply used covered range sound step =
     peer_sound half s s' a p t reply used sound step
-covered_step_sound half sized s s' a (command.Base p t bytes state tx) reply used covered range sound step =
+covered_step_sound half sized law s s' a (command.Base p t bytes state tx) reply used covered range sound step =
     base_sound half sized s s' a p t bytes state tx reply used range sound step
-covered_step_sound half sized s s' a (command.Node p t kind path blob) reply used covered range sound step =
+covered_step_sound half sized law s s' a (command.Node p t kind path blob) reply used covered range sound step =
     node_sound half sized s s' a p t kind path blob reply used range.2 sound step
-covered_step_sound half sized s s' a (command.Check t) reply used covered range sound step =
+covered_step_sound half sized law s s' a (command.Check t) reply used covered range sound step =
     check_step_sound half s s' a t reply used sound step
-covered_step_sound half sized s s' a (command.Tick t) reply used covered range sound step =
+covered_step_sound half sized law s s' a (command.Tick t) reply used covered range sound step =
     tick_sound half s s' a t reply used sound step
-covered_step_sound half sized s s' a (command.View v t) reply used covered range sound step =
+covered_step_sound half sized law s s' a (command.View v t) reply used covered range sound step =
     view_step_sound half s s' a v t reply used sound step
-covered_step_sound half sized s s' a (command.Unview v) reply used covered range sound step =
+covered_step_sound half sized law s s' a (command.Unview v) reply used covered range sound step =
     unview_step_sound half s s' a v reply used sound step
-covered_step_sound half sized s s' a (command.Get v kind key) reply used covered range sound step =
+covered_step_sound half sized law s s' a (command.Get v kind key) reply used covered range sound step =
     get_step_sound half s s' a v kind key reply used sound step
-covered_step_sound half sized s s' a (command.Page v kind key n) reply used covered range sound step =
+covered_step_sound half sized law s s' a (command.Page v kind key n) reply used covered range sound step =
     page_step_sound half s s' a v kind key n reply used sound step
-covered_step_sound half sized s s' a _ reply used covered range sound step = absurd covered
+covered_step_sound half sized law s s' a (command.Edit x t) reply used covered range sound step =
+    edit_step_sound half sized s s' a x t reply used sound step
+covered_step_sound half sized law s s' a (command.Put x item) reply used covered range sound step =
+    put_step_sound half s s' a x item reply used range sound step
+covered_step_sound half sized law s s' a (command.Tx x item) reply used covered range sound step =
+    tx_step_sound half s s' a x item reply used range sound step
+covered_step_sound half sized law s s' a (command.Del x key) reply used covered range sound step =
+    del_step_sound half s s' a x key reply used sound step
+covered_step_sound half sized law s s' a (command.Close x given) reply used covered range sound step =
+    close_step_sound half sized law s s' a x given reply used range sound step
+covered_step_sound half sized law s s' a (command.Abandon x) reply used covered range sound step =
+    abandon_step_sound half s s' a x reply used sound step
+covered_step_sound half sized law s s' a _ reply used covered range sound step = absurd covered
 
 -- a line at a place is a line of the script
 pub line_at : (lines : List Line) (place : ℕ) (l : Line) → slice_get lines place ≡ Some l → Contains lines l
 line_at lines place l e = (place, slice_get_within lines place l e, get_or_from_slice_get lines place l l e)
 
 -- each run over such commands leads from a sound state to a sound state
-pub covered_run_sound : (half : Half) (sized : IsHalf half) (lines : List Line) (s : State) (entries : List Entry) (s' : State)
+pub covered_run_sound : (half : Half) (sized : IsHalf half) (law : IsLeftWhole) (lines : List Line) (s : State) (entries : List Entry)
+    (s' : State)
     → ((l : Line) → Contains lines l → IsCovered l.command × IsInRange l.command) → Sound half s → Run half lines s entries s'
     → Sound half s'
-covered_run_sound half sized lines s [] s' each sound run = subst (λ x. Sound half x) (sym run) sound
-covered_run_sound half sized lines s (e ∷ rest) s' each sound run =
+covered_run_sound half sized law lines s [] s' each sound run = subst (λ x. Sound half x) (sym run) sound
+covered_run_sound half sized law lines s (e ∷ rest) s' each sound run =
     let line : Line = run.1.line in
     let fit : IsCovered line.command × IsInRange line.command = each line (line_at lines run.1.place line run.1.stands) in
-    covered_run_sound half sized lines run.0 rest s' each
-    (covered_step_sound half sized s run.0 e.actor line.command e.reply (used_by e) fit.0 fit.1 sound run.1.step) run.2
-
--- the same, where all lines are such commands
-pub covered_lines_sound : (half : Half) (sized : IsHalf half) (lines : List Line) (s : State) (entries : List Entry) (s' : State)
-    → All (λ l. IsCovered l.command) lines → All (λ l. IsInRange l.command) lines → Sound half s → Run half lines s entries s'
-    → Sound half s'
-covered_lines_sound half sized lines s entries s' covered range sound run =
-    covered_run_sound half sized lines s entries s'
-    (λ l i. (All-contains (λ x. IsCovered x.command) lines l covered i, All-contains (λ x. IsInRange x.command) lines l range i))
-    sound run
+    covered_run_sound half sized law lines run.0 rest s' each
+    (covered_step_sound half sized law s run.0 e.actor line.command e.reply (used_by e) fit.0 fit.1 sound run.1.step) run.2

@@ -6,8 +6,8 @@ use Rattle.std.specs.List.{All, list_any}
 use Rattle.std.specs.Cmp.{IsTotalOrder}
 use Rattle.std.specs.Cmp.Lexicographic.{same_text}
 use Rattle.std.proofs.lemmas.Cmp.{nat_cmp_total, then_total}
-use Rattle.std.proofs.lemmas.List.Elements.{All-contains, Contains-get_or, Contains-append_cases, Contains-append_left}
-use Rattle.std.proofs.lemmas.List.Elements.{Contains-append_right}
+use Rattle.std.proofs.lemmas.List.Elements.{All-contains, Contains-get_or, Contains-append_cases}
+use Rattle.std.proofs.lemmas.List.Elements.{Contains-append_left, Contains-append_right}
 use Rattle.std.proofs.lemmas.Map.Views.{All-values-insert_entry, All-map-remove_entry}
 use Rattle.ledger_spec.specs.Maps.{ForActor, numbered_cmp, IsMap, insert_in, remove_in, has_in}
 use Rattle.ledger_spec.specs.Bytes.{Hash, Half, same_bytes}
@@ -19,7 +19,7 @@ use Rattle.ledger_machine.specs.declared.replies.ViewReply.TheVariants as view
 use Rattle.ledger_laws.proofs.SoundTables.{insert_rises, remove_rises}
 
 -- the order of an actor's numbers is total
-numbered_total : IsTotalOrder numbered_cmp
+pub numbered_total : IsTotalOrder numbered_cmp
 numbered_total = then_total
     (record {
       antisymm = λ x y. nat_cmp_total.antisymm x.0 y.0;
@@ -33,7 +33,7 @@ numbered_total = then_total
     })
 
 -- what is found among hashes is one of them
-among : (t : Hash) (ts : List Hash) → list_any (same_bytes t) ts ≡ true → Contains ts t
+pub among : (t : Hash) (ts : List Hash) → list_any (same_bytes t) ts ≡ true → Contains ts t
 among t [] e = cc
 among t (x ∷ ts) e = first (same_bytes t x) refl (among t ts) e
   where
@@ -43,8 +43,8 @@ among t (x ∷ ts) e = first (same_bytes t x) refl (among t ts) e
     first false other rest found = Contains-append_right (x ∷ []) ts t (rest found)
 
 -- a view that is opened is of a retained ledger
-fine_retained : (a b c : Bool) → (if a then view.InUse else if not b then view.NotRetained else if c then view.TooMany
-    else view.Fine) ≡ view.Fine
+fine_retained : (a b c : Bool)
+    → (if a then view.InUse else if not b then view.NotRetained else if c then view.TooMany else view.Fine) ≡ view.Fine
     → b ≡ true
 fine_retained true b c e = cc
 fine_retained false false c e = cc

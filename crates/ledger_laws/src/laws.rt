@@ -1,29 +1,31 @@
 //! Laws of the machine, each the contract of an empty function.
-ghost use Rattle.std.specs.Prelude.{◌≡◌, ◌≢◌, ◌↔◌, ◌++◌, ◌∷◌, [], ℕ, List, Some};
+ghost use Rattle.std.specs.Prelude.{◌≡◌, ◌≢◌, ◌↔◌, ◌++◌, ◌∷◌, [], ℕ, List, None, Some};
 ghost use Rattle.std.specs.List.{Contains};
 ghost use Rattle.std.specs.FinMap as map;
 ghost use Rattle.ledger_spec.specs.Bytes.{Nodes, IsHalf};
 ghost use Rattle.ledger_spec.specs.Commits.{IsWholeMap};
 ghost use Rattle.ledger_spec.specs.declared.Kind.{Kind};
 ghost use Rattle.ledger_spec.specs.Forms.{Held};
-ghost use Rattle.ledger_spec.specs.Maps.{hash_cmp, get_in};
-ghost use Rattle.ledger_machine.specs.State.{State, form_in, opening, retained};
+ghost use Rattle.ledger_spec.specs.Maps.{ForActor, hash_cmp, get_in};
+ghost use Rattle.ledger_machine.specs.State.{State, Session, form_in, opening, retained, with_sessions};
 ghost use Rattle.ledger_machine.specs.Sound.{Sound, IsStoredAt};
 ghost use Rattle.ledger_machine.specs.Reading.{view_root};
-ghost use Rattle.ledger_machine.specs.Scripts.{IsCovered, IsInRange, IsLedgerMap};
+ghost use Rattle.ledger_machine.specs.Scripts.{IsCovered, IsInRange, IsLedgerMap, IsBeside};
 ghost use Rattle.ledger_machine.specs.Steps.{Step};
 ghost use Rattle.ledger_machine.specs.Runs.{Run, Answers, IsRunOf, opening_of};
 ghost use Rattle.ledger_machine.specs.Records.{AreRecords};
 ghost use Rattle.ledger_machine.specs.Receipts.{AllStay};
 ghost use Rattle.ledger_machine.specs.Exact.{AreEveryMaps};
 ghost use Rattle.ledger_machine.specs.Complete.{IsAllStored, IsExact, AreExact};
-ghost use Rattle.ledger_machine.specs.Collisions.{offered_in, Collides, IsClash};
+ghost use Rattle.ledger_machine.specs.Collisions.{brought_by, ShowsIn};
 ghost use Rattle.ledger_machine.specs.declared.commands.Command.{Command};
 ghost use Rattle.ledger_machine.specs.declared.commands.Line.{Line};
 ghost use Rattle.ledger_machine.specs.declared.commands.Record.{Record};
 ghost use Rattle.ledger_machine.specs.declared.journal.Entry.{Entry};
 ghost use Rattle.ledger_machine.specs.declared.replies.CheckReply.{CheckReply};
 ghost use Rattle.ledger_machine.specs.declared.replies.Reply.{Reply};
+
+use cow_map::what_is_left_is_whole;
 
 /// A store that has only records, each a form under its own hash, is sound.
 pub fn the_opening_is_sound()
@@ -44,17 +46,28 @@ pub fn a_run_goes_on()
         → Run half lines s entries mid → Answers half lines mid e s' → Run half lines s (entries ++ e ∷ []) s' }
 {}
 
-/// Each step of a command that acquires a ledger leads from a sound state to a sound state.
+/// Each step of a command that acquires a ledger, reads one or edits one leads from a sound state to a sound state.
 pub fn steps_keep_the_store_sound()
     ensures { (half : List ℕ → List ℕ) → IsHalf half → (s s' : State) (a : ℕ) (c : Command) (reply : Reply) (used : List Held)
         → IsCovered c → IsInRange c → Sound half s → Step half s a c reply used s' → Sound half s' }
-{}
+{
+    what_is_left_is_whole();
+}
 
 /// So does each run along a journal, where the script's lines are such commands.
 pub fn a_run_keeps_the_store_sound()
     ensures { (half : List ℕ → List ℕ) → IsHalf half → (lines : List Line) (s : State) (entries : List Entry) (s' : State)
         → ((l : Line) → Contains lines l → IsCovered l.command × IsInRange l.command)
         → Sound half s → Run half lines s entries s' → Sound half s' }
+{
+    what_is_left_is_whole();
+}
+
+/// A step of a command that names no session, and sees none, is one whatever sessions are open, while no rotation is under way.
+pub fn a_step_is_one_beside_any_sessions()
+    ensures { (half : List ℕ → List ℕ) (sessions : ForActor Session) (s s' : State) (a : ℕ) (c : Command) (reply : Reply) (used : List Held)
+        → IsBeside c → s.turning ≡ None → Step half s a c reply used s'
+        → Step half (with_sessions s sessions) a c reply used (with_sessions s' sessions) }
 {}
 
 /// What an answer of a run says was received for a target is stored under its own hash from then on, and
@@ -97,12 +110,12 @@ pub fn nothing_of_a_retained_ledger_is_absent()
         → Sound half s → Contains (retained s) t → IsAllStored (form_in s) t }
 {}
 
-/// Over a store that has only the script's records at first a clash shows two different forms that the script offers, with one hash. So
-/// without such forms no entry is a clash.
+/// Over a store that has only the script's records at first, a clash shows two different forms with one hash, of those that the script
+/// offers and those that its closes make, and a zero hash shows one of them that has it.
 pub fn a_clash_shows_two_forms_with_one_hash()
     ensures { (half : List ℕ → List ℕ) (records : List Record) (lines : List Line) (interval : ℕ) (entries : List Entry) (s' : State)
         (e : Entry)
         → AreRecords half records → ((l : Line) → Contains lines l → IsCovered l.command)
-        → IsRunOf half records lines interval entries s'
-        → Contains entries e → IsClash e.reply → Collides half (offered_in half records lines) }
+        → (run : IsRunOf half records lines interval entries s')
+        → Contains entries e → ShowsIn half (brought_by half records lines interval entries s' run) e.reply }
 {}

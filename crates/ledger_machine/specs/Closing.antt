@@ -84,10 +84,18 @@ abbrev pub after_close : Half → State → ℕ × ℕ → List ℕ → Reply �
 after_close half s x fields (says.Close (close.Closed h)) = closed half s x fields h (get_in numbered_cmp s.sessions x)
 after_close half s x fields _ = s
 
-abbrev pub forms_given : Half → State → List ℕ → Option Session → List Bytes
-forms_given half s fields None = []
-forms_given half s fields (Some e) = closing_forms half e (new_header half s e fields)
+-- the forms of the ledger that a session closes into
+abbrev pub closes_into : Half → State → List ℕ → Option Session → List Bytes
+closes_into half s fields None = []
+closes_into half s fields (Some e) = closing_forms half e (new_header half s e fields)
 
--- the forms that a close would store
+-- the forms, where none of them has the zero hash
+abbrev pub unless_zero : Option Bytes → List Bytes → List Bytes
+unless_zero None forms = forms
+unless_zero (Some form) forms = []
+
+-- the forms that a close would store: none where one of them has the zero hash
 abbrev pub close_forms : Half → State → ℕ × ℕ → List ℕ → List Bytes
-close_forms half s x fields = forms_given half s fields (get_in numbered_cmp s.sessions x)
+close_forms half s x fields =
+    let forms = closes_into half s fields (get_in numbered_cmp s.sessions x) in
+    unless_zero (find (λ form. is_zero (half form)) forms) forms

@@ -81,8 +81,12 @@ IfBytes (Some bytes) = AreBytes bytes
 abbrev pub AreOffered : Hash → Bytes → Option Bytes → Option Bytes → Type 0
 AreOffered t head state tx = IsTrue (is_nonzero t) × AreBytes head × IfBytes state × IfBytes tx
 
--- no target and no key is zero, but for the key that a page stands behind; a key that is read is 32 bytes; maps are a ledger's, and what
--- is brought is bytes
+-- a key that is read or removed: 32 bytes, not all zero
+abbrev pub IsNamedKey : Hash → Type 0
+IsNamedKey key = IsTrue (is_nonzero key) × (length key ≡ 32) × AreBytes key
+
+-- no target and no key is zero, but for the key that a page stands behind; a key that is read or removed is 32 bytes; maps are a ledger's,
+-- and what is brought is bytes
 abbrev pub IsInRange : Command → Type 0
 IsInRange (command.Want t seq) = IsTrue (is_nonzero t)
 IsInRange (command.Peer p t) = IsTrue (is_nonzero t)
@@ -96,7 +100,7 @@ IsInRange (command.Get v kind key) = IsTrue (is_nonzero key) × (length key ≡ 
 IsInRange (command.Page v kind key n) = IsLedgerMap kind × (1 ≤ n) × (n ≤ 256)
 IsInRange (command.Edit x t) = IsTrue (is_nonzero t)
 IsInRange (command.Put x item) = AreBytes item.key × AreBytes item.value
-IsInRange (command.Del x key) = IsTrue (is_nonzero key)
+IsInRange (command.Del x key) = IsNamedKey key
 IsInRange (command.Tx x item) = AreBytes item.key × AreBytes item.value
 IsInRange (command.Close x fields) = AreFields fields
 IsInRange (command.Abandon x) = Unit {0}
@@ -115,4 +119,23 @@ IsCovered (command.View v t) = Unit {0}
 IsCovered (command.Unview v) = Unit {0}
 IsCovered (command.Get v kind key) = Unit {0}
 IsCovered (command.Page v kind key n) = Unit {0}
+IsCovered (command.Edit x t) = Unit {0}
+IsCovered (command.Put x item) = Unit {0}
+IsCovered (command.Del x key) = Unit {0}
+IsCovered (command.Tx x item) = Unit {0}
+IsCovered (command.Close x fields) = Unit {0}
+IsCovered (command.Abandon x) = Unit {0}
 IsCovered _ = ⊥
+
+-- the commands that neither open, change and end a session, nor see which are open
+abbrev pub IsBeside : Command → Type 0
+IsBeside (command.Want t seq) = Unit {0}
+IsBeside (command.Peer p t) = Unit {0}
+IsBeside (command.Base p t head state tx) = Unit {0}
+IsBeside (command.Node p t kind path blob) = Unit {0}
+IsBeside (command.Check t) = Unit {0}
+IsBeside (command.Tick t) = Unit {0}
+IsBeside (command.Unview v) = Unit {0}
+IsBeside (command.Get v kind key) = Unit {0}
+IsBeside (command.Page v kind key n) = Unit {0}
+IsBeside _ = ⊥

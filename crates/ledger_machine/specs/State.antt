@@ -90,6 +90,10 @@ ended s t = record s { wanted = remove_in hash_cmp s.wanted t }
 abbrev pub listed_with : State → Hash → ℕ → State
 listed_with s t seq = record s { listed = insert_in hash_cmp s.listed t seq; last = Some (last_or s.last seq) }
 
+-- with these sessions
+abbrev pub with_sessions : State → ForActor Session → State
+with_sessions s sessions = record s { sessions = sessions }
+
 -- the sequence of the header that is stored under the target
 abbrev pub stored_seq : State → Hash → ℕ
 stored_seq s t = option_map_or seq_of (header_in (form_in s) t) 0

@@ -13,7 +13,9 @@ use Rattle.ledger_machine.specs.declared.commands.Record.{Record}
 use Rattle.ledger_machine.specs.declared.journal.Entry.{Entry}
 use Rattle.ledger_machine.specs.declared.replies.Reply.{Reply}
 use Rattle.ledger_machine.specs.declared.replies.Reply.TheVariants as says
-use Rattle.ledger_machine.specs.Collisions.{IsClash, is_clash, Collides, offered_in}
+use Rattle.ledger_machine.specs.Collisions.{is_clash, brought_by, ShowsIn, IsShown}
+use Rattle.ledger_machine.specs.Runs.{IsRunOf}
+use Rattle.ledger_machine.specs.State.{State}
 use Rattle.ledger_laws.proofs.SoundForms.{in_head, in_tail}
 use Rattle.script_form.specs.Grammar.{IsScript, most_read}
 use Rattle.store_core.specs.Journal.{CoreView, IsJournal, faults_in, fault_count, RoseBy}
@@ -91,14 +93,22 @@ but_clashed n is other =
       | false ↦ λ h. subst (λ b. (b || ((8 == n) || false)) ≡ true) no h
     ] is
 
--- what each clash shows, a journal that shows a clash shows
-shown_by : (X : Type 0) (journal : List Entry) → ((e : Entry) → Contains journal e → IsClash e.reply → X)
-    → list_any shows_clash journal ≡ true → X
-shown_by X [] each e = cc
-shown_by X (x ∷ journal) each e = at (is_clash x.reply) refl e (shown_by X journal (λ y among. each y (in_tail x y journal among)))
+-- what a clash or a zero hash shows
+shown_of : (half : Half) (forms : List Bytes) (r : Reply) → is_clash r ≡ true → ShowsIn half forms r → IsShown half forms
+shown_of half forms (says.Clash h old new) is shows = inl shows
+shown_of half forms (says.ZeroHash form) is shows = inr shows
+shown_of half forms _ is shows = cc
+
+-- a journal that shows a clash shows it
+shown_by : (half : Half) (forms : List Bytes) (journal : List Entry) → ((e : Entry) → Contains journal e → ShowsIn half forms e.reply)
+    → list_any shows_clash journal ≡ true → IsShown half forms
+shown_by half forms [] each e = cc
+shown_by half forms (x ∷ journal) each e =
+    at (is_clash x.reply) refl e (shown_by half forms journal (λ y among. each y (in_tail x y journal among)))
   where
-    at : (b : Bool) → is_clash x.reply ≡ b → (b || list_any shows_clash journal) ≡ true → (list_any shows_clash journal ≡ true → X) → X
-    at true is e later = each x (in_head x journal) is
+    at : (b : Bool) → is_clash x.reply ≡ b → (b || list_any shows_clash journal) ≡ true
+        → (list_any shows_clash journal ≡ true → IsShown half forms) → IsShown half forms
+    at true is e later = shown_of half forms x.reply is (each x (in_head x journal))
     at false is e later = later e
 
 -- the status of a clash is a clash's
@@ -118,7 +128,7 @@ pub said_status : (half : Half) (told : Bool) (n : ℕ) (c : CoreView) → IsJou
 said_status half told n c kept is = record {
   one_of = subst (λ m. IsOneOf m (FINE ∷ SINK_FAILED ∷ STORE_FAILED ∷ CLASHED ∷ NO_MEMORY ∷ [])) (sym is) (status_one c.journal c.missed);
   said = inl is;
-  collision = λ t e. shown_by _ c.journal (kept.machine t).clashes (clash_shown c.journal c.missed (sym is ∙ e));
+  collision = λ t e along. shown_by half _ c.journal ((kept.machine t).clashes along) (clash_shown c.journal c.missed (sym is ∙ e));
 }
 
 -- where the sink failed
@@ -126,7 +136,7 @@ pub failed_status : (half : Half) (told : Bool) (n : ℕ) (c : CoreView) → n �
 failed_status half told n c is = record {
   one_of = subst (λ m. IsOneOf m (FINE ∷ SINK_FAILED ∷ STORE_FAILED ∷ CLASHED ∷ NO_MEMORY ∷ [])) (sym is) refl;
   said = inr (subst (λ m. IsOneOf m (SINK_FAILED ∷ NO_MEMORY ∷ [])) (sym is) refl);
-  collision = λ t e. absurd (omega (arith, is, e));
+  collision = λ t e along. absurd (omega (arith, is, e));
 }
 
 -- where memory was wanted in printing
@@ -134,15 +144,18 @@ pub memory_status : (half : Half) (told : Bool) (n : ℕ) (c : CoreView) → n �
 memory_status half told n c is = record {
   one_of = subst (λ m. IsOneOf m (FINE ∷ SINK_FAILED ∷ STORE_FAILED ∷ CLASHED ∷ NO_MEMORY ∷ [])) (sym is) refl;
   said = inr (subst (λ m. IsOneOf m (SINK_FAILED ∷ NO_MEMORY ∷ [])) (sym is) refl);
-  collision = λ t e. absurd (omega (arith, is, e));
+  collision = λ t e along. absurd (omega (arith, is, e));
 }
 
 -- no clash comes of a script whose forms have different hashes
 no_collision : (half : Half) (left : Option Bytes) (records : List Record) (lines : List Line)
     → IfSome left (λ bytes. IsScript half (take most_read bytes) records lines)
-    → IsSomeAnd left (λ bytes. (IsRefusedAt half bytes → ⊥) × HasNoCollision half bytes) → Collides half (offered_in half records lines) → ⊥
-no_collision half None records lines script some collides = absurd some
-no_collision half (Some bytes) records lines script some collides = some.1 records lines script collides
+    → IsSomeAnd left (λ bytes. (IsRefusedAt half bytes → ⊥) × HasNoCollision half bytes)
+    → (interval : ℕ) (entries : List Entry) (s : State) (run : IsRunOf half records lines interval entries s)
+    → IsShown half (brought_by half records lines interval entries s run) → ⊥
+no_collision half None records lines script some interval entries s run shown = absurd some
+no_collision half (Some bytes) records lines script some interval entries s run shown =
+    some.1 records lines script interval entries s run shown
 
 -- how a run ends whose text was printed
 pub said_ends : (half : Half) (told : Bool) (words : List (Bor (List ℕ))) (left : Option Bytes) (n : ℕ) (c : CoreView)
@@ -155,8 +168,9 @@ said_ends half told words left n c kept script calm is =
     record {
       answered = λ replay read. answered;
       fine = λ t replay read. but_clashed n answered
-          (λ clashed. no_collision half left c.records c.lines script read
-          (shown_by _ c.journal (kept.machine t).clashes (clash_shown c.journal c.missed (sym is ∙ clashed))));
+          (λ clashed. no_collision half left c.records c.lines script read c.interval c.journal c.state (kept.machine t).run
+          (shown_by half _ c.journal ((kept.machine t).clashes (kept.machine t).run)
+          (clash_shown c.journal c.missed (sym is ∙ clashed))));
     }
 
 -- and where memory was wanted

@@ -6,10 +6,11 @@ use Rattle.std.specs.List.{list_any}
 use Rattle.ledger_spec.specs.Bytes.{Bytes, Half, Nodes}
 use Rattle.ledger_machine.specs.declared.commands.Line.{Line}
 use Rattle.ledger_machine.specs.declared.commands.Record.{Record}
-use Rattle.ledger_machine.specs.State.{default_interval}
-use Rattle.ledger_machine.specs.Runs.{IsFull}
-use Rattle.ledger_machine.specs.Collisions.{Collides, offered_in}
-use Rattle.store_core.specs.Journal.{CoreView, IsJournal}
+use Rattle.ledger_machine.specs.State.{State, default_interval}
+use Rattle.ledger_machine.specs.declared.journal.Entry.{Entry}
+use Rattle.ledger_machine.specs.Runs.{IsFull, IsRunOf}
+use Rattle.ledger_machine.specs.Collisions.{brought_by, IsShown}
+use Rattle.store_core.specs.Journal.{CoreView, IsJournal, IsRun}
 use Rattle.store_core.specs.Totals.{totals_of}
 use Rattle.script_form.specs.Grammar.{IsScript, IsRefused, most_read}
 use Rattle.run_io.specs.Bytes.{Rose, Took, TookPart, Wrote, WrotePart}
@@ -54,11 +55,13 @@ NamesLine half bytes held now before after =
     (line : ℕ) × (cause : ℕ) × IsRefused half (take most_read bytes) line cause
     × WroteOrFailed held now before after (refused_text line cause)
 
--- no two different forms of the script that the bytes are have one hash
+-- of the forms that the script which the bytes are offers, and those that its closes make in a run, no two different ones have one hash,
+-- and none has the zero hash
 abbrev pub HasNoCollision : Half → Bytes → Type 0
 HasNoCollision half bytes =
     (records : List Record) (lines : List Line) → IsScript half (take most_read bytes) records lines
-    → Collides half (offered_in half records lines) → ⊥
+    → (interval : ℕ) (entries : List Entry) (s : State) (run : IsRunOf half records lines interval entries s)
+    → IsShown half (brought_by half records lines interval entries s run) → ⊥
 
 -- The headline's part on the core: all that holds of a core's journal, and each line has its entry. `told` says whether the store tells
 -- what it holds.
@@ -112,8 +115,10 @@ pub record HasStatus (half : Half) (told : Bool) (status : ℕ) (c : CoreView) :
   pub one_of : IsOneOf status (FINE ∷ SINK_FAILED ∷ STORE_FAILED ∷ CLASHED ∷ NO_MEMORY ∷ [])
   -- the journal's and the dump's own, unless the sink failed or memory was wanted in printing
   pub said : (status ≡ status_of c.journal c.missed) ⊎ IsOneOf status (SINK_FAILED ∷ NO_MEMORY ∷ [])
-  -- with a clash's, two different forms that the script offers have one hash, where the store tells what it holds
-  pub collision : IsTrue told → status ≡ CLASHED → Collides half (offered_in half c.records c.lines)
+  -- with a clash's, of the forms that the script offers and its closes make two different ones have one hash, or one has the zero hash,
+  -- where the store tells what it holds
+  pub collision : IsTrue told → status ≡ CLASHED → (along : IsRun half c)
+      → IsShown half (brought_by half c.records c.lines c.interval c.journal c.state along)
 
 -- the store's count of faults stands where it stood at opening, below its last value
 abbrev pub IsCalm : CoreView → Type 0
@@ -123,7 +128,7 @@ IsCalm c = (c.faults ≡ c.opened) × (c.faults < 2 ^ 64 - 1)
 pub record EndsWell (half : Half) (told : Bool) (words : List (Bor (List ℕ))) (left : Option Bytes) (status : ℕ) : Type 0 where
   -- the whole text was printed with every line answered, or memory was wanted
   pub answered : IsReplay words → IsSomeAnd left (λ bytes. IsRefusedAt half bytes → ⊥) → IsOneOf status (FINE ∷ CLASHED ∷ NO_MEMORY ∷ [])
-  -- without a clash, where no two different forms that the script offers have one hash
+  -- without a clash, where no two different forms that the script offers or its closes make have one hash, and none the zero hash
   pub fine : IsTrue told → IsReplay words → IsSomeAnd left (λ bytes. (IsRefusedAt half bytes → ⊥) × HasNoCollision half bytes)
       → IsOneOf status (FINE ∷ NO_MEMORY ∷ [])
 

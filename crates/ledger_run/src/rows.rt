@@ -13,7 +13,7 @@ use std::thread::Threads;
 
 /// A script, the status, and the journal, in short: `[xx]` is the byte xx and 31 zero bytes, `_` is 32
 /// zero bytes, `@` the header of ledger 10, and `#` the root of its state map.
-const ROWS: [(&str, u8, &str); 14] = [
+const ROWS: [(&str, u8, &str); 18] = [
     (WHOLE, 0, WHOLE_SAYS),
     (COMPRESSED, 0, COMPRESSED_SAYS),
     (TX, 0, TX_SAYS),
@@ -28,6 +28,10 @@ const ROWS: [(&str, u8, &str); 14] = [
     (KINDS, 0, KINDS_SAYS),
     (TICKS, 0, TICKS_SAYS),
     (WAITING, 0, WAITING_SAYS),
+    (EDITED, 0, EDITED_SAYS),
+    (ZERO_CLOSED, 7, ZERO_CLOSED_SAYS),
+    (CLOSE_CLASH, 7, CLOSE_CLASH_SAYS),
+    (LAST_SEQ, 0, LAST_SEQ_SAYS),
 ];
 
 const WHOLE: &str = "0 want [DD] 10
@@ -477,6 +481,167 @@ const DEVICES: [(u8, u64); 5] = [(4, 6), (5, 13), (6, 2), (6, 9), (6, 26)];
 
 /// More calls than any device is used in.
 const MANY_CALLS: u64 = 64;
+
+/// Ledgers made of that one: an item is set beside its own, which is then removed, so that the leaf moves up below the root; the last has
+/// no account left. The same ledger once more is listed already, and each session is its actor's own.
+const EDITED: &str = "0 want [DD] 10
+0 peer 5 [DD]
+0 check [DD]
+0 base 5 [DD] @ #
+0 check [DD]
+0 node 5 [DD] state [10]01 0102[10]01
+0 node 5 [DD] state [10]01 0102[10]01
+0 check [DD]
+0 edit 1 [DD]
+0 put 1 [11] 05
+0 close 1 0 0 0 0
+0 edit 2 [9C]
+0 del 2 [10]
+0 close 2 0 0 0 0
+0 edit 3 [7E]
+0 del 3 [11]
+0 del 3 [11]
+0 close 3 0 0 0 0
+0 abandon 3
+0 edit 4 [DD]
+0 edit 4 [9C]
+0 put 4 [11] 05
+0 close 4 0 0 0 0
+0 abandon 4
+0 abandon 4
+1 after 25 put 4 [11] 05
+1 tx 4 [11] 05
+1 close 4 0 0 0 0
+1 edit 1 [DE]
+1 edit 1 [DD]
+1 put 1 [12] 00
+1 tx 1 [30] 02
+1 close 1 0 0 0 0
+1 view 1 [93]
+1 get 1 state [12]
+1 get 1 tx [30]
+1 get 1 state [11]
+";
+
+const EDITED_SAYS: &str = "1 0 want opened
+2 0 peer added
+3 0 check need 5 header
+4 0 base good / good
+5 0 check need 5 state:[10]01
+6 0 node good
+7 0 node duplicate
+8 0 check complete
+9 0 edit ok
+10 0 put ok
+11 0 close closed [9C]
+12 0 edit ok
+13 0 del ok
+14 0 close closed [7E]
+15 0 edit ok
+16 0 del ok
+17 0 del absent
+18 0 close zerostate
+19 0 abandon ok
+20 0 edit ok
+21 0 edit inuse
+22 0 put ok
+23 0 close listed
+24 0 abandon ok
+25 0 abandon nosession
+26 1 put nosession
+27 1 tx nosession
+28 1 close nosession
+29 1 edit notretained
+30 1 edit ok
+31 1 put ok
+32 1 tx ok
+33 1 close closed [93]
+34 1 view ok
+35 1 get value 00
+36 1 get value 02
+37 1 get none
+end complete 1 closed 3 listed 4 floor 0 last 10 epoch 0
+";
+
+/// An item whose leaf has the zero hash.
+const ZERO_CLOSED: &str = "0 want [DD] 10
+0 peer 5 [DD]
+0 check [DD]
+0 base 5 [DD] @ #
+0 check [DD]
+0 node 5 [DD] state [10]01 0102[10]01
+0 node 5 [DD] state [10]01 0102[10]01
+0 check [DD]
+0 edit 1 [DD]
+0 put 1 [10] 09
+0 close 1 0 0 0 0
+0 abandon 1
+";
+
+const ZERO_CLOSED_SAYS: &str = "1 0 want opened
+2 0 peer added
+3 0 check need 5 header
+4 0 base good / good
+5 0 check need 5 state:[10]01
+6 0 node good
+7 0 node duplicate
+8 0 check complete
+9 0 edit ok
+10 0 put ok
+11 0 close zerohash 4D4C4E0009[10]
+12 0 abandon ok
+end complete 1 closed 0 listed 1 floor 0 last 10 epoch 0
+";
+
+/// An item whose leaf has the hash of the stored one.
+const CLOSE_CLASH: &str = "0 want [DD] 10
+0 peer 5 [DD]
+0 check [DD]
+0 base 5 [DD] @ #
+0 check [DD]
+0 node 5 [DD] state [10]01 0102[10]01
+0 node 5 [DD] state [10]01 0102[10]01
+0 check [DD]
+0 edit 1 [DD]
+0 put 1 [11] 02
+0 close 1 0 0 0 0
+0 abandon 1
+";
+
+const CLOSE_CLASH_SAYS: &str = "1 0 want opened
+2 0 peer added
+3 0 check need 5 header
+4 0 base good / good
+5 0 check need 5 state:[10]01
+6 0 node good
+7 0 node duplicate
+8 0 check complete
+9 0 edit ok
+10 0 put ok
+11 0 close clash [FA] 4D4C4E000102[10] 4D4C4E0002[11]
+12 0 abandon ok
+end complete 1 closed 0 listed 1 floor 0 last 10 epoch 0
+";
+
+/// The last ledger that a header can number has no next one.
+const LAST_SEQ: &str = "0 want [CF] 4294967295
+0 peer 5 [CF]
+0 base 5 [CF] FFFFFFFF0000000000000000__[DE]00000000000000000000 [FA]0103
+0 node 5 [CF] state [10]01 0102[10]01
+0 check [CF]
+0 edit 1 [CF]
+0 abandon 1
+";
+
+const LAST_SEQ_SAYS: &str = "1 0 want opened
+2 0 peer added
+3 0 base good / good
+4 0 node good
+5 0 check complete
+6 0 edit lastseq
+7 0 abandon nosession
+end complete 1 closed 0 listed 1 floor 0 last 4294967295 epoch 0
+";
 
 /// The one failing call of a device, if it is this one.
 fn failing(alloc: Global, is: bool, call: u64) -> Result<Vec<u64>, AllocError> {

@@ -28,7 +28,8 @@ use Rattle.own_forms.proofs.Reading.{note_is_true, notes_stay}
 
 module _ (half : Half) (s : Store) (h : Hash) (form : Bytes) where
   after_pair : (q : Hash) → map.get (nodes_of (with_pair s h form)) q ≡ cond (eq_by_cmp hash_cmp q h) (Some form) (map.get (nodes_of s) q)
-  after_pair q = ap (λ (m : Nodes). map.get m q) (merged-insert s.writable s.archive h form) ∙ get-insert nat_list_cmp_total (nodes_of s) h form q
+  after_pair q =
+      ap (λ (m : Nodes). map.get m q) (merged-insert s.writable s.archive h form) ∙ get-insert nat_list_cmp_total (nodes_of s) h form q
 
   pair_held : map.get (nodes_of (with_pair s h form)) h ≡ Some form
   pair_held = after_pair h ∙ ap (λ (b : Bool). cond b (Some form) (map.get (nodes_of s) h)) ((eq_by_cmp_equiv nat_list_cmp_total).refl h)

@@ -110,12 +110,14 @@ by_place half held stored t kind path n spot wire same all at read =
 
 -- what is stored doesn't hang on the counts
 with_counts : (half : Half) (s : Store) (f g : ℕ) (n : List Hash) (forms : List Bytes)
-    → with_forms half (record s { faults = f; gets = g; noted = n }) forms ≡ record (with_forms half s forms) { faults = f; gets = g; noted = n }
+    → with_forms half (record s { faults = f; gets = g; noted = n }) forms
+    ≡ record (with_forms half s forms) { faults = f; gets = g; noted = n }
 with_counts half s f g n [] = refl
 with_counts half s f g n (form ∷ forms) =
     elim (is_some (map.get (nodes_of s) (half form))) as
     (λ b. with_forms half
-    (if b then record s { faults = f; gets = g; noted = n } else with_pair (record s { faults = f; gets = g; noted = n }) (half form) form) forms
+    (if b then record s { faults = f; gets = g; noted = n }
+    else with_pair (record s { faults = f; gets = g; noted = n }) (half form) form) forms
     ≡ record (with_forms half (if b then s else with_pair s (half form) form) forms) { faults = f; gets = g; noted = n }) [
       | true ↦ with_counts half s f g n forms
       | false ↦ with_counts half (with_pair s (half form) form) f g n forms

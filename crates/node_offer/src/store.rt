@@ -31,7 +31,8 @@ pub(crate) fn put<H: NodeHash, Sh: Shelf>(
     form: &[u8],
 ) -> Result<Stored, OfferFault>
     ensures stores { IsTrue Sh.B.tells → Stores H.half store.old hash.now form.now result store.new }
-    ensures notes { IsTrue (is_some (held_of H.half form.now)) → IsReadable Sh.B.tells H.half store.old → IsReadable Sh.B.tells H.half store.new }
+    ensures notes { IsTrue (is_some (held_of H.half form.now)) → IsReadable Sh.B.tells H.half store.old
+        → IsReadable Sh.B.tells H.half store.new }
     ensures later { IsLater store.old store.new }
     ensures fault { IfErr result (λ e. e ≡ OfferFault.Fault → Rose store.old.faults store.new.faults) }
 {

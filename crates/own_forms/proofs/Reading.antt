@@ -45,7 +45,8 @@ stored_notes half s all = record { own = λ h form noted held. own_is half h for
 -- notes stay true where neither they nor what is held changes
 pub notes_stay : (half : Half) (s s' : Store) → nodes_of s' ≡ nodes_of s → s'.noted ≡ s.noted → AreNotedOwn half s → AreNotedOwn half s'
 notes_stay half s s' nodes notes true_then = record {
-  own = λ h form noted held. true_then.own h form (subst (λ (ns : List Hash). IsTrue (contains hash_cmp (record { keys = ns }) h)) notes noted)
+  own = λ h form noted held. true_then.own h form
+      (subst (λ (ns : List Hash). IsTrue (contains hash_cmp (record { keys = ns }) h)) notes noted)
       (sym (ap (λ n. map.get n h) nodes) ∙ held);
 }
 

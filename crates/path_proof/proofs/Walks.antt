@@ -197,13 +197,15 @@ stored_more half kind root key tells nodes used more node s so fits held_there p
     (all_stored half kind root key tells nodes (held_nodes used) (held node.value) s so fits held_there)
 
 -- a read that ended with no answer has the cause
-pub ended_by : (half : Half) (kind : Kind) (root key : Hash) (tells : Bool) (nodes : Lookup) (r : Result Progress ReadFault) (why : ReadFault)
+pub ended_by : (half : Half) (kind : Kind) (root key : Hash) (tells : Bool) (nodes : Lookup)
+    (r : Result Progress ReadFault) (why : ReadFault)
     → IsErrAnd r (λ e. e ≡ why) → HasCause half kind root key tells nodes why → Comes half kind root key tells nodes r
 ended_by half kind root key tells nodes (Ok p) why is cause = absurd is
 ended_by half kind root key tells nodes (Err e) why is cause = subst (HasCause half kind root key tells nodes) (sym is) cause
 
 -- what a source gave for the hash that was wanted, over what it held from the start
-pub fetched_as : (half : Half) (tells : Bool) (nodes now : Lookup) (h wanted : Hash) (fetched : Result (Option (Arc Node Global)) FetchFault)
+pub fetched_as : (half : Half) (tells : Bool) (nodes now : Lookup) (h wanted : Hash)
+    (fetched : Result (Option (Arc Node Global)) FetchFault)
     → h ≡ wanted → (IsTrue tells → now ≡ nodes) → HasHash half h fetched → (IsTrue tells → Gives half (now h) fetched)
     → IsFetched half tells nodes wanted fetched
 fetched_as half tells nodes now h wanted fetched is same hash exact = record {

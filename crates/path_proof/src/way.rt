@@ -90,7 +90,8 @@ fn node_for<H: NodeHash>(
     ensures above { IfOk result (λ a. IsAbove (held a.value) place.now.depth) }
     ensures held { (there : Option (List ℕ)) → Gives H.half there fetched → IfOk result (λ a. Holds H.half there (held a.value)) }
     ensures ends { (tells : Bool) (nodes : Lookup) → IsFetched H.half tells nodes place.now.wanted fetched
-        → IfErr result (Ends H.half kind tells nodes (hashes_kept place.now.parent) (take place.now.depth (nibbles key.now)) place.now.wanted) }
+        → IfErr result (Ends H.half kind tells nodes (hashes_kept place.now.parent) (take place.now.depth (nibbles key.now))
+        place.now.wanted) }
     ensures fault { IfErr result (λ why. why ≡ ReadFault.Fault → fetched ≡ Err FetchFault.Fault) }
 {
     key.known();

@@ -1,17 +1,22 @@
 -- What the words behind a command's word say.
-use Rattle.std.proofs.Common.{◌≡◌, ℕ, ◌-◌, ◌≤◌, List, [], ◌∷◌, length, map, take, drop, get_or, Bor, Option, Some, None, Result, Ok}
-use Rattle.std.proofs.Common.{Err, refl, sym, ◌∙◌}
+use Rattle.std.proofs.Common.{◌≡◌, ◌≢◌, ap, Bool, true, false, ℕ, ◌-◌, ◌≤◌, List, [], ◌∷◌, length, map, take, drop, get_or, Bor}
+use Rattle.std.proofs.Common.{Option, Some, None, Result, Ok, Err, refl, sym, ◌∙◌}
 use Rattle.std.proofs.Common.{subst, arith}
-use Rattle.std.proofs.lemmas.List.{take_all}
-use Rattle.std.specs.Prelude.{IfOk, MatchOption}
+use Rattle.std.proofs.lemmas.List.{take_all, length-map}
+use Rattle.std.specs.Prelude.{IfOk, MatchBool, MatchOption}
 use Rattle.half_hash.specs.declared.bytes.Memory.{Memory}
 use Rattle.ledger_spec.specs.Bytes.{Bytes}
 use Rattle.ledger_machine.specs.declared.commands.Command.{Command}
 use Rattle.script_form.specs.declared.forms.Form.{Form}
 use Rattle.ledger_machine.specs.declared.commands.Command.TheVariants as command
 use Rattle.script_form.specs.declared.forms.Form.TheVariants as form
-use Rattle.script_form.specs.Words.{IsBlob, IsCount}
-use Rattle.script_form.specs.Commands.{word_in, arguments_in, ArgumentsOf, SayArguments, command_of, CallSays, FormSays, SaysHead}
+use Rattle.shamap_node.specs.declared.parts.Item.{Item}
+use Rattle.script_form.specs.declared.forms.Argument.{Argument}
+use Rattle.script_form.specs.declared.cause.Cause.{Cause}
+use Rattle.script_form.specs.declared.cause.Cause.TheVariants as cause
+use Rattle.script_form.specs.Words.{IsBlob, IsCount, IsNumber}
+use Rattle.script_form.specs.Commands.{word_in, arguments_in, ArgumentsOf, SayArguments, Makes, CallSays, FormSays, SaysHead, SaysItem}
+use Rattle.script_form.specs.Commands.{HasWrong, CallHas}
 use Rattle.script_form.proofs.Right.{said_count}
 use Rattle.script_form.proofs.Shapes.{one_form}
 
@@ -86,9 +91,9 @@ five_words (a ∷ b ∷ c ∷ e ∷ []) d0 d1 d2 d3 d4 size = absurd (omega (ari
 five_words (a ∷ b ∷ c ∷ e ∷ f ∷ []) d0 d1 d2 d3 d4 size = refl
 five_words (a ∷ b ∷ c ∷ e ∷ f ∷ g ∷ more) d0 d1 d2 d3 d4 size = absurd (omega (arith, size))
 
-pub says_as : (f : Form) (words ws : List Bytes) (v : ArgumentsOf (arguments_in f)) → words ≡ ws → SayArguments (arguments_in f) ws v
-    → FormSays f words (command_of f v)
-says_as f words ws v same says = (v, subst (λ (x : List Bytes). SayArguments (arguments_in f) x v) (sym same) says, refl)
+pub says_as : (f : Form) (words ws : List Bytes) (v : ArgumentsOf (arguments_in f)) (c : Command) → words ≡ ws
+    → SayArguments (arguments_in f) ws v → Makes f v c → FormSays f words c
+says_as f words ws v c same says makes = (v, subst (λ (x : List Bytes). SayArguments (arguments_in f) x v) (sym same) says, makes)
 
 -- what was read of a form's words
 abbrev pub WasRead : Form → List Bytes → Result (Option Command) Memory → Type 0
@@ -188,3 +193,76 @@ no_count (a ∷ []) d size none x says = absurd (omega (arith, size))
 no_count (a ∷ b ∷ []) d size none x says = absurd (omega (arith, size))
 no_count (a ∷ b ∷ c ∷ []) d size none x says = absurd (omega (arith, size))
 no_count (a ∷ b ∷ c ∷ n ∷ e ∷ more) d size none x says = absurd (omega (arith, size))
+
+-- what words say of a session and an item, a put says, and so does a transaction
+pub put_says : (words : List Bytes) (x : ℕ) (item : Item) → SaysItem words x item.key item.value
+    → FormSays form.Put words (command.Put x item)
+put_says (s ∷ k ∷ v ∷ []) x item says =
+    ((x, (item.key, (item.value, tt))), (says.0, (says.1, (says.2, tt))), (item, record { key_is = refl; data_is = refl }, refl))
+put_says [] x item says = absurd says
+put_says (s ∷ []) x item says = absurd says
+put_says (s ∷ k ∷ []) x item says = absurd says
+put_says (s ∷ k ∷ v ∷ e ∷ more) x item says = absurd says
+
+pub tx_says : (words : List Bytes) (x : ℕ) (item : Item) → SaysItem words x item.key item.value
+    → FormSays form.Tx words (command.Tx x item)
+tx_says (s ∷ k ∷ v ∷ []) x item says =
+    ((x, (item.key, (item.value, tt))), (says.0, (says.1, (says.2, tt))), (item, record { key_is = refl; data_is = refl }, refl))
+tx_says [] x item says = absurd says
+tx_says (s ∷ []) x item says = absurd says
+tx_says (s ∷ k ∷ []) x item says = absurd says
+tx_says (s ∷ k ∷ v ∷ e ∷ more) x item says = absurd says
+
+-- where they say none, the words say neither
+abbrev NoItem : List Bytes → Type 0
+NoItem words = (x : ℕ) (key bytes : Bytes) → SaysItem words x key bytes → ⊥
+
+pub no_put : (words : List Bytes) → NoItem words → (c : Command) → FormSays form.Put words c → ⊥
+no_put (s ∷ k ∷ v ∷ []) none c says = none says.0.0 says.0.1.0 says.0.1.1.0 (says.1.0, says.1.1.0, says.1.1.1.0)
+no_put [] none c says = says.1
+no_put (s ∷ []) none c says = says.1.1
+no_put (s ∷ k ∷ []) none c says = says.1.1.1
+no_put (s ∷ k ∷ v ∷ e ∷ more) none c says = says.1.1.1.1
+
+pub no_tx : (words : List Bytes) → NoItem words → (c : Command) → FormSays form.Tx words c → ⊥
+no_tx (s ∷ k ∷ v ∷ []) none c says = none says.0.0 says.0.1.0 says.0.1.1.0 (says.1.0, says.1.1.0, says.1.1.1.0)
+no_tx [] none c says = says.1
+no_tx (s ∷ []) none c says = says.1.1
+no_tx (s ∷ k ∷ []) none c says = says.1.1.1
+no_tx (s ∷ k ∷ v ∷ e ∷ more) none c says = says.1.1.1.1
+
+-- the last word of a close
+pub flags_word : (words : List (Bor Bytes)) (d : Bor Bytes) → length words ≡ 5 → (x : Command) → FormSays form.Close (texts words) x
+    → (flags : ℕ) × IsNumber (get_or words 4 d).now 255 flags
+flags_word words d size x says =
+    let at = subst (λ (ws : List Bytes). FormSays form.Close ws x) (five_words words d d d d d size) says in
+    (at.0.1.1.1.1.0, at.1.1.1.1.1.0)
+
+-- a word is wrong in its place where the call has the cause
+pub call_wrong : (c : Cause) (call : List (Bor Bytes)) (d : Bor Bytes) (f : Form) (given : List Argument) (found : Result Bool Memory)
+    → 1 ≤ length call → c ≢ cause.UnknownCommand → c ≢ cause.ArgumentCount → (get_or call 0 d).now ≡ word_in f
+    → length (take (length call - 1) (drop 1 call)) ≡ length (arguments_in f) → given ≡ arguments_in f
+    → IfOk found (λ b. MatchBool b (HasWrong c given (texts (take (length call - 1) (drop 1 call))))
+    (HasWrong c given (texts (take (length call - 1) (drop 1 call))) → ⊥))
+    → IfOk found (λ b. MatchBool b (CallHas (texts call) c) (CallHas (texts call) c → ⊥))
+call_wrong c [] d f given found some one two is count same was = absurd (omega (arith, some))
+call_wrong c (a ∷ more) d f given (Err e) some one two is count same was = tt
+call_wrong c (a ∷ more) d f given (Ok b) some one two is count same was =
+    by c b one two (subst (λ (xs : List Argument). MatchBool b (HasWrong c xs (texts more)) (HasWrong c xs (texts more) → ⊥)) same
+    (subst (λ (ws : List (Bor Bytes)). MatchBool b (HasWrong c given (texts ws)) (HasWrong c given (texts ws) → ⊥)) all was))
+  where
+    all : take (length (a ∷ more) - 1) more ≡ more
+    all = take_all (length (a ∷ more) - 1) more (omega arith)
+
+    size : length (texts more) ≡ length (arguments_in f)
+    size = length-map more _ ∙ sym (ap length all) ∙ count
+
+    by : (c : Cause) (b : Bool) → c ≢ cause.UnknownCommand → c ≢ cause.ArgumentCount
+        → MatchBool b (HasWrong c (arguments_in f) (texts more)) (HasWrong c (arguments_in f) (texts more) → ⊥)
+        → MatchBool b (CallHas (a.now ∷ texts more) c) (CallHas (a.now ∷ texts more) c → ⊥)
+    by cause.UnknownCommand b one two was = absurd (one refl)
+    by cause.ArgumentCount b one two was = absurd (two refl)
+    by c true one two was = (f, is, size, was)
+    by c false one two was = λ has.
+        let same : has.0 ≡ f = one_form has.0 f (sym has.1 ∙ is) (sym has.2 ∙ size) in
+        was (subst (λ (x : Form). HasWrong c (arguments_in x) (texts more)) same has.3)

@@ -1,18 +1,25 @@
 -- A call that says a command has no cause, and one without a cause says one.
-use Rattle.std.proofs.Common.{◌≡◌, ◌≢◌, inl, inr, List, [], ◌∷◌, length, Bool, true, false, refl, sym, ◌∙◌, ap}
+use Rattle.std.proofs.Common.{◌≡◌, ◌≢◌, inl, inr, ◌<◌, ◌≤◌, nat_le, List, [], ◌∷◌, length, Bool, true, false, Ok, refl, sym, ◌∙◌, ap}
 use Rattle.std.proofs.Common.{subst, arith}
+use Rattle.std.proofs.lemmas.Bool.{leb-true, leb-false}
+use Rattle.hex.specs.Hex.{decode_of}
 use Rattle.nib_path.specs.Paths.{id_wire}
 use Rattle.half_hash.specs.Hex.{IsHexOf}
 use Rattle.ledger_spec.specs.Bytes.{Bytes, Hash, is_zero}
+use Rattle.ledger_spec.specs.Forms.{data_limit}
 use Rattle.ledger_machine.specs.declared.commands.Command.{Command}
+use Rattle.ledger_machine.specs.declared.commands.Command.TheVariants as command
+use Rattle.shamap_node.specs.declared.parts.Item.{Item}
+use Rattle.script_form.specs.declared.forms.Form.TheVariants as form
 use Rattle.script_form.specs.declared.forms.Argument.{Argument}
 use Rattle.script_form.specs.declared.forms.Argument.TheVariants as argument
 use Rattle.script_form.specs.declared.forms.Form.{Form}
 use Rattle.script_form.specs.declared.cause.Cause.{Cause}
 use Rattle.script_form.specs.declared.cause.Cause.TheVariants as cause
-use Rattle.script_form.specs.Commands.{word_in, arguments_in, ArgumentOf, SaysArgument, ArgumentsOf, SayArguments, command_of}
+use Rattle.script_form.specs.Commands.{word_in, arguments_in, ArgumentOf, SaysArgument, ArgumentsOf, SayArguments, Makes}
+use Rattle.script_form.specs.Words.{IsBlob, IsData, IsTarget}
 use Rattle.script_form.specs.Commands.{FormSays, CallSays, IsWrong, HasWrong, CallHas}
-use Rattle.script_form.proofs.ByteWords.{ok_same}
+use Rattle.script_form.proofs.ByteWords.{ok_same, hash_size}
 use Rattle.script_form.proofs.Shapes.{one_form}
 
 -- the word is right in an argument's place
@@ -27,6 +34,16 @@ AreRight _ _ = ⊥
 same_hash : (word : Bytes) (a b : Hash) → IsHexOf word a → IsHexOf word b → a ≡ b
 same_hash word a b is also = ok_same (sym is.value ∙ also.value)
 
+-- a word says one string of bytes
+same_blob : (word : Bytes) (a b : Bytes) → IsBlob word a → IsBlob word b → a ≡ b
+same_blob word a b is also = elim is [
+  | inl none ↦ elim also [ inl nothing ↦ none.1 ∙ sym nothing.1 | inr some ↦ absurd (no_dash word b none.0 some.1) ]
+  | inr one ↦ elim also [ inl nothing ↦ absurd (no_dash word a nothing.0 one.1) | inr other ↦ ok_same (sym one.1 ∙ other.1) ]
+]
+  where
+    no_dash : (w x : Bytes) → w ≡ 45 ∷ [] → decode_of w ≡ Ok x → ⊥
+    no_dash w x is says = let no = sym says ∙ ap decode_of is in cc
+
 not_wrong : (c : Cause) (a : Argument) (word : Bytes) → IsRight a word → IsWrong c a word → ⊥
 not_wrong cause.BadNumber (argument.Number most) word right wrong = wrong right.0 right.1
 not_wrong cause.BadNumber (argument.Count most) word right wrong = wrong right.0 right.1
@@ -34,6 +51,13 @@ not_wrong cause.BadHex argument.Target word right wrong = wrong right.0 right.1.
 not_wrong cause.BadHex argument.Key word right wrong = wrong right.0 right.1
 not_wrong cause.BadHex argument.Id word right wrong = wrong (id_wire right.0) (record { digits = right.1.digits; value = right.1.value })
 not_wrong cause.BadHex argument.Blob word right wrong = wrong right.0 right.1
+not_wrong cause.BadHex argument.Data word right wrong = wrong right.0 right.1.digits
+not_wrong cause.DataTooLong argument.Data word right wrong =
+    let same : right.0 ≡ wrong.0 = same_blob word right.0 wrong.0 right.1.digits wrong.1 in
+    let within : length right.0 ≤ data_limit = right.1.within in
+    let size : length right.0 ≡ length wrong.0 = ap length same in
+    let over : data_limit < length wrong.0 = wrong.2 in
+    absurd (omega (arith, within, size, over))
 not_wrong cause.BadKindOrId argument.Kind word right wrong = wrong right.0 right.1
 not_wrong cause.BadKindOrId argument.Id word right wrong = wrong right.0 right.1
 not_wrong cause.ZeroTarget argument.Target word right wrong =
@@ -77,6 +101,11 @@ must_be_right argument.Target word free not = free cause.BadHex (λ h is. at h i
 must_be_right argument.Kind word free not = free cause.BadKindOrId (λ k is. not (k, is))
 must_be_right argument.Id word free not = free cause.BadKindOrId (λ p is. not (p, is))
 must_be_right argument.Blob word free not = free cause.BadHex (λ b is. not (b, is))
+must_be_right argument.Data word free not = free cause.BadHex (λ b is. at b is (nat_le (length b) data_limit) refl)
+  where
+    at : (b : Bytes) → IsBlob word b → (t : Bool) → nat_le (length b) data_limit ≡ t → ⊥
+    at b is true e = not (b, record { digits = is; within = leb-true (length b) data_limit e })
+    at b is false e = free cause.DataTooLong (b, is, leb-false (length b) data_limit e)
 
 must_be_rights : (arguments : List Argument) (words : List Bytes) → length words ≡ length arguments
     → ((c : Cause) → HasWrong c arguments words → ⊥) → (AreRight arguments words → ⊥) → ⊥
@@ -96,8 +125,53 @@ values_of (a ∷ arguments) [] right = absurd right
 values_of (a ∷ arguments) (word ∷ words) right =
     let behind = values_of arguments words right.1 in ((right.0.0, behind.0), (right.0.1, behind.1))
 
+-- a key and an item's data that words say make an item
+item_of : (key value : Bytes) (k : Hash) (bytes : Bytes) → IsTarget key k → IsData value bytes → Item
+item_of key value k bytes named says = record {
+  key = k;
+  value = bytes;
+  valid = record { key_size = hash_size key k named.digits; key_nonzero = named.nonzero; data_size = says.within };
+}
+
+-- a form's arguments make a command
+form_makes : (f : Form) (args : List Bytes) (v : ArgumentsOf (arguments_in f)) → SayArguments (arguments_in f) args v
+    → (c : Command) × Makes f v c
+unfolding item_of
+form_makes form.Want args v says = (_, refl)
+form_makes form.Peer args v says = (_, refl)
+form_makes form.Base args v says = (_, refl)
+form_makes form.BaseState args v says = (_, refl)
+form_makes form.BaseTx args v says = (_, refl)
+form_makes form.Node args v says = (_, refl)
+form_makes form.Check args v says = (_, refl)
+form_makes form.Tick args v says = (_, refl)
+form_makes form.View args v says = (_, refl)
+form_makes form.Unview args v says = (_, refl)
+form_makes form.Get args v says = (_, refl)
+form_makes form.Page args v says = (_, refl)
+form_makes form.Edit args v says = (_, refl)
+form_makes form.Put (n ∷ t ∷ b ∷ []) v says =
+    let item : Item = item_of t b v.1.0 v.1.1.0 says.1.0 says.1.1.0 in
+    (command.Put v.0 item, (item, record { key_is = refl; data_is = refl }, refl))
+form_makes form.Put [] v says = absurd says
+form_makes form.Put (n ∷ []) v says = absurd says.1
+form_makes form.Put (n ∷ t ∷ []) v says = absurd says.1.1
+form_makes form.Put (n ∷ t ∷ b ∷ x ∷ more) v says = absurd says.1.1.1
+form_makes form.Del args v says = (_, refl)
+form_makes form.Tx (n ∷ t ∷ b ∷ []) v says =
+    let item : Item = item_of t b v.1.0 v.1.1.0 says.1.0 says.1.1.0 in
+    (command.Tx v.0 item, (item, record { key_is = refl; data_is = refl }, refl))
+form_makes form.Tx [] v says = absurd says
+form_makes form.Tx (n ∷ []) v says = absurd says.1
+form_makes form.Tx (n ∷ t ∷ []) v says = absurd says.1.1
+form_makes form.Tx (n ∷ t ∷ b ∷ x ∷ more) v says = absurd says.1.1.1
+form_makes form.Close args v says = (_, refl)
+form_makes form.Abandon args v says = (_, refl)
+
 form_says : (f : Form) (args : List Bytes) → AreRight (arguments_in f) args → (c : Command) × FormSays f args c
-form_says f args right = let said = values_of (arguments_in f) args right in (command_of f said.0, (said.0, said.1, refl))
+form_says f args right =
+    let said = values_of (arguments_in f) args right in
+    let makes = form_makes f args said.0 said.1 in (makes.0, (said.0, said.1, makes.1))
 
 -- the arguments of a command are right
 said_right : (arguments : List Argument) (words : List Bytes) (v : ArgumentsOf arguments) → SayArguments arguments words v

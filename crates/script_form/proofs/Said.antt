@@ -143,9 +143,10 @@ order_has cause.BadHex some d = refl
 order_has cause.BadKindOrId some d = refl
 order_has cause.ZeroTarget some d = refl
 order_has cause.BadRecord some d = refl
+order_has cause.DataTooLong some d = refl
 order_has cause.TooManyCommands some d = refl
 
-pub place_few : (c : Cause) → place_of c ≤ 12
+pub place_few : (c : Cause) → place_of c ≤ 13
 place_few cause.ScriptTooLong = omega arith
 place_few cause.NotPrintable = omega arith
 place_few cause.LineTooLong = omega arith
@@ -158,9 +159,10 @@ place_few cause.BadHex = omega arith
 place_few cause.BadKindOrId = omega arith
 place_few cause.ZeroTarget = omega arith
 place_few cause.BadRecord = omega arith
+place_few cause.DataTooLong = omega arith
 place_few cause.TooManyCommands = omega arith
 
-seat_of : (i : ℕ) (x : Cause) → i < 12 → place_in (get_or ORDER i x) ≡ i
+seat_of : (i : ℕ) (x : Cause) → i < 13 → place_in (get_or ORDER i x) ≡ i
 seat_of zero x lt = refl
 seat_of (suc zero) x lt = refl
 seat_of (suc (suc zero)) x lt = refl
@@ -173,10 +175,11 @@ seat_of (suc (suc (suc (suc (suc (suc (suc (suc zero)))))))) x lt = refl
 seat_of (suc (suc (suc (suc (suc (suc (suc (suc (suc zero))))))))) x lt = refl
 seat_of (suc (suc (suc (suc (suc (suc (suc (suc (suc (suc zero)))))))))) x lt = refl
 seat_of (suc (suc (suc (suc (suc (suc (suc (suc (suc (suc (suc zero))))))))))) x lt = refl
-seat_of (suc (suc (suc (suc (suc (suc (suc (suc (suc (suc (suc (suc i)))))))))))) x lt = absurd (omega arith)
+seat_of (suc (suc (suc (suc (suc (suc (suc (suc (suc (suc (suc (suc zero)))))))))))) x lt = refl
+seat_of (suc (suc (suc (suc (suc (suc (suc (suc (suc (suc (suc (suc (suc i))))))))))))) x lt = absurd (omega arith)
 
 -- no cause of a text stands before the first that was met
-pub none_before : (earlier : List ℕ) (text : Bytes) (i : ℕ) (x c : Cause) → i < 12 → c ≡ get_or ORDER i x
+pub none_before : (earlier : List ℕ) (text : Bytes) (i : ℕ) (x c : Cause) → i < 13 → c ≡ get_or ORDER i x
     → ((k : ℕ) (d : Cause) → k < i → TextHas earlier text (get_or ORDER k d) → ⊥)
     → (d : Cause) → place_of d < place_of c → TextHas earlier text d → ⊥
 none_before earlier text i x c lt is none d less has = at d less has
@@ -203,10 +206,11 @@ none_before earlier text i x c lt is none d less has = at d less has
     at cause.BadKindOrId less has = met cause.BadKindOrId (omega arith) less has
     at cause.ZeroTarget less has = met cause.ZeroTarget (omega arith) less has
     at cause.BadRecord less has = met cause.BadRecord (omega arith) less has
+    at cause.DataTooLong less has = met cause.DataTooLong (omega arith) less has
     at cause.TooManyCommands less has = met cause.TooManyCommands (omega arith) less has
 
 -- a text without any of the causes in the order is fine
-pub all_met : (earlier : List ℕ) (text : Bytes) (i : ℕ) → 12 ≤ i
+pub all_met : (earlier : List ℕ) (text : Bytes) (i : ℕ) → 13 ≤ i
     → ((k : ℕ) (d : Cause) → k < i → TextHas earlier text (get_or ORDER k d) → ⊥) → IsFineText earlier text
 all_met earlier text i le none d has = at d has
   where
@@ -228,6 +232,7 @@ all_met earlier text i le none d has = at d has
     at cause.BadKindOrId has = met cause.BadKindOrId (omega arith) has
     at cause.ZeroTarget has = met cause.ZeroTarget (omega arith) has
     at cause.BadRecord has = met cause.BadRecord (omega arith) has
+    at cause.DataTooLong has = met cause.DataTooLong (omega arith) has
     at cause.TooManyCommands has = met cause.TooManyCommands (omega arith) has
 
 -- the same of the words that were cut

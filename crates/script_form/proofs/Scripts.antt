@@ -30,7 +30,7 @@ use Rattle.script_form.specs.declared.judging.Content.{Content}
 use Rattle.script_form.specs.declared.judging.Content.TheVariants as content
 use Rattle.script_form.specs.declared.forms.Form.{Form}
 use Rattle.script_form.specs.declared.forms.Form.TheVariants as form
-use Rattle.script_form.specs.Commands.{word_in, arguments_in, ArgumentsOf, command_of, CallSays}
+use Rattle.script_form.specs.Commands.{word_in, arguments_in, ArgumentsOf, Makes, CallSays}
 use Rattle.script_form.specs.Causes.{most_pages, names_page, is_page, pages_in, IsOverPages, call_in, place_of}
 use Rattle.script_form.specs.Grammar.{WordsSay}
 use Rattle.ledger_machine.specs.declared.commands.Command.{Command}
@@ -223,7 +223,7 @@ line_of_has half before line c within free has = has
 -- a cause before another one is no excess of commands
 not_last : (c d : Cause) → place_of d < place_of c → d ≡ cause.TooManyCommands → ⊥
 not_last c d less is =
-    let last : 12 < place_of c = subst (λ (x : Cause). place_of x < place_of c) is less in
+    let last : 13 < place_of c = subst (λ (x : Cause). place_of x < place_of c) is less in
     omega (arith, last, place_few c)
 
 -- the pages of one line more
@@ -246,24 +246,31 @@ no_page : (words : List Bytes) → is_command words ≡ false → is_page words 
 no_page words other = rw other refl
 
 -- a command line names a page where it says one
-form_page : (f : Form) (v : ArgumentsOf (arguments_in f)) → same_bytes (word_in f) (codes "page") ≡ is_page_command (command_of f v)
-form_page form.Want v = refl
-form_page form.Peer v = refl
-form_page form.Base v = refl
-form_page form.BaseState v = refl
-form_page form.BaseTx v = refl
-form_page form.Node v = refl
-form_page form.Check v = refl
-form_page form.Tick v = refl
-form_page form.View v = refl
-form_page form.Unview v = refl
-form_page form.Get v = refl
-form_page form.Page v = refl
+form_page : (f : Form) (v : ArgumentsOf (arguments_in f)) (c : Command) → Makes f v c
+    → same_bytes (word_in f) (codes "page") ≡ is_page_command c
+form_page form.Want v c is = ap is_page_command (sym is)
+form_page form.Peer v c is = ap is_page_command (sym is)
+form_page form.Base v c is = ap is_page_command (sym is)
+form_page form.BaseState v c is = ap is_page_command (sym is)
+form_page form.BaseTx v c is = ap is_page_command (sym is)
+form_page form.Node v c is = ap is_page_command (sym is)
+form_page form.Check v c is = ap is_page_command (sym is)
+form_page form.Tick v c is = ap is_page_command (sym is)
+form_page form.View v c is = ap is_page_command (sym is)
+form_page form.Unview v c is = ap is_page_command (sym is)
+form_page form.Get v c is = ap is_page_command (sym is)
+form_page form.Page v c is = ap is_page_command (sym is)
+form_page form.Edit v c is = ap is_page_command (sym is)
+form_page form.Put v c is = ap is_page_command (sym is.2)
+form_page form.Del v c is = ap is_page_command (sym is)
+form_page form.Tx v c is = ap is_page_command (sym is.2)
+form_page form.Close v c is = ap is_page_command (sym is)
+form_page form.Abandon v c is = ap is_page_command (sym is)
 
 call_page : (call : List Bytes) (c : Command) → CallSays call c → names_page call ≡ is_page_command c
 call_page [] c says = absurd says
 call_page (word ∷ words) c says =
-    ap (λ w. same_bytes w (codes "page")) says.1 ∙ form_page says.0 says.2.0 ∙ ap is_page_command (sym says.2.2)
+    ap (λ w. same_bytes w (codes "page")) says.1 ∙ form_page says.0 says.2.0 c says.2.2
 
 words_page : (earlier : List ℕ) (words : List Bytes) (l : Line) → is_command words ≡ true → WordsSay earlier words l
     → is_page words ≡ is_page_command l.command

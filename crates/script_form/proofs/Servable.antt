@@ -1,21 +1,23 @@
 -- The lines of a script are lines that a core takes.
-use Rattle.std.proofs.Common.{◌≡◌, ◌≢◌, inl, inr, ℕ, suc, ◌+◌, ◌<◌, ◌^◌, List, [], ◌∷◌, ◌++◌, length, map, sym, subst}
+use Rattle.std.proofs.Common.{◌≡◌, ◌≢◌, inl, inr, ℕ, suc, ◌+◌, ◌<◌, ◌≤◌, ◌^◌, List, [], ◌∷◌, ◌++◌, length, map, refl, sym, subst}
 use Rattle.std.proofs.Common.{arith, length-append}
 use Rattle.std.specs.List.{All, Contains}
 use Rattle.std.proofs.lemmas.List.{map-append}
 use Rattle.std.proofs.lemmas.List.Elements.{All-push, All-weaker, All-contains, All-map, Contains-append_left}
-use Rattle.ledger_spec.specs.Bytes.{Bytes}
+use Rattle.ledger_spec.specs.Bytes.{Bytes, Hash}
 use Rattle.ledger_machine.specs.declared.commands.Command.{Command}
 use Rattle.ledger_machine.specs.declared.commands.Line.{Line}
-use Rattle.ledger_machine.specs.Scripts.{Rises, IsInRange, IsLedgerMap}
+use Rattle.ledger_machine.specs.Scripts.{Rises, IsInRange, IsLedgerMap, AreBytes}
 use Rattle.ledger_spec.specs.declared.Kind.{Kind}
 use Rattle.ledger_spec.specs.declared.Kind.TheVariants.{State, Tx, Set}
+use Rattle.shamap_node.specs.declared.parts.Item.{Item}
+use Rattle.shamap_node.specs.Items.{Keeps}
 use Rattle.script_form.specs.Servable.{IsServed, WaitsForEarlier, AreServable}
 use Rattle.script_form.specs.Causes.{call_in}
 use Rattle.script_form.specs.declared.forms.Form.{Form}
 use Rattle.script_form.specs.declared.forms.Form.TheVariants as form
-use Rattle.script_form.specs.Words.{IsKind, IsTarget}
-use Rattle.script_form.specs.Commands.{arguments_in, ArgumentsOf, SayArguments, command_of, CallSays}
+use Rattle.script_form.specs.Words.{IsKind, IsTarget, IsData}
+use Rattle.script_form.specs.Commands.{arguments_in, ArgumentsOf, SayArguments, Makes, CallSays}
 use Rattle.script_form.specs.Grammar.{WordsSay}
 use Rattle.script_form.proofs.Right.{said_count}
 use Rattle.script_form.proofs.ByteWords.{blob_bytes, hash_bytes, hash_size}
@@ -25,41 +27,110 @@ a_ledger_map word State is = tt
 a_ledger_map word Tx is = tt
 a_ledger_map word Set is = is
 
--- what a form's words say is in range and served
-form_known : (f : Form) (words : List Bytes) (v : ArgumentsOf (arguments_in f)) → SayArguments (arguments_in f) words v
-    → length words ≡ length (arguments_in f) → IsInRange (command_of f v) × IsServed (command_of f v)
-form_known form.Want (t ∷ n ∷ []) v says size = (says.0.nonzero, tt)
-form_known form.Peer (n ∷ t ∷ []) v says size = (says.1.0.nonzero, tt)
-form_known form.Base (n ∷ t ∷ h ∷ []) v says size = ((says.1.0.nonzero, blob_bytes h v.1.1.0 says.1.1.0, tt, tt), tt)
-form_known form.BaseState (n ∷ t ∷ h ∷ s ∷ []) v says size =
-    ((says.1.0.nonzero, blob_bytes h v.1.1.0 says.1.1.0, blob_bytes s v.1.1.1.0 says.1.1.1.0, tt), tt)
-form_known form.BaseTx (n ∷ t ∷ h ∷ s ∷ x ∷ []) v says size = (
-  (says.1.0.nonzero, blob_bytes h v.1.1.0 says.1.1.0, blob_bytes s v.1.1.1.0 says.1.1.1.0, blob_bytes x v.1.1.1.1.0 says.1.1.1.1.0),
-  tt,
+-- a key and data that words say are bytes, and so are those of their item
+item_known : (key value : Bytes) (k : Hash) (bytes : Bytes) (item : Item) → IsTarget key k → IsData value bytes → Keeps item k bytes
+    → AreBytes item.key × AreBytes item.value
+item_known key value k bytes item named says keeps = (
+  subst (λ (x : Bytes). AreBytes x) (sym keeps.key_is) (hash_bytes key k named.digits),
+  subst (λ (x : Bytes). AreBytes x) (sym keeps.data_is) (blob_bytes value bytes says.digits),
 )
-form_known form.Node (n ∷ t ∷ k ∷ i ∷ b ∷ []) v says size =
-    ((says.1.0.nonzero, a_ledger_map k v.1.1.0 says.1.1.0, blob_bytes b v.1.1.1.1.0 says.1.1.1.1.0), tt)
-form_known form.Check (t ∷ []) v says size = (says.0.nonzero, tt)
-form_known form.Tick (t ∷ []) v says size = (says.0.nonzero, tt)
-form_known form.View (n ∷ t ∷ []) v says size = (says.1.0.nonzero, tt)
-form_known form.Unview (n ∷ []) v says size = (tt, tt)
-form_known form.Get (n ∷ k ∷ t ∷ []) v says size =
+
+-- what is in range and served
+abbrev Fits : Command → Type 0
+Fits c = IsInRange c × IsServed c
+
+-- so is what a form's words say
+form_known : (f : Form) (words : List Bytes) (v : ArgumentsOf (arguments_in f)) (c : Command) → SayArguments (arguments_in f) words v
+    → length words ≡ length (arguments_in f) → Makes f v c → Fits c
+form_known form.Want (t ∷ n ∷ []) v c says size is =
+    subst (λ (x : Command). Fits x) (sym is) (says.0.nonzero, tt)
+form_known form.Peer (n ∷ t ∷ []) v c says size is =
+    subst (λ (x : Command). Fits x) (sym is) (says.1.0.nonzero, tt)
+form_known form.Base (n ∷ t ∷ h ∷ []) v c says size is =
+    subst (λ (x : Command). Fits x) (sym is) ((says.1.0.nonzero, blob_bytes h v.1.1.0 says.1.1.0, tt, tt), tt)
+form_known form.BaseState (n ∷ t ∷ h ∷ s ∷ []) v c says size is =
+    subst (λ (x : Command). Fits x) (sym is) (
+      (
+        says.1.0.nonzero,
+        blob_bytes h v.1.1.0 says.1.1.0,
+        blob_bytes s v.1.1.1.0 says.1.1.1.0,
+        tt,
+      ),
+      tt,
+    )
+form_known form.BaseTx (n ∷ t ∷ h ∷ s ∷ x ∷ []) v c says size is =
+    subst (λ (x : Command). Fits x) (sym is) (
+      (says.1.0.nonzero, blob_bytes h v.1.1.0 says.1.1.0, blob_bytes s v.1.1.1.0 says.1.1.1.0, blob_bytes x v.1.1.1.1.0 says.1.1.1.1.0),
+      tt,
+    )
+form_known form.Node (n ∷ t ∷ k ∷ i ∷ b ∷ []) v c says size is =
+    subst (λ (x : Command). Fits x) (sym is) (
+      (
+        says.1.0.nonzero,
+        a_ledger_map k v.1.1.0 says.1.1.0,
+        blob_bytes b v.1.1.1.1.0
+            says.1.1.1.1.0,
+      ),
+      tt,
+    )
+form_known form.Check (t ∷ []) v c says size is =
+    subst (λ (x : Command). Fits x) (sym is) (says.0.nonzero, tt)
+form_known form.Tick (t ∷ []) v c says size is =
+    subst (λ (x : Command). Fits x) (sym is) (says.0.nonzero, tt)
+form_known form.View (n ∷ t ∷ []) v c says size is =
+    subst (λ (x : Command). Fits x) (sym is) (says.1.0.nonzero, tt)
+form_known form.Unview (n ∷ []) v c says size is =
+    subst (λ (x : Command). Fits x) (sym is) (tt, tt)
+form_known form.Get (n ∷ k ∷ t ∷ []) v c says size is =
     let key : IsTarget t v.1.1.0 = says.1.1.0 in
+    subst (λ (x : Command). Fits x) (sym is)
     ((key.nonzero, hash_size t v.1.1.0 key.digits, hash_bytes t v.1.1.0 key.digits, a_ledger_map k v.1.0 says.1.0), tt)
-form_known form.Page (n ∷ k ∷ t ∷ c ∷ []) v says size =
-    ((a_ledger_map k v.1.0 says.1.0, says.1.1.1.0.least, says.1.1.1.0.number.within), tt)
-form_known form.Want words v says size = absurd (omega (arith, size))
-form_known form.Peer words v says size = absurd (omega (arith, size))
-form_known form.Base words v says size = absurd (omega (arith, size))
-form_known form.BaseState words v says size = absurd (omega (arith, size))
-form_known form.BaseTx words v says size = absurd (omega (arith, size))
-form_known form.Node words v says size = absurd (omega (arith, size))
-form_known form.Check words v says size = absurd (omega (arith, size))
-form_known form.Tick words v says size = absurd (omega (arith, size))
-form_known form.View words v says size = absurd (omega (arith, size))
-form_known form.Unview words v says size = absurd (omega (arith, size))
-form_known form.Get words v says size = absurd (omega (arith, size))
-form_known form.Page words v says size = absurd (omega (arith, size))
+form_known form.Page (n ∷ k ∷ t ∷ m ∷ []) v c says size is =
+    subst (λ (x : Command). Fits x) (sym is) ((a_ledger_map k v.1.0 says.1.0, says.1.1.1.0.least, says.1.1.1.0.number.within), tt)
+form_known form.Edit (n ∷ t ∷ []) v c says size is =
+    subst (λ (x : Command). Fits x) (sym is) (says.1.0.nonzero, tt)
+form_known form.Put (n ∷ t ∷ b ∷ []) v c says size is =
+    subst (λ (x : Command). Fits x) (sym is.2) (item_known t b v.1.0 v.1.1.0 is.0 says.1.0 says.1.1.0 is.1, tt)
+form_known form.Del (n ∷ t ∷ []) v c says size is =
+    let key : IsTarget t v.1.0 = says.1.0 in
+    subst (λ (x : Command). Fits x) (sym is) ((key.nonzero, hash_size t v.1.0 key.digits, hash_bytes t v.1.0 key.digits), tt)
+form_known form.Tx (n ∷ t ∷ b ∷ []) v c says size is =
+    subst (λ (x : Command). Fits x) (sym is.2) (item_known t b v.1.0 v.1.1.0 is.0 says.1.0 says.1.1.0 is.1, tt)
+form_known form.Close (n ∷ d ∷ t ∷ r ∷ f ∷ []) v c says size is =
+    let drops : v.1.0 ≤ 18446744073709551615 = says.1.0.within in
+    let time : v.1.1.0 ≤ 4294967295 = says.1.1.0.within in
+    let resolution : v.1.1.1.0 ≤ 255 = says.1.1.1.0.within in
+    let flags : v.1.1.1.1.0 ≤ 255 = says.1.1.1.1.0.within in
+    subst (λ (x : Command). Fits x) (sym is) (
+      record {
+        count = refl;
+        drops = omega (arith, drops);
+        close = omega (arith, time);
+        resolution = omega (arith, resolution);
+        flags = omega (arith, flags);
+      },
+      tt,
+    )
+form_known form.Abandon (n ∷ []) v c says size is =
+    subst (λ (x : Command). Fits x) (sym is) (tt, tt)
+form_known form.Want words v c says size is = absurd (omega (arith, size))
+form_known form.Peer words v c says size is = absurd (omega (arith, size))
+form_known form.Base words v c says size is = absurd (omega (arith, size))
+form_known form.BaseState words v c says size is = absurd (omega (arith, size))
+form_known form.BaseTx words v c says size is = absurd (omega (arith, size))
+form_known form.Node words v c says size is = absurd (omega (arith, size))
+form_known form.Check words v c says size is = absurd (omega (arith, size))
+form_known form.Tick words v c says size is = absurd (omega (arith, size))
+form_known form.View words v c says size is = absurd (omega (arith, size))
+form_known form.Unview words v c says size is = absurd (omega (arith, size))
+form_known form.Get words v c says size is = absurd (omega (arith, size))
+form_known form.Page words v c says size is = absurd (omega (arith, size))
+form_known form.Edit words v c says size is = absurd (omega (arith, size))
+form_known form.Put words v c says size is = absurd (omega (arith, size))
+form_known form.Del words v c says size is = absurd (omega (arith, size))
+form_known form.Tx words v c says size is = absurd (omega (arith, size))
+form_known form.Close words v c says size is = absurd (omega (arith, size))
+form_known form.Abandon words v c says size is = absurd (omega (arith, size))
 
 -- what is known of a line that words say
 pub record Known (earlier : List ℕ) (l : Line) : Type 0 where
@@ -71,9 +142,7 @@ pub record Known (earlier : List ℕ) (l : Line) : Type 0 where
 call_known : (call : List Bytes) (c : Command) → CallSays call c → IsInRange c × IsServed c
 call_known [] c says = absurd says
 call_known (word ∷ args) c says =
-    let said = says.2 in
-    subst (λ (x : Command). IsInRange x × IsServed x) (sym said.2)
-    (form_known says.0 args said.0 said.1 (said_count says.0 args c said))
+    let said = says.2 in form_known says.0 args said.0 c said.1 (said_count says.0 args c said) said.2
 
 pub known : (earlier : List ℕ) (words : List Bytes) (l : Line) → WordsSay earlier words l → Known earlier l
 known earlier [] l says = absurd says

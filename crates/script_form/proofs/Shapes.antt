@@ -14,11 +14,11 @@ use Rattle.script_form.specs.Commands.{word_in, arguments_in, IsWrong}
 -- the form of a first byte and a number of arguments
 abbrev form_by : ℕ → ℕ → Form
 form_by first count =
-    if first == 119 then form.Want else if first == 112 then (if count == 2 then form.Peer else form.Page)
-    else if first == 110 then form.Node else if first == 99 then
-    form.Check
-    else if first == 116 then form.Tick else if first == 118 then form.View else if first == 117 then form.Unview
-    else if first == 103 then form.Get else if count == 3 then form.Base
+    if first == 119 then form.Want else if first == 112 then (if count == 2 then form.Peer else if count == 3 then form.Put else form.Page)
+    else if first == 110 then form.Node else if first == 99 then (if count == 1 then form.Check else form.Close)
+    else if first == 116 then (if count == 1 then form.Tick else form.Tx) else if first == 118 then form.View
+    else if first == 117 then form.Unview else if first == 103 then form.Get else if first == 101 then form.Edit
+    else if first == 100 then form.Del else if first == 97 then form.Abandon else if count == 3 then form.Base
     else if count == 4 then form.BaseState else form.BaseTx
 
 by_form : (f : Form) → form_by (slice_index (word_in f) 0) (length (arguments_in f)) ≡ f
@@ -34,6 +34,12 @@ by_form form.View = refl
 by_form form.Unview = refl
 by_form form.Get = refl
 by_form form.Page = refl
+by_form form.Edit = refl
+by_form form.Put = refl
+by_form form.Del = refl
+by_form form.Tx = refl
+by_form form.Close = refl
+by_form form.Abandon = refl
 
 -- there is one form of a word and a number of arguments
 pub one_form : (f g : Form) → word_in f ≡ word_in g → length (arguments_in f) ≡ length (arguments_in g) → f ≡ g
@@ -56,6 +62,19 @@ blob_tells c word r b is tells found =
     at (Some x) true tells found = cc
     at (Some x) false tells found = λ wrong. wrong x found
 
+-- so it is in the place of an item's data
+pub data_tells : (c : Cause) (word : Bytes) (r : Option Bytes) (b : Bool) → c ≡ cause.BadHex → is_some r ≡ not b
+    → MatchOption r ((bytes : Bytes) → IsBlob word bytes → ⊥) (IsBlob word)
+    → MatchBool b (IsWrong c argument.Data word) (IsWrong c argument.Data word → ⊥)
+data_tells c word r b is tells found =
+    subst (λ (a : Cause). MatchBool b (IsWrong a argument.Data word) (IsWrong a argument.Data word → ⊥)) (sym is)
+    (blob_tells cause.BadHex word r b refl tells found)
+
+pub no_data : (c : Cause) (word : Bytes) → c ≡ cause.DataTooLong → ((bytes : Bytes) → IsBlob word bytes → ⊥)
+    → IsWrong c argument.Data word → ⊥
+no_data c word is none wrong =
+    let long = subst (λ (a : Cause). IsWrong a argument.Data word) is wrong in none long.0 long.1
+
 -- where a form stands among all forms
 pub form_stands : (f : Form) → (k : ℕ) × (k < length FORMS) × ((d : Form) → get_or FORMS k d ≡ f)
 form_stands form.Want = (0, omega arith, λ d. refl)
@@ -70,3 +89,9 @@ form_stands form.View = (8, omega arith, λ d. refl)
 form_stands form.Unview = (9, omega arith, λ d. refl)
 form_stands form.Get = (10, omega arith, λ d. refl)
 form_stands form.Page = (11, omega arith, λ d. refl)
+form_stands form.Edit = (12, omega arith, λ d. refl)
+form_stands form.Put = (13, omega arith, λ d. refl)
+form_stands form.Del = (14, omega arith, λ d. refl)
+form_stands form.Tx = (15, omega arith, λ d. refl)
+form_stands form.Close = (16, omega arith, λ d. refl)
+form_stands form.Abandon = (17, omega arith, λ d. refl)

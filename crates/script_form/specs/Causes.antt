@@ -36,11 +36,14 @@ number_of cause.BadHex = 8
 number_of cause.BadKindOrId = 9
 number_of cause.ZeroTarget = 10
 number_of cause.BadRecord = 11
+number_of cause.DataTooLong = 12
 number_of cause.TooManyCommands = 12
 
--- a cause's place in the order of the tests: by its number, but the line with the first byte too many is refused before its other tests
+-- a cause's place in the order of the tests: by its number, but the line with the first byte too many is refused before its other tests,
+-- and an item's data is tried before the count of the commands
 abbrev pub place_of : Cause → ℕ
 place_of cause.ScriptTooLong = 0
+place_of cause.TooManyCommands = 13
 place_of c = number_of c
 
 -- the byte is printable: 20 to 7E

@@ -1,9 +1,12 @@
 -- The commands that are read: their words, and what stands behind them.
-use Rattle.std.specs.Prelude.{◌≡◌, ◌≢◌, ◌⊎◌, ℕ, List, [], ◌∷◌, length, codes, IsTrue, None, Some}
+use Rattle.std.specs.Prelude.{◌≡◌, ◌≢◌, ◌⊎◌, ◌<◌, ℕ, List, [], ◌∷◌, length, codes, IsTrue, None, Some}
 use Rattle.ledger_spec.specs.Bytes.{Bytes, Hash, is_zero}
+use Rattle.ledger_spec.specs.Forms.{data_limit}
 use Rattle.ledger_spec.specs.declared.Kind.{Kind}
 use Rattle.ledger_machine.specs.declared.commands.Command.{Command}
 use Rattle.ledger_machine.specs.declared.commands.Command.TheVariants as command
+use Rattle.shamap_node.specs.declared.parts.Item.{Item}
+use Rattle.shamap_node.specs.Items.{Keeps}
 use Rattle.half_hash.specs.Hex.{IsHexOf}
 use Rattle.script_form.specs.declared.forms.Argument.{Argument}
 use Rattle.script_form.specs.declared.forms.Argument.TheVariants as argument
@@ -11,7 +14,7 @@ use Rattle.script_form.specs.declared.forms.Form.{Form}
 use Rattle.script_form.specs.declared.forms.Form.TheVariants as form
 use Rattle.script_form.specs.declared.cause.Cause.{Cause}
 use Rattle.script_form.specs.declared.cause.Cause.TheVariants as cause
-use Rattle.script_form.specs.Words.{IsNumber, IsCount, IsTarget, IsKind, IsIdText, IsId, IsBlob}
+use Rattle.script_form.specs.Words.{IsNumber, IsCount, IsTarget, IsKind, IsIdText, IsId, IsBlob, IsData}
 
 -- a form's command word
 abbrev pub word_in : Form → Bytes
@@ -27,9 +30,16 @@ word_in form.View = codes "view"
 word_in form.Unview = codes "unview"
 word_in form.Get = codes "get"
 word_in form.Page = codes "page"
+word_in form.Edit = codes "edit"
+word_in form.Put = codes "put"
+word_in form.Del = codes "del"
+word_in form.Tx = codes "tx"
+word_in form.Close = codes "close"
+word_in form.Abandon = codes "abandon"
 
 -- a form's arguments, in order: T and SEQ; P and T; P, T and HEADER, with STATE, with STATE and TX; P, T, KIND, ID and BLOB; T; T;
--- V and T; V; V, KIND and KEY; V, KIND, KEY and N
+-- V and T; V; V, KIND and KEY; V, KIND, KEY and N; S and T; S, KEY and DATA; S and KEY; S, KEY and DATA;
+-- S, DROPS, TIME, RESOLUTION and FLAGS; S
 abbrev pub arguments_in : Form → List Argument
 arguments_in form.Want = argument.Target ∷ argument.Number 4294967295 ∷ []
 arguments_in form.Peer = argument.Number 65535 ∷ argument.Target ∷ []
@@ -43,6 +53,13 @@ arguments_in form.View = argument.Number 65535 ∷ argument.Target ∷ []
 arguments_in form.Unview = argument.Number 65535 ∷ []
 arguments_in form.Get = argument.Number 65535 ∷ argument.Kind ∷ argument.Target ∷ []
 arguments_in form.Page = argument.Number 65535 ∷ argument.Kind ∷ argument.Key ∷ argument.Count 256 ∷ []
+arguments_in form.Edit = argument.Number 65535 ∷ argument.Target ∷ []
+arguments_in form.Put = argument.Number 65535 ∷ argument.Target ∷ argument.Data ∷ []
+arguments_in form.Del = argument.Number 65535 ∷ argument.Target ∷ []
+arguments_in form.Tx = argument.Number 65535 ∷ argument.Target ∷ argument.Data ∷ []
+arguments_in form.Close = argument.Number 65535 ∷ argument.Number 18446744073709551615 ∷ argument.Number 4294967295
+    ∷ argument.Number 255 ∷ argument.Number 255 ∷ []
+arguments_in form.Abandon = argument.Number 65535 ∷ []
 
 -- what a word says in an argument's place: a number, a hash, a kind, a path, bytes
 abbrev pub ArgumentOf : Argument → Type 0
@@ -53,6 +70,7 @@ ArgumentOf argument.Key = Hash
 ArgumentOf argument.Kind = Kind
 ArgumentOf argument.Id = List ℕ
 ArgumentOf argument.Blob = Bytes
+ArgumentOf argument.Data = Bytes
 
 -- the word says it
 abbrev pub SaysArgument : (a : Argument) → Bytes → ArgumentOf a → Type 0
@@ -63,6 +81,7 @@ SaysArgument argument.Key word hash = IsHexOf word hash
 SaysArgument argument.Kind word kind = IsKind word kind
 SaysArgument argument.Id word path = IsId word path
 SaysArgument argument.Blob word bytes = IsBlob word bytes
+SaysArgument argument.Data word bytes = IsData word bytes
 
 -- what words say in the places of arguments, in order
 abbrev pub ArgumentsOf : List Argument → Type 0
@@ -76,29 +95,40 @@ SayArguments [] (word ∷ words) v = ⊥
 SayArguments (a ∷ arguments) [] v = ⊥
 SayArguments (a ∷ arguments) (word ∷ words) v = SaysArgument a word v.0 × SayArguments arguments words v.1
 
--- the command of a form with these arguments
-abbrev pub command_of : (f : Form) → ArgumentsOf (arguments_in f) → Command
-command_of form.Want v = command.Want v.0 v.1.0
-command_of form.Peer v = command.Peer v.0 v.1.0
-command_of form.Base v = command.Base v.0 v.1.0 v.1.1.0 None None
-command_of form.BaseState v = command.Base v.0 v.1.0 v.1.1.0 (Some v.1.1.1.0) None
-command_of form.BaseTx v = command.Base v.0 v.1.0 v.1.1.0 (Some v.1.1.1.0) (Some v.1.1.1.1.0)
-command_of form.Node v = command.Node v.0 v.1.0 v.1.1.0 v.1.1.1.0 v.1.1.1.1.0
-command_of form.Check v = command.Check v.0
-command_of form.Tick v = command.Tick v.0
-command_of form.View v = command.View v.0 v.1.0
-command_of form.Unview v = command.Unview v.0
-command_of form.Get v = command.Get v.0 v.1.0 v.1.1.0
-command_of form.Page v = command.Page v.0 v.1.0 v.1.1.0 v.1.1.1.0
+-- this is the command of a form with these arguments; an item has the key and the data that are given
+abbrev pub Makes : (f : Form) → ArgumentsOf (arguments_in f) → Command → Type 0
+Makes form.Want v c = c ≡ command.Want v.0 v.1.0
+Makes form.Peer v c = c ≡ command.Peer v.0 v.1.0
+Makes form.Base v c = c ≡ command.Base v.0 v.1.0 v.1.1.0 None None
+Makes form.BaseState v c = c ≡ command.Base v.0 v.1.0 v.1.1.0 (Some v.1.1.1.0) None
+Makes form.BaseTx v c = c ≡ command.Base v.0 v.1.0 v.1.1.0 (Some v.1.1.1.0) (Some v.1.1.1.1.0)
+Makes form.Node v c = c ≡ command.Node v.0 v.1.0 v.1.1.0 v.1.1.1.0 v.1.1.1.1.0
+Makes form.Check v c = c ≡ command.Check v.0
+Makes form.Tick v c = c ≡ command.Tick v.0
+Makes form.View v c = c ≡ command.View v.0 v.1.0
+Makes form.Unview v c = c ≡ command.Unview v.0
+Makes form.Get v c = c ≡ command.Get v.0 v.1.0 v.1.1.0
+Makes form.Page v c = c ≡ command.Page v.0 v.1.0 v.1.1.0 v.1.1.1.0
+Makes form.Edit v c = c ≡ command.Edit v.0 v.1.0
+Makes form.Put v c = (item : Item) × Keeps item v.1.0 v.1.1.0 × (c ≡ command.Put v.0 item)
+Makes form.Del v c = c ≡ command.Del v.0 v.1.0
+Makes form.Tx v c = (item : Item) × Keeps item v.1.0 v.1.1.0 × (c ≡ command.Tx v.0 item)
+Makes form.Close v c = c ≡ command.Close v.0 (v.1.0 ∷ v.1.1.0 ∷ v.1.1.1.0 ∷ v.1.1.1.1.0 ∷ [])
+Makes form.Abandon v c = c ≡ command.Abandon v.0
 
 -- the words behind a form's word say the command
 abbrev pub FormSays : Form → List Bytes → Command → Type 0
-FormSays f words c = (v : ArgumentsOf (arguments_in f)) × SayArguments (arguments_in f) words v × (c ≡ command_of f v)
+FormSays f words c = (v : ArgumentsOf (arguments_in f)) × SayArguments (arguments_in f) words v × Makes f v c
 
 -- the first three words say a peer, a target and a header
 abbrev pub SaysHead : List Bytes → ℕ → Hash → Bytes → Type 0
 SaysHead (peer ∷ target ∷ header ∷ words) p t head = IsNumber peer 65535 p × IsTarget target t × IsBlob header head
 SaysHead _ p t head = ⊥
+
+-- the words say a session, a key and an item's data
+abbrev pub SaysItem : List Bytes → ℕ → Hash → Bytes → Type 0
+SaysItem (session ∷ key ∷ value ∷ []) x k bytes = IsNumber session 65535 x × IsTarget key k × IsData value bytes
+SaysItem _ x k bytes = ⊥
 
 -- a command's word and its arguments say the command
 abbrev pub CallSays : List Bytes → Command → Type 0
@@ -113,9 +143,11 @@ IsWrong cause.BadHex argument.Target word = (hash : Hash) → IsHexOf word hash 
 IsWrong cause.BadHex argument.Key word = (hash : Hash) → IsHexOf word hash → ⊥
 IsWrong cause.BadHex argument.Id word = (bytes : Bytes) → IsIdText word bytes → ⊥
 IsWrong cause.BadHex argument.Blob word = (bytes : Bytes) → IsBlob word bytes → ⊥
+IsWrong cause.BadHex argument.Data word = (bytes : Bytes) → IsBlob word bytes → ⊥
 IsWrong cause.BadKindOrId argument.Kind word = (kind : Kind) → IsKind word kind → ⊥
 IsWrong cause.BadKindOrId argument.Id word = (path : List ℕ) → IsId word path → ⊥
 IsWrong cause.ZeroTarget argument.Target word = (hash : Hash) × IsHexOf word hash × IsTrue (is_zero hash)
+IsWrong cause.DataTooLong argument.Data word = (bytes : Bytes) × IsBlob word bytes × (data_limit < length bytes)
 IsWrong _ _ _ = ⊥
 
 -- one of the words is wrong in its place for this cause

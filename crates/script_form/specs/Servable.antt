@@ -18,6 +18,12 @@ IsServed (command.View v t) = Unit {0}
 IsServed (command.Unview v) = Unit {0}
 IsServed (command.Get v kind key) = Unit {0}
 IsServed (command.Page v kind key n) = Unit {0}
+IsServed (command.Edit x t) = Unit {0}
+IsServed (command.Put x item) = Unit {0}
+IsServed (command.Del x key) = Unit {0}
+IsServed (command.Tx x item) = Unit {0}
+IsServed (command.Close x fields) = Unit {0}
+IsServed (command.Abandon x) = Unit {0}
 IsServed _ = ⊥
 
 -- the line waits for none, or for an earlier one

@@ -6,6 +6,7 @@ use Rattle.hex.specs.Hex.{decode_of}
 use Rattle.nib_path.specs.Paths.{IsPath, id_wire}
 use Rattle.half_hash.specs.Hex.{IsHexOf}
 use Rattle.ledger_spec.specs.Bytes.{Bytes, Hash, is_nonzero}
+use Rattle.ledger_spec.specs.Forms.{data_limit}
 use Rattle.ledger_spec.specs.declared.Kind.{Kind}
 use Rattle.ledger_spec.specs.declared.Kind.TheVariants.{State, Tx, Set}
 
@@ -65,6 +66,11 @@ IsKind word Set = ⊥
 -- bytes: two hexadecimal digits each, at least one byte, or `-` for none
 abbrev pub IsBlob : Bytes → Bytes → Type 0
 IsBlob word bytes = ((word ≡ 45 ∷ []) × (bytes ≡ [])) ⊎ ((0 < length word) × (decode_of word ≡ Ok bytes))
+
+-- an item's data: so many bytes at most
+pub record IsData (word bytes : Bytes) : Type 0 where
+  pub digits : IsBlob word bytes
+  pub within : length bytes ≤ data_limit
 
 -- 66 hexadecimal digits, of 33 bytes
 pub record IsIdText (word bytes : Bytes) : Type 0 where

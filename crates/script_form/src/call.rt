@@ -4,6 +4,7 @@ ghost use Rattle.ledger_machine.specs.declared.commands.Command.{Command};
 ghost use Rattle.script_form.specs.declared.forms.Form.{Form};
 ghost use Rattle.script_form.specs.Commands.{arguments_in, CallSays, FormSays, SaysHead};
 
+use crate::edit_call::{abandon_of, close_of, del_of, edit_of, put_of, tx_of};
 use crate::forms::{Form, form_of};
 use crate::words::{blob_word, count, hash_word, id_word, kind_word, number, target_word};
 use half_hash::{Blob, Memory};
@@ -43,6 +44,12 @@ fn said_by(alloc: Global, form: Form, arguments: &[&[u8]]) -> Result<Option<Comm
         Form::Unview => Ok(unview_of(arguments)),
         Form::Get => Ok(get_of(arguments)),
         Form::Page => Ok(page_of(arguments)),
+        Form::Edit => Ok(edit_of(arguments)),
+        Form::Put => put_of(alloc, arguments),
+        Form::Del => Ok(del_of(arguments)),
+        Form::Tx => tx_of(alloc, arguments),
+        Form::Close => Ok(close_of(arguments)),
+        Form::Abandon => Ok(abandon_of(arguments)),
     }
 }
 

@@ -32,6 +32,8 @@ pub enum Cause {
     /// A record stands behind a command line, its form is none, its hash isn't that of the form or is
     /// zero, or an earlier record has this hash.
     BadRecord,
+    /// An item's data has more than 1,048,576 bytes.
+    DataTooLong,
     /// The line is command 200,001, or the `page` command 4,001.
     TooManyCommands,
 }
@@ -54,6 +56,7 @@ impl Cause {
             Cause::ZeroTarget => 10,
             Cause::BadRecord => 11,
             Cause::ScriptTooLong => 12,
+            Cause::DataTooLong => 12,
             Cause::TooManyCommands => 12,
         }
     }

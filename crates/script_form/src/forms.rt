@@ -6,6 +6,7 @@ ghost use Rattle.script_form.specs.Commands.{word_in, arguments_in, IsWrong, Has
 use crate::cause::Cause;
 use crate::words::{blob_word, count, hash_word, id_text, id_word, is_text, kind_word, number};
 use half_hash::Memory;
+use shamap_node::DATA_LIMIT;
 use std::alloc::Global;
 
 /// What an argument is.
@@ -25,6 +26,8 @@ pub enum Argument {
     Id,
     /// Bytes.
     Blob,
+    /// An item's data: bytes, at most 1,048,576 of them.
+    Data,
 }
 
 /// A form of a command: `base` has one for each number of its arguments.
@@ -42,10 +45,16 @@ pub enum Form {
     Unview,
     Get,
     Page,
+    Edit,
+    Put,
+    Del,
+    Tx,
+    Close,
+    Abandon,
 }
 
 /// All forms.
-const FORMS: [Form; 12] = [
+const FORMS: [Form; 18] = [
     Form::Want,
     Form::Peer,
     Form::Base,
@@ -58,6 +67,12 @@ const FORMS: [Form; 12] = [
     Form::Unview,
     Form::Get,
     Form::Page,
+    Form::Edit,
+    Form::Put,
+    Form::Del,
+    Form::Tx,
+    Form::Close,
+    Form::Abandon,
 ];
 
 const WANT: [Argument; 2] = [Argument::Target, Argument::Number(4_294_967_295)];
@@ -106,6 +121,24 @@ const PAGE: [Argument; 4] = [
     Argument::Count(256),
 ];
 
+const EDIT: [Argument; 2] = [Argument::Number(65_535), Argument::Target];
+
+const PUT: [Argument; 3] = [Argument::Number(65_535), Argument::Target, Argument::Data];
+
+const DEL: [Argument; 2] = [Argument::Number(65_535), Argument::Target];
+
+const TX: [Argument; 3] = [Argument::Number(65_535), Argument::Target, Argument::Data];
+
+const CLOSE: [Argument; 5] = [
+    Argument::Number(65_535),
+    Argument::Number(18_446_744_073_709_551_615),
+    Argument::Number(4_294_967_295),
+    Argument::Number(255),
+    Argument::Number(255),
+];
+
+const ABANDON: [Argument; 1] = [Argument::Number(65_535)];
+
 impl Form {
     /// Whether this is the form's command word.
     fn has_word(self, word: &[u8]) -> bool
@@ -124,6 +157,12 @@ impl Form {
             Form::Unview => is_text(word, b"unview"),
             Form::Get => is_text(word, b"get"),
             Form::Page => is_text(word, b"page"),
+            Form::Edit => is_text(word, b"edit"),
+            Form::Put => is_text(word, b"put"),
+            Form::Del => is_text(word, b"del"),
+            Form::Tx => is_text(word, b"tx"),
+            Form::Close => is_text(word, b"close"),
+            Form::Abandon => is_text(word, b"abandon"),
         }
     }
 
@@ -144,6 +183,12 @@ impl Form {
             Form::Unview => &UNVIEW,
             Form::Get => &GET,
             Form::Page => &PAGE,
+            Form::Edit => &EDIT,
+            Form::Put => &PUT,
+            Form::Del => &DEL,
+            Form::Tx => &TX,
+            Form::Close => &CLOSE,
+            Form::Abandon => &ABANDON,
         }
     }
 }
@@ -207,6 +252,7 @@ fn is_wrong(alloc: Global, cause: Cause, argument: &Argument, word: &[u8]) -> Re
         Argument::Kind => Ok(kind_is_wrong(cause, word)),
         Argument::Id => Ok(id_is_wrong(cause, word)),
         Argument::Blob => blob_is_wrong(alloc, cause, word),
+        Argument::Data => data_is_wrong(alloc, cause, word),
     }
 }
 
@@ -277,6 +323,22 @@ fn blob_is_wrong(alloc: Global, cause: Cause, word: &[u8]) -> Result<bool, Memor
             let bytes = blob_word(alloc, word)?;
             Ok(bytes.is_none())
         }
+        _ => Ok(false),
+    }
+}
+
+fn data_is_wrong(alloc: Global, cause: Cause, word: &[u8]) -> Result<bool, Memory>
+    ensures { IfOk result (λ found. MatchBool found (IsWrong cause Argument.Data word.now) (IsWrong cause Argument.Data word.now → ⊥)) }
+{
+    match cause {
+        Cause::BadHex => {
+            let bytes = blob_word(alloc, word)?;
+            Ok(bytes.is_none())
+        }
+        Cause::DataTooLong => match blob_word(alloc, word)? {
+            Some(blob) => Ok(blob.bytes().len() > DATA_LIMIT),
+            None => Ok(false),
+        },
         _ => Ok(false),
     }
 }

@@ -29,7 +29,7 @@ pub const MOST_TEXT: usize = 2_200_000;
 pub const MOST_COMMANDS: usize = 200_000;
 
 /// The causes that a line's text may have, in the order in which they are tried.
-const ORDER: [Cause; 12] = [
+const ORDER: [Cause; 13] = [
     Cause::NotPrintable,
     Cause::LineTooLong,
     Cause::NoActor,
@@ -41,6 +41,7 @@ const ORDER: [Cause; 12] = [
     Cause::BadKindOrId,
     Cause::ZeroTarget,
     Cause::BadRecord,
+    Cause::DataTooLong,
     Cause::TooManyCommands,
 ];
 

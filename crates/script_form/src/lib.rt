@@ -4,6 +4,7 @@
 mod call;
 mod cause;
 mod digits;
+mod edit_call;
 mod forms;
 mod judging;
 mod line;

@@ -10,7 +10,7 @@ use std::test::Fail;
 /// has; each line's number, actor and the line that it waits for; or the refused line and its cause. `T`
 /// is a hash, `Z` the zero hash, `I` the root's node ID, `_` 62 zeros, `%` 236 of them, `~` a newline, and
 /// `^` a byte that isn't printable.
-const READ: [(&str, &str); 34] = [
+const READ: [(&str, &str); 41] = [
     ("", ""),
     ("~  ~# x^x", "refused 3 1"),
     ("# T~~  0   check   T  ", "3 0 0;"),
@@ -51,6 +51,16 @@ const READ: [(&str, &str); 34] = [
     ("0 node 1 Z state I -", "refused 1 10"),
     ("0 want Z 1", "refused 1 10"),
     ("0 tick T~0 tick Z~0 bogin", "refused 2 10"),
+    (
+        "0 edit 1 T~0 put 1 T 05~0 tx 1 T -~0 del 1 T~0 close 1 7 4294967295 255 255~0 abandon 1",
+        "1 0 0;2 0 0;3 0 0;4 0 0;5 0 0;6 0 0;",
+    ),
+    ("0 close 1 0 0 0", "refused 1 6"),
+    ("0 close 1 18446744073709551616 0 0 0", "refused 1 7"),
+    ("0 close 1 0 0 256 0", "refused 1 7"),
+    ("0 put 65536 Z 0", "refused 1 7"),
+    ("0 put 1 Z 0", "refused 1 8"),
+    ("0 del 1 Z", "refused 1 10"),
 ];
 
 /// The same with records. The hash of bytes is their sum and zeros; `54584E00` is the prefix of a bare

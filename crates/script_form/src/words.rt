@@ -2,14 +2,14 @@
 ghost use Rattle.std.specs.Prelude.{◌≡◌, ◌≢◌, ◌≤◌, ◌<◌, ◌∷◌, ◌^◌, ℕ, List, Ok, length, map, slice_index, IfOk, MatchBool, MatchOption};
 ghost use Rattle.half_hash.specs.Hex.{IsHexOf};
 ghost use Rattle.ledger_spec.specs.declared.Kind.{Kind};
-ghost use Rattle.script_form.specs.Words.{words_of as text_words, IsNumber, IsCount, IsTarget, IsKind, IsBlob, IsId, IsIdText};
+ghost use Rattle.script_form.specs.Words.{words_of as text_words, IsNumber, IsCount, IsTarget, IsKind, IsBlob, IsData, IsId, IsIdText};
 ghost use Rattle.script_form.specs.Words.{decimal_behind};
 
 use crate::digits::decode;
 use half_hash::{Blob, Hash32, Memory};
 use memchr::memchr;
 use nib_path::NodeId;
-use shamap_node::Kind;
+use shamap_node::{DATA_LIMIT, Kind};
 use std::alloc::Global;
 
 /// Where the first separator stands, or the end.
@@ -150,4 +150,17 @@ pub fn blob_word(alloc: Global, word: &[u8]) -> Result<Option<Blob>, Memory>
         Some(bytes) => Ok(Some(Blob::new(bytes))),
         None => Ok(None),
     }
+}
+
+/// The same of an item's data, where it isn't too long.
+pub(crate) fn data_word(alloc: Global, word: &[u8]) -> Result<Option<Blob>, Memory>
+    ensures { IfOk result (λ found. MatchOption found ((bytes : List ℕ) → IsData word.now bytes → ⊥) (IsData word.now)) }
+{
+    let Some(blob) = blob_word(alloc, word)? else {
+        return Ok(None);
+    };
+    if blob.bytes().len() > DATA_LIMIT {
+        return Ok(None);
+    }
+    Ok(Some(blob))
 }

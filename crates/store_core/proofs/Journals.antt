@@ -146,6 +146,12 @@ served_acquires (command.View v t) served = tt
 served_acquires (command.Unview v) served = tt
 served_acquires (command.Get v kind key) served = tt
 served_acquires (command.Page v kind key n) served = tt
+served_acquires (command.Edit x t) served = tt
+served_acquires (command.Put x item) served = tt
+served_acquires (command.Del x key) served = tt
+served_acquires (command.Tx x item) served = tt
+served_acquires (command.Close x fields) served = tt
+served_acquires (command.Abandon x) served = tt
 served_acquires _ served = absurd served
 
 module _ (half : Half) (records : List Record) (lines : List Line) (cursors : List ℕ) (journal : List Entry) (capacity interval : ℕ)

@@ -15,3 +15,10 @@ pub mod Following
 pub mod Viewing
 pub mod Paging
 pub mod Charging
+pub mod Benches
+pub mod Changing
+pub mod Starting
+pub mod Keeping
+pub mod KeepingAll
+pub mod Sealing
+pub mod Publishing

@@ -16,7 +16,7 @@ use Rattle.ledger_machine.specs.Want.{after_want}
 use Rattle.store_core.specs.Wanting.{settled}
 
 -- a new entry makes a table longer by one, or takes the place of another
-insert_few : {X : Type 0} (m : List (Hash × X)) (k : Hash) (x : X) → length (insert_in hash_cmp m k x) ≤ suc (length m)
+pub insert_few : {X : Type 0} (m : List (Hash × X)) (k : Hash) (x : X) → length (insert_in hash_cmp m k x) ≤ suc (length m)
 insert_few [] k x = omega arith
 insert_few (e ∷ m) k x =
     elim (hash_cmp k e.0) as (λ o. length (match_ordering o ((k, x) ∷ e ∷ m) ((e.0, x) ∷ m) (e ∷ insert_in hash_cmp m k x)) ≤ suc

@@ -16,7 +16,7 @@ use Rattle.ledger_machine.specs.Runs.{Answers, IsRunOf, opening_of, Projects, an
 use Rattle.ledger_machine.specs.Receipts.{AllStay}
 use Rattle.ledger_machine.specs.Exact.{AreEveryMaps}
 use Rattle.ledger_machine.specs.Complete.{IsAllStored, AreExact}
-use Rattle.ledger_machine.specs.Collisions.{IsClash, Collides, offered_in}
+use Rattle.ledger_machine.specs.Collisions.{brought_by, ShowsIn}
 use Rattle.run_io.specs.Bytes.{Rose}
 use Rattle.script_form.specs.Servable.{AreServable}
 
@@ -113,8 +113,10 @@ pub record IsMachineRun (half : Half) (c : CoreView) : Type 0 where
   pub sound : Sound half c.state
   -- nothing that a retained ledger reaches is absent
   pub present : (t : Hash) → Contains (retained c.state) t → IsAllStored (form_in c.state) t
-  -- a clash shows two different forms that the script offers, with one hash
-  pub clashes : (e : Entry) → Contains c.journal e → IsClash e.reply → Collides half (offered_in half c.records c.lines)
+  -- a clash shows two different forms with one hash, of those that the script offers and those that its closes make, and a zero hash one
+  -- of them that has it
+  pub clashes : (along : IsRun half c) (e : Entry) → Contains c.journal e
+      → ShowsIn half (brought_by half c.records c.lines c.interval c.journal c.state along) e.reply
 
 -- What holds of a core each time that it is given back; `told` says whether its store tells what it holds.
 pub record IsJournal (half : Half) (told : Bool) (c : CoreView) : Type 0 where

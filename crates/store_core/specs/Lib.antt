@@ -5,3 +5,5 @@ pub mod Journal
 pub mod Dumping
 pub mod Totals
 pub mod Reads
+pub mod Benches
+pub mod Closing

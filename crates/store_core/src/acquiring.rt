@@ -193,9 +193,8 @@ impl<H: NodeHash, Sh: Shelf> Machine<H, Sh> {
         ensures err { OnErr result (self.new ≡ self.old) }
         ensures faults { self.new.faults ≡ self.old.faults }
     {
-        self.listed.insert(*target, seq)?;
+        self.enlist(target, seq)?;
         self.wanted.remove(target);
-        self.last = Some(self.last.unwrap_or(seq));
         Ok(())
     }
 

@@ -2,6 +2,10 @@
 #![tactic(auto)]
 
 mod acquiring;
+mod bench;
+mod closing;
+mod drafts;
+mod editing;
 mod laws;
 mod machine;
 mod pages;

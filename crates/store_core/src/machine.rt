@@ -4,8 +4,7 @@ ghost use Rattle.std.specs.FinMap as finite;
 ghost use Rattle.std.specs.Option.{option_copied};
 ghost use Rattle.run_io.specs.Bytes.{Rose};
 ghost use Rattle.shamap_node.specs.Nodes.{held};
-ghost use Rattle.script_form.specs.Servable.{IsServed};
-ghost use Rattle.ledger_machine.specs.Scripts.{IsInRange};
+ghost use Rattle.ledger_machine.specs.Scripts.{IsBeside, IsInRange};
 ghost use Rattle.ledger_machine.specs.State.{opening};
 ghost use Rattle.ledger_machine.specs.Steps.{Step};
 ghost use Rattle.store_core.specs.Desks.{IsFiled, Grows, OnlyReads, over};
@@ -145,14 +144,14 @@ impl<H: NodeHash, Sh: Shelf> Machine<H, Sh> {
         Ok(next)
     }
 
-    /// One step of the machine: the reply, and the nodes that it used.
+    /// One step of a command that names no session and sees none: the reply, and the nodes that it used.
     pub(crate) fn answer(
         &mut self,
         alloc: Global,
         actor: u8,
         command: &Command,
     ) -> (Reply, Vec<Arc<Node>>)
-        requires served { IsServed command.now }
+        requires beside { IsBeside command.now }
         requires in_range { IsInRange command.now }
         requires filed { IsFiled H.half Sh.B.tells self.old.state }
         ensures step { IsTrue Sh.B.tells
@@ -181,7 +180,7 @@ impl<H: NodeHash, Sh: Shelf> Machine<H, Sh> {
 
     /// One step of a command that reads nothing.
     fn act(&mut self, alloc: Global, actor: u8, command: &Command) -> Reply
-        requires served { IsServed command.now }
+        requires beside { IsBeside command.now }
         requires reads_nothing { ReadsNothing command.now }
         requires in_range { IsInRange command.now }
         requires filed { IsFiled H.half Sh.B.tells self.old.state }
@@ -218,10 +217,6 @@ impl<H: NodeHash, Sh: Shelf> Machine<H, Sh> {
                 Err(fault) => unsearched(fault),
             },
             Command::Tick { target } => Reply::Tick(self.tick(target)),
-            Command::View { view, target } => match self.view(actor, *view, target) {
-                Ok(reply) => Reply::View(reply),
-                Err(_) => Reply::Memory,
-            },
             Command::Unview { view } => Reply::Unview(self.unview(actor, *view)),
             _ => unreachable!(),
         }
@@ -229,7 +224,7 @@ impl<H: NodeHash, Sh: Shelf> Machine<H, Sh> {
 }
 
 /// The reply where nothing was read.
-fn unread(fault: BackFault) -> Reply
+pub(crate) fn unread(fault: BackFault) -> Reply
     ensures { result ≡ read_refusal fault }
 {
     match fault {

@@ -13,8 +13,9 @@ ghost use Rattle.rotating_store.specs.Stores.{Store};
 ghost use Rattle.store_core.specs.Dumping.{IsNextRecord, Follows, Lists, missed_after};
 ghost use Rattle.store_core.specs.Totals.{totals_of, is_complete as completes, is_closed as closes};
 
-use crate::machine::Machine;
+use crate::bench::Bench;
 use crate::records::put_records;
+use cow_map::what_is_left_is_whole;
 use half_hash::{Hash32, NodeHash, known_half};
 use ledger_machine::{CheckReply, CloseReply, Entry, Line, Record, Reply, Script, Totals};
 use node_backend::{BackFault, Shelf};
@@ -59,7 +60,7 @@ pub struct Core<H: NodeHash, Sh: Shelf> {
     missed: u64,
     cursors: Vec<usize>,
     journal: Vec<Entry>,
-    machine: Machine<H, Sh>,
+    bench: Bench<H, Sh>,
 }
 
 impl<H: NodeHash, Sh: Shelf> Model for Core<H, Sh> {
@@ -77,14 +78,14 @@ impl<H: NodeHash, Sh: Shelf> Model for Core<H, Sh> {
       lines = c.script.lines.items;
       interval = c.interval;
       opened = c.opened;
-      faults = c.machine.faults;
+      faults = c.bench.faults;
       missed = c.missed;
       journal = c.journal.items;
-      state = c.machine.state;
+      state = c.bench.state;
     } };
 
     ghost invariant = { λ c. CoreKeeps H.half c.script.records.items c.script.lines.items c.cursors.items c.journal.items
-        (vec_capacity c.journal) c.interval Sh.B.tells c.opened c.machine.faults c.missed c.machine.state };
+        (vec_capacity c.journal) c.interval Sh.B.tells c.opened c.bench.faults c.missed c.bench.state };
 }
 
 impl<H: NodeHash, Sh: Shelf> Core<H, Sh> {
@@ -125,7 +126,7 @@ impl<H: NodeHash, Sh: Shelf> Core<H, Sh> {
             missed: 0,
             cursors,
             journal,
-            machine: Machine::new(alloc, hash, INTERVAL, store),
+            bench: Bench::new(alloc, hash, INTERVAL, store),
         })
     }
 
@@ -139,6 +140,7 @@ impl<H: NodeHash, Sh: Shelf> Core<H, Sh> {
         ensures few { length self.new.journal ≤ length self.new.lines }
     {
         known_half::<H>();
+        what_is_left_is_whole();
         if actor as usize >= self.cursors.len() {
             return Stepped::Finished;
         }
@@ -153,7 +155,7 @@ impl<H: NodeHash, Sh: Shelf> Core<H, Sh> {
             return Stepped::Blocked;
         }
         let line = &self.script.lines[at];
-        let (reply, used) = self.machine.answer(alloc, actor, &line.command);
+        let (reply, used) = self.bench.answer(alloc, actor, &line.command);
         let entry = Entry {
             line: line.number,
             actor,
@@ -229,7 +231,7 @@ impl<H: NodeHash, Sh: Shelf> Core<H, Sh> {
         ensures missed { self.new.missed ≡ missed_after result self.old.missed }
         ensures fault { IfErr result (λ e. e ≡ OpenFault.Fault → Rose self.old.faults self.new.faults) }
     {
-        match self.machine.next_stored(alloc, after) {
+        match self.bench.next_stored(alloc, after) {
             Ok(next) => Ok(next),
             Err(BackFault::Fault) => {
                 self.missed = self.missed.saturating_add(1);
@@ -250,15 +252,15 @@ impl<H: NodeHash, Sh: Shelf> Core<H, Sh> {
     pub fn totals(&self) -> Totals
         ensures { result ≡ totals_of self.now.journal self.now.state }
     {
-        let listed = self.machine.listed() as u32;
+        let listed = self.bench.listed() as u32;
         let journal = self.journal();
         Totals {
             complete: complete_in(journal) as u32,
             closed: closed_in(journal) as u32,
             listed,
-            floor: self.machine.floor(),
-            last: self.machine.last(),
-            epoch: self.machine.epoch(),
+            floor: self.bench.floor(),
+            last: self.bench.last(),
+            epoch: self.bench.epoch(),
         }
     }
 }

@@ -81,8 +81,8 @@ pub(crate) fn check_told(reply: Checked) -> CheckReply
     }
 }
 
-/// The reply where an offer was not judged.
-fn refusal(fault: OfferFault) -> Reply
+/// The reply where an offer was not judged, or a form not stored.
+pub(crate) fn refusal(fault: OfferFault) -> Reply
     ensures { result ≡ refusal_of fault }
 {
     match fault {

@@ -5,8 +5,9 @@ ghost use Rattle.std.specs.Map.{values_of};
 ghost use Rattle.ledger_spec.specs.Bytes.{Hash, Half, same_bytes};
 ghost use Rattle.ledger_spec.specs.declared.Kind.{Kind as the_kind};
 ghost use Rattle.run_io.specs.Bytes.{Rose};
-ghost use Rattle.ledger_machine.specs.Views.{is_retained as state_retains, view_reply, after_view, unview_reply, after_unview};
+ghost use Rattle.ledger_machine.specs.Views.{is_retained as state_retains, after_view, unview_reply, after_unview};
 ghost use Rattle.ledger_machine.specs.Reading.{IsRead, view_root};
+ghost use Rattle.store_core.specs.Benches.{view_by};
 ghost use Rattle.store_core.specs.Desks.{IsFiled, OnlyReads};
 ghost use Rattle.path_proof.specs.Paths.{held_nodes};
 ghost use Rattle.store_core.specs.Reads.{IsFollowed, IsGot, Says};
@@ -34,14 +35,15 @@ pub(crate) struct Got {
 }
 
 impl<H: NodeHash, Sh: Shelf> Machine<H, Sh> {
-    /// Opens a view of a retained ledger.
+    /// Opens a view of a ledger, if that is retained.
     pub(crate) fn view(
         &mut self,
         actor: u8,
         view: u16,
         target: &Hash32,
+        retained: bool,
     ) -> Result<ViewReply, Memory>
-        ensures reply { IfOk result (λ r. r ≡ view_reply self.old.state (actor, view) target.now) }
+        ensures reply { IfOk result (λ r. r ≡ view_by retained self.old.state (actor, view)) }
         ensures after { IfOk result (λ r. self.new.state ≡ after_view self.old.state (actor, view) target.now r) }
         ensures err { OnErr result (self.new ≡ self.old) }
         ensures faults { self.new.faults ≡ self.old.faults }
@@ -50,7 +52,7 @@ impl<H: NodeHash, Sh: Shelf> Machine<H, Sh> {
         if self.views.contains_key(&id) {
             return Ok(ViewReply::InUse);
         }
-        if !self.is_retained(target) {
+        if !retained {
             return Ok(ViewReply::NotRetained);
         }
         if self.views.len() == MOST_VIEWS {
@@ -61,7 +63,7 @@ impl<H: NodeHash, Sh: Shelf> Machine<H, Sh> {
     }
 
     /// Whether the ledger is listed, or pinned by a view.
-    fn is_retained(&self, target: &Hash32) -> bool
+    pub(crate) fn is_retained(&self, target: &Hash32) -> bool
         ensures { result ≡ state_retains self.now.state target.now }
     {
         self.listed.contains_key(target) || is_pinned(&self.views, target)

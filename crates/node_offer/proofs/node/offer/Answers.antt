@@ -24,8 +24,8 @@ returns-in_err-offer_to-clause-err g c tells all =
     handed_on _ _ _ c.from_residual-in_err-offer_to.ensures.1
     (refused_there g.H.NodeHash.half c.args.store.now c.place.new.store _ c.args.target.now c.args.kind c.args.id.now (held c.in-Ok.node)
     (spot c.in_ok-spot.spot) _ c.in_err-offer_to.field-0.0
-    (c.place.ensures.read.same tells) all (c.in_ok-spot.ensures.spot (tells, stored_notes g.H.NodeHash.half c.args.store.now all)) c.in-Ok.ensures.node
-    (c.in_err-offer_to.ensures.err tells))
+    (c.place.ensures.read.same tells) all (c.in_ok-spot.ensures.spot (tells, stored_notes g.H.NodeHash.half c.args.store.now all))
+    c.in-Ok.ensures.node (c.in_err-offer_to.ensures.err tells))
 
 -- the form of a node that came by wire reads back as that node, so a note of it is true
 pub returns-in_err-offer_to-clause-notes : goal.returns-in_err-offer_to-clause-notes

@@ -1,4 +1,4 @@
-use Rattle.std.proofs.Common.{◌≡◌, length, arith}
+use Rattle.std.proofs.Common.{◌≡◌, length, refl, arith}
 use Rattle.script_form.specs.declared.forms.Form.TheVariants as form
 use Rattle.script_form.proofs.Calls.{five_words, last_word, says_as}
 use Rattle.script_form.proofs.call.node_of.Goals as goal
@@ -15,7 +15,7 @@ returns-in_default-2 c said says =
 pub returns : goal.returns
 returns c =
     says_as form.Node _ _
-    (c.in-Some.peer, (c.in-Some-target_word.target, (c.in-Some-kind_word.kind, (c.in-Some-id_word.id, (c.in-Some-2.blob, tt)))))
+    (c.in-Some.peer, (c.in-Some-target_word.target, (c.in-Some-kind_word.kind, (c.in-Some-id_word.id, (c.in-Some-2.blob, tt))))) _
     (five_words c.args.arguments.now _ _ _ _ _ (omega (arith, c.in-len5.len_at_least, c.in-len5.len_below))) (
       c.in-Some.ensures,
       (
@@ -23,3 +23,4 @@ returns c =
         (c.in-Some-kind_word.ensures, (c.in-Some-id_word.ensures, (rw c.in-Some-2.is at c.in_ok-blob.ensures, tt))),
       ),
     )
+    refl

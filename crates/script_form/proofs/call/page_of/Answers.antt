@@ -1,4 +1,4 @@
-use Rattle.std.proofs.Common.{arith}
+use Rattle.std.proofs.Common.{refl, arith}
 use Rattle.script_form.specs.declared.forms.Form.TheVariants as form
 use Rattle.script_form.proofs.Calls.{four_words, no_count, says_as}
 use Rattle.script_form.proofs.call.page_of.Goals as goal
@@ -10,6 +10,7 @@ returns-in_default-count c =
 
 pub returns : goal.returns
 returns c =
-    says_as form.Page _ _ (c.in_ok-view.view, (c.in_ok-kind.kind, (c.in_ok-after.after, (c.in-Some.n, tt))))
+    says_as form.Page _ _ (c.in_ok-view.view, (c.in_ok-kind.kind, (c.in_ok-after.after, (c.in-Some.n, tt)))) _
     (four_words c.args.arguments.now _ _ _ _ (omega (arith, c.in-len4.len_at_least, c.in-len4.len_below)))
     (c.in_ok-view.ensures, (c.in_ok-kind.ensures, (c.in_ok-after.ensures, (rw c.in-Some.is at c.count.ensures, tt))))
+    refl

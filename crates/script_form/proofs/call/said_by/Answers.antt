@@ -40,3 +40,22 @@ returns-in-Get c = read_as c.args.form form.Get (texts c.args.arguments.now) (Ok
 
 pub returns-in-Page : goal.returns-in-Page
 returns-in-Page c = read_as c.args.form form.Page (texts c.args.arguments.now) (Ok c.page_of.result) c.in-Page.is c.page_of.ensures
+
+pub returns-in-Edit : goal.returns-in-Edit
+returns-in-Edit c = read_as c.args.form form.Edit (texts c.args.arguments.now) (Ok c.edit_of.result) c.in-Edit.is c.edit_of.ensures
+
+pub returns-in-Del : goal.returns-in-Del
+returns-in-Del c = read_as c.args.form form.Del (texts c.args.arguments.now) (Ok c.del_of.result) c.in-Del.is c.del_of.ensures
+
+pub returns-in-Close : goal.returns-in-Close
+returns-in-Close c = read_as c.args.form form.Close (texts c.args.arguments.now) (Ok c.close_of.result) c.in-Close.is c.close_of.ensures
+
+pub returns-in-Abandon : goal.returns-in-Abandon
+returns-in-Abandon c =
+    read_as c.args.form form.Abandon (texts c.args.arguments.now) (Ok c.abandon_of.result) c.in-Abandon.is c.abandon_of.ensures
+
+pub returns-in-Put : goal.returns-in-Put
+returns-in-Put c = read_as c.args.form form.Put _ _ c.in-Put.is c.put_of.ensures
+
+pub returns-in-Tx : goal.returns-in-Tx
+returns-in-Tx c = read_as c.args.form form.Tx _ _ c.in-Tx.is c.tx_of.ensures

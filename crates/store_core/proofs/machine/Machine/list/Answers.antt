@@ -4,6 +4,6 @@ use Rattle.store_core.proofs.Opens.{remove_open}
 use Rattle.store_core.proofs.machine.Machine.list.Goals as goal
 
 -- the other acquisitions stay open
-pub invariant_of-self-2 : goal.invariant_of-self-2
-invariant_of-self-2 g c =
+pub invariant_of-self : goal.invariant_of-self
+invariant_of-self g c =
     subst AreOpen (sym c.remove.ensures.entries) (remove_open c.args.target.now c.self.inside.wanted.entries c.self.invariant)

@@ -1,6 +1,6 @@
 -- the core's invariant, and the laws of the machine along the run
 use Rattle.ledger_laws.proofs.Completeness.{retained_stored, run_exact}
-use Rattle.ledger_laws.proofs.Collisions.{clash_collides}
+use Rattle.ledger_laws.proofs.Collisions.{entry_shown}
 use Rattle.ledger_laws.proofs.Receipts.{all_stay}
 use Rattle.ledger_laws.proofs.EveryMaps.{reads_exact}
 use Rattle.store_core.proofs.Journals.{kept_few, kept_projects, kept_acquires, kept_ranges}
@@ -22,7 +22,7 @@ returns-clause-kept g c =
         reads = λ run. reads_exact g.H.NodeHash.half c.known_half.ensures _ (kept_ranges _ _ _ _ _ _ _ _ _ _ _ _ k) _ _ _ run;
         sound = k.sound told;
         present = λ t i. retained_stored g.H.NodeHash.half _ t (k.sound told) i;
-        clashes = λ e among is. clash_collides g.H.NodeHash.half _ _ _ _ _ e k.recorded acquires (k.run told) among is;
+        clashes = λ run e among. entry_shown g.H.NodeHash.half _ _ _ _ _ e k.recorded acquires run among;
       };
       projects = kept_projects _ _ _ _ _ _ _ _ _ _ _ _ k;
       known = k.known;

@@ -28,12 +28,12 @@ returns-in_default-clause-blocked g c =
     ((λ e. cc), (λ blocked. absurd (done_free _ _ c.args.actor ((returns-in_default-clause-finished g c).0 refl) blocked)))
 
 -- each line of the script is one that a core serves, so the one that was found is
-pub answer-reply-requires-clause-served : goal.answer-reply-requires-clause-served
-answer-reply-requires-clause-served g c _ _ =
+pub answer-reply-requires-clause-covered : goal.answer-reply-requires-clause-covered
+answer-reply-requires-clause-covered g c _ _ =
     let k = c.self.invariant in
     let next = moved c.self.inside.cursors.items c.deref.ensures.value c.index-from.ensures
     c.self.inside.cursors.ok.0 c.len.ensures c.if-actor-len.false c.in-Some.ensures in
-    kept_served _ _ _ _ _ _ _ _ _ _ _ _ k _ next.within c.index-line.result.now c.index-line.ensures
+    served_acquires _ (kept_served _ _ _ _ _ _ _ _ _ _ _ _ k _ next.within c.index-line.result.now c.index-line.ensures)
 
 -- each line of the script is in range, so the one that was found is
 pub answer-reply-requires-clause-in_range : goal.answer-reply-requires-clause-in_range
@@ -43,8 +43,8 @@ answer-reply-requires-clause-in_range g c _ _ =
     c.self.inside.cursors.ok.0 c.len.ensures c.if-actor-len.false c.in-Some.ensures in
     kept_in_range _ _ _ _ _ _ _ _ _ _ _ _ k _ next.within c.index-line.result.now c.index-line.ensures
 
-pub answer-reply-requires-clause-filed : goal.answer-reply-requires-clause-filed
-answer-reply-requires-clause-filed g c _ _ = λ t. (c.self.invariant.sound t).forms
+pub answer-reply-requires-clause-sound : goal.answer-reply-requires-clause-sound
+answer-reply-requires-clause-sound g c _ _ = c.self.invariant.sound
 
 -- room for an entry of each line was reserved, and this line has none yet, so the push succeeds
 pub unwrap-requires : goal.unwrap-requires
@@ -144,7 +144,7 @@ invariant_of-self-2 g c =
     rw (pushed c.push.result _ _ _ _ c.push.ensures.items c.unwrap.ensures)
     (kept_step _ _ _ _ _ _ _ _ _ _ _ _ k c.args.actor _ (omega (arith, k.cursor_count, c.len.ensures, c.if-actor-len.false)) next
     c.index-line.result.now c.index-line.ensures _ _ _ _ refl refl free step
-    (λ t. covered_step_sound _ c.known_half.ensures _ _ _ _ _ _ served range (k.sound t) (step t))
+    (λ t. covered_step_sound _ c.known_half.ensures c.what_is_left_is_whole.ensures _ _ _ _ _ _ served range (k.sound t) (step t))
     c.answer-reply.ensures.grows.few c.push.ensures.capacity c.answer-reply.ensures.grows.later
     c.answer-reply.ensures.fault)
 
@@ -175,7 +175,7 @@ returns-clause-answered g c _ =
       actor = refl;
       later = c.answer-reply.ensures.grows.later;
       cause = c.answer-reply.ensures.fault;
-      step = λ t. answers g.H.NodeHash.half c.self.inside.script.lines.items c.self.inside.machine.state c.answer-reply.new.self.state
+      step = λ t. answers g.H.NodeHash.half c.self.inside.script.lines.items c.self.inside.bench.state c.answer-reply.new.self.state
           c.index-line.result.now _ _ _ next c.index-line.ensures refl refl
           (c.answer-reply.ensures.step t);
     })

@@ -1,0 +1,481 @@
+-- The forms of a map's tree, where they are stored under their halves and none of these is zero: they are forms of nodes, and the tree
+-- is whole.
+use Rattle.std.proofs.Common.{◌≡◌, ◌≢◌, ℕ, zero, suc, ◌+◌, ◌<◌, ◌≤◌, ◌==◌, ◌||◌, if◌then◌else◌, not, Bool}
+use Rattle.std.proofs.Common.{true, false, IsTrue, List, [], ◌∷◌, ◌++◌}
+use Rattle.std.proofs.Common.{length, map, get_or, Option, None, Some, Contains, refl, sym, ap, ◌∙◌, subst, arith, length-append}
+use Rattle.std.proofs.lemmas.Bool.{eqb-true, false≢true}
+use Rattle.std.proofs.lemmas.List.FromFn.{get_or-map-range_with_len, get_or-range_with_len}
+use Rattle.std.proofs.lemmas.List.Elements.{Contains-append_left, Contains-append_right, Contains-append_cases}
+use Rattle.std.proofs.Common.{⊎_elim}
+use Rattle.std.specs.List.{AllByRecursion, flat_map, list_any}
+use Rattle.std.specs.List.Sorted.{IsStrictlySortedBy}
+use Rattle.std.specs.Ordering.{is_eq}
+use Rattle.nib_path.specs.Paths.{lies_under}
+use Rattle.ledger_spec.specs.Maps.{hash_cmp, IsMap}
+use Rattle.ledger_spec.specs.declared.Kind.{Kind}
+use Rattle.ledger_spec.specs.declared.Kind.TheVariants.{State, Tx, Set}
+use Rattle.ledger_spec.specs.declared.ShapeFault.{ShapeFault}
+use Rattle.ledger_spec.specs.declared.ShapeFault.TheVariants.{WrongKind, LeafElsewhere, LeafAtRoot, InnerAtBottom}
+use Rattle.ledger_spec.specs.Bytes.{Bytes, Hash, Half, IsHalf, Lookup, Items, zero_hash, is_zero, is_nonzero, are_bytes, branches}
+use Rattle.ledger_spec.specs.Forms.{Held, inner, leaf, IsHeld, IsItem, IsInner, Form, form_of, leaf_form, leaf_prefix, inner_prefix}
+use Rattle.ledger_spec.specs.Forms.{hash_or_zero}
+use Rattle.ledger_spec.specs.Rules.{fault_of, same_kind}
+use Rattle.ledger_spec.specs.Findings.{sound, sight_of, judged, seen_as}
+use Rattle.ledger_spec.specs.Tree.{Entry, IsByteEntry, AreItems, part, is_alone, form_of_part, forms_of_part, form_at, root_of, forms_of}
+use Rattle.ledger_spec.proofs.ByteForms.{bytes_join}
+use Rattle.ledger_spec.proofs.Readings.{sees}
+use Rattle.tree_laws.specs.Walks.{found_below}
+use Rattle.tree_laws.proofs.Below.{below_zero}
+use Rattle.tree_laws.proofs.ByteItems.{keys_of_items}
+use Rattle.tree_laws.proofs.Joins.{in_one, in_join, in_range, join_has}
+use Rattle.tree_laws.proofs.MapPages.{all_under, map_kept, part_branches}
+use Rattle.tree_laws.proofs.Parts.{filter_all}
+use Rattle.tree_laws.proofs.Shapes.{key_size}
+use Rattle.tree_laws.proofs.Subtrees.{form_none, form_bottom, form_alone, form_fork, forms_none, forms_bottom, forms_alone, forms_fork}
+use Rattle.tree_laws.proofs.Trees.{alone_nil, at_itself, concat_map, each_in_part, kid_hash, size_or_zero, sizes_map, under_whole}
+use Rattle.cow_map.specs.declared.link.Link.{Link}
+use Rattle.cow_map.specs.declared.link.Link.TheVariants.{Empty, Unloaded}
+use Rattle.cow_map.specs.Bodies.{CowTree}
+use Rattle.cow_map.specs.Trees.{one, fork, found_at, found_held, found_seen, fewest, link_to, StandsAt, StandsFor}
+use Rattle.cow_map.specs.Unloaded.{EachLeft, IsLeftWhole}
+use Rattle.cow_map.proofs.Standing.{stands_from}
+use Rattle.ledger_laws.proofs.SoundForms.{IsByteForm, in_nothing}
+
+-- two keys under a path of 64 nibbles don't rise
+one_at_bottom : (path : List ℕ) (e : Entry) (others : Items) → length path ≡ 64 → IsMap hash_cmp (e ∷ others)
+    → AllByRecursion (λ (x : Entry). length x.0 ≡ 32) (e ∷ others)
+    → AllByRecursion (λ (x : Entry). lies_under path x.0 ≡ true) (e ∷ others) → others ≡ []
+unfolding IsStrictlySortedBy
+one_at_bottom path e [] deep sorted sizes under = refl
+one_at_bottom path e (f ∷ others) deep sorted sizes under =
+    let same : e.0 ≡ f.0 = under_whole path e.0 f.0 deep sizes.0 sizes.1.0 under.0 under.1.0 in
+    let equal : is_eq (hash_cmp e.0 f.0) ≡ true = at_itself e.0 f.0 same in
+    absurd (false≢true (sym (ap is_eq sorted.0.0) ∙ equal))
+
+-- each entry's key has 32 bytes
+key_sizes : (half : Half) (kind : Kind) (items : Items) → AllByRecursion (λ (e : Entry). IsHeld half (leaf kind e.0 e.1)) items
+    → AllByRecursion (λ (e : Entry). length e.0 ≡ 32) items
+key_sizes half kind [] all = tt
+key_sizes half kind (e ∷ items) all = (key_size half kind e.0 e.1 all.0, key_sizes half kind items all.1)
+
+-- a leaf's key and data are an item
+item_held : (half : Half) (kind : Kind) (key bytes : Bytes) → IsHeld half (leaf kind key bytes) → IsItem key bytes
+item_held half State key bytes h = h
+item_held half Tx key bytes h = h
+item_held half Set key bytes h = h.0
+
+-- a leaf's form is bytes
+leaf_bytes : (kind : Kind) (key bytes : Bytes) → IsTrue (are_bytes key) → IsTrue (are_bytes bytes)
+    → IsTrue (are_bytes (leaf_form kind key bytes))
+leaf_bytes State key bytes k b = bytes_join (leaf_prefix State) (bytes ++ key) refl (bytes_join bytes key b k)
+leaf_bytes Tx key bytes k b = bytes_join (leaf_prefix Tx) (bytes ++ key) refl (bytes_join bytes key b k)
+leaf_bytes Set key bytes k b = bytes_join (leaf_prefix Set) bytes refl b
+
+kind_itself : (kind : Kind) → same_kind kind kind ≡ true
+kind_itself State = refl
+kind_itself Tx = refl
+kind_itself Set = refl
+
+-- a leaf of the map's kind on its way, below the root, breaks no rule without a parent
+leaf_fits : (a b c : Bool) (w r e : ShapeFault) → a ≡ true → b ≡ false → c ≡ true
+    → (if not a then Some w else if b then Some r else if not c then Some e else None) ≡ None
+leaf_fits true false true w r e x y z = refl
+leaf_fits false b c w r e x y z = cc
+leaf_fits true true c w r e x y z = cc
+leaf_fits true false false w r e x y z = cc
+
+not_zero : (n : ℕ) → 0 < n → (n == 0) ≡ false
+not_zero n some = by (n == 0) refl
+  where
+    by : (t : Bool) → (n == 0) ≡ t → t ≡ false
+    by true is = absurd (omega (arith, some, eqb-true n 0 is))
+    by false is = refl
+
+below_64 : (n : ℕ) → n < 64 → (n == 64) ≡ false
+below_64 n low = by (n == 64) refl
+  where
+    by : (t : Bool) → (n == 64) ≡ t → t ≡ false
+    by true is = absurd (omega (arith, eqb-true n 64 is))
+    by false is = refl
+
+-- a branch is one of sixteen
+in_16 : (b : ℕ) → Contains branches b → b < 16
+in_16 b c = at c.0 c.1 c.2
+  where
+    at : (k : ℕ) → k < 16 → get_or branches k b ≡ b → b < 16
+    at k low is = omega (arith, low, is, get_or-range_with_len 0 16 k b low)
+
+or_false : (a b : Bool) → (a || b) ≡ false → (a ≡ false) × (b ≡ false)
+or_false false false e = (refl, refl)
+or_false true b e = cc
+or_false false true e = cc
+
+nonzero_is : (h : Hash) → IsTrue (is_nonzero h) → is_zero h ≡ false
+nonzero_is h e = by (is_zero h) refl
+  where
+    by : (t : Bool) → is_zero h ≡ t → t ≡ false
+    by true is = let no : not true ≡ true = sym (ap not is) ∙ e in absurd (false≢true no)
+    by false is = refl
+
+link_of : (h : Hash) → is_zero h ≡ false → link_to h ≡ Unloaded h
+link_of h z = ap (λ (t : Bool). if t then Empty else Unloaded h) z
+
+link_none : link_to zero_hash ≡ Empty
+link_none = refl
+
+-- all lies under the top
+top_part : (items : Items) → part items [] ≡ items
+top_part items = filter_all (λ (e : Entry). lies_under [] e.0) items (each_under items)
+  where
+    each_under : (l : Items) → AllByRecursion (λ (e : Entry). lies_under [] e.0 ≡ true) l
+    each_under [] = tt
+    each_under (e ∷ l) = (refl, each_under l)
+
+module _ (half : Half) (sized : IsHalf half) (kind : Kind) (items : Items) (are : AreItems half kind items) where
+  abbrev here : List ℕ → List Entry
+  here path = part items path
+
+  abbrev form_here : ℕ → List ℕ → Option Bytes
+  form_here left path = form_of_part half kind items left path (here path)
+
+  abbrev forms_here : ℕ → List ℕ → List Bytes
+  forms_here left path = forms_of_part half kind items left path (here path)
+
+  -- no form at or below a path has the zero hash
+  abbrev AllNonzero : ℕ → List ℕ → Type 0
+  AllNonzero left path = (form : Bytes) → Contains (forms_here left path) form → IsTrue (is_nonzero (half form))
+
+  -- the entries under a path
+  held_here : (path : List ℕ) → AllByRecursion (λ (e : Entry). IsHeld half (leaf kind e.0 e.1)) (here path)
+  held_here path = each_in_part (λ (e : Entry). IsHeld half (leaf kind e.0 e.1)) (λ (e : Entry). lies_under path e.0) items are.each
+
+  bytes_here : (path : List ℕ) → AllByRecursion IsByteEntry (here path)
+  bytes_here path = each_in_part IsByteEntry (λ (e : Entry). lies_under path e.0) items are.bytes
+
+  -- no entry is beside the first at the bottom
+  bottom_alone : (path : List ℕ) (e : Entry) (others : List Entry) → length path ≡ 64 → here path ≡ e ∷ others → others ≡ []
+  bottom_alone path e others deep is =
+      one_at_bottom path e others deep (subst (λ (l : Items). IsMap hash_cmp l) is (map_kept (λ x. lies_under path x.0) items are.rising))
+      (subst (λ (l : Items). AllByRecursion (λ (x : Entry). length x.0 ≡ 32) l) is (key_sizes half kind (here path) (held_here path)))
+      (subst (λ (l : Items). AllByRecursion (λ (x : Entry). lies_under path x.0 ≡ true) l) is (all_under path items))
+
+  -- where there is an entry there is a form, which is among the forms
+  form_there : (left : ℕ) (path : List ℕ) (e : Entry) (others : List Entry) → here path ≡ e ∷ others
+      → (form : Bytes) × (form_here left path ≡ Some form) × Contains (forms_here left path) form
+  form_there zero path e others is = (
+    leaf_form kind e.0 e.1,
+    ap (form_of_part half kind items zero path) is ∙ form_bottom half kind items path e others,
+    subst (λ (fs : List Bytes). Contains fs (leaf_form kind e.0 e.1))
+        (sym (ap (forms_of_part half kind items zero path) is ∙ forms_bottom half kind items path e others))
+        (0, omega arith, refl),
+  )
+  form_there (suc left) path e others is = by (is_alone path others) refl
+    where
+      above : Bytes
+      above = inner_prefix ++ flat_map (kid_hash half kind items left path) branches
+
+      by : (t : Bool) → is_alone path others ≡ t
+          → (form : Bytes) × (form_here (suc left) path ≡ Some form) × Contains (forms_here (suc left) path) form
+      by true lone = (
+        leaf_form kind e.0 e.1,
+        ap (form_of_part half kind items (suc left) path) is ∙ form_alone half kind items left path e others lone,
+        subst (λ (fs : List Bytes). Contains fs (leaf_form kind e.0 e.1))
+            (sym (ap (forms_of_part half kind items (suc left) path) is ∙ forms_alone half kind items left path e others lone))
+            (0, omega arith, refl),
+      )
+      by false many = (
+        above,
+        ap (form_of_part half kind items (suc left) path) is ∙ form_fork half kind items left path e others many,
+        subst (λ (fs : List Bytes). Contains fs above)
+            (sym (ap (forms_of_part half kind items (suc left) path) is ∙ forms_fork half kind items left path e others many))
+            (Contains-append_right (flat_map (λ b. forms_here left (path ++ b ∷ [])) branches) (above ∷ []) above (0, omega arith, refl)),
+      )
+
+  -- where the forms have no zero hash, only a branch without entries has it
+  zero_part : (left : ℕ) (path : List ℕ) → AllNonzero left path → is_nonzero (hash_or_zero half (form_here left path)) ≡ false
+      → here path ≡ []
+  zero_part left path nonzero none = by (here path) refl
+    where
+      by : (there : List Entry) → here path ≡ there → there ≡ []
+      by [] is = refl
+      by (e ∷ others) is =
+          let form = form_there left path e others is in
+          let same : is_nonzero (half form.0) ≡ false =
+          sym (ap (λ o. is_nonzero (hash_or_zero half o)) form.1) ∙ none in
+          absurd (false≢true (sym same ∙ nonzero form.0 form.2))
+
+  -- the forms below a branch are among those of the inner node
+  kid_among : (left : ℕ) (path : List ℕ) (e : Entry) (others : List Entry) → here path ≡ e ∷ others → is_alone path others ≡ false
+      → (b : ℕ) → b < 16 → (form : Bytes) → Contains (forms_here left (path ++ b ∷ [])) form
+      → Contains (forms_here (suc left) path) form
+  kid_among left path e others is many b low form c =
+      subst (λ (fs : List Bytes). Contains fs form)
+      (sym (ap (forms_of_part half kind items (suc left) path) is ∙ forms_fork half kind items left path e others many))
+      (Contains-append_left (flat_map (λ d. forms_here left (path ++ d ∷ [])) branches)
+      ((inner_prefix ++ flat_map (kid_hash half kind items left path) branches) ∷ []) form
+      (join_has (λ d. forms_here left (path ++ d ∷ [])) branches b form (in_range 16 0 b (omega arith) low) c))
+
+  -- where no branch has a hash, no branch has an entry
+  none_all : (left : ℕ) (path : List ℕ) (bs : List ℕ)
+      → ((b : ℕ) → Contains bs b → is_nonzero (kid_hash half kind items left path b) ≡ false → here (path ++ b ∷ []) ≡ [])
+      → list_any is_nonzero (map (kid_hash half kind items left path) bs) ≡ false
+      → flat_map (λ b. here (path ++ b ∷ [])) bs ≡ []
+  none_all left path [] each none = refl
+  none_all left path (b ∷ bs) each none =
+      let both = or_false (is_nonzero (kid_hash half kind items left path b))
+      (list_any is_nonzero (map (kid_hash half kind items left path) bs)) none in
+      let first : here (path ++ b ∷ []) ≡ [] = each b (0, omega arith, refl) both.0 in
+      let rest : flat_map (λ d. here (path ++ d ∷ [])) bs ≡ [] =
+      none_all left path bs (λ d c. each d (suc c.0, omega (arith, c.1), c.2)) both.1 in
+      λ i. first i ++ rest i
+
+  -- an inner node of the tree
+  inner_is : (left : ℕ) (path : List ℕ) (e : Entry) (others : List Entry) → length path + suc left ≡ 64 → here path ≡ e ∷ others
+      → ((b : ℕ) → b < 16 → AllNonzero left (path ++ b ∷ [])) → IsInner (map (kid_hash half kind items left path) branches)
+  inner_is left path e others size is nonzero = record {
+    count = refl;
+    sizes = sizes_map (kid_hash half kind items left path) branches (λ b. size_or_zero half sized.size _);
+    some = by (list_any is_nonzero (map (kid_hash half kind items left path) branches)) refl;
+  }
+    where
+      joined : here path ≡ flat_map (λ b. here (path ++ b ∷ [])) branches
+      joined = part_branches path items (omega (arith, size)) are.rising (keys_of_items half kind items are.each are.bytes)
+
+      by : (t : Bool) → list_any is_nonzero (map (kid_hash half kind items left path) branches) ≡ t → t ≡ true
+      by true any = refl
+      by false none =
+          let empty : here path ≡ [] =
+          joined ∙ none_all left path branches
+          (λ b c zero. zero_part left (path ++ b ∷ []) (nonzero b (in_16 b c)) zero) none in
+          let no : e ∷ others ≡ [] = sym is ∙ empty in cc
+
+  -- each form is one of a node, of bytes
+  inner_bytes : (left : ℕ) (path : List ℕ) (bs : List ℕ) → IsTrue (are_bytes (flat_map (kid_hash half kind items left path) bs))
+  inner_bytes left path [] = refl
+  inner_bytes left path (b ∷ bs) =
+      bytes_join (kid_hash half kind items left path b) (flat_map (kid_hash half kind items left path) bs)
+      (hash_bytes (form_here left (path ++ b ∷ []))) (inner_bytes left path bs)
+    where
+      hash_bytes : (o : Option Bytes) → IsTrue (are_bytes (hash_or_zero half o))
+      hash_bytes None = refl
+      hash_bytes (Some form) = sized.bytes form
+
+  inner_form : (left : ℕ) (path : List ℕ)
+      → inner_prefix ++ flat_map (kid_hash half kind items left path) branches
+      ≡ form_of (inner (map (kid_hash half kind items left path) branches))
+  inner_form left path = ap (λ (t : Bytes). inner_prefix ++ t) (sym (concat_map (kid_hash half kind items left path) branches))
+
+  leaf_fit : (path : List ℕ) (e : Entry) (others : List Entry) → here path ≡ e ∷ others → IsByteForm half (leaf_form kind e.0 e.1)
+  leaf_fit path e others is =
+      let held = subst (λ (l : Items). AllByRecursion (λ (x : Entry). IsHeld half (leaf kind x.0 x.1)) l) is (held_here path) in
+      let all = subst (λ (l : Items). AllByRecursion IsByteEntry l) is (bytes_here path) in
+      ((leaf kind e.0 e.1, (held.0, refl)), leaf_bytes kind e.0 e.1 all.0.0 all.0.1)
+
+  fits : (left : ℕ) (path : List ℕ) → length path + left ≡ 64 → AllNonzero left path → (form : Bytes)
+      → Contains (forms_here left path) form → IsByteForm half form
+  fits zero path size nonzero form c = by (here path) refl
+    where
+      by : (there : List Entry) → here path ≡ there → IsByteForm half form
+      by [] is = absurd (in_nothing
+          (subst (λ (fs : List Bytes). Contains fs form)
+          (ap (forms_of_part half kind items zero path) is ∙ forms_none half kind items zero path) c))
+      by (e ∷ others) is =
+          subst (λ (f : Bytes). IsByteForm half f)
+          (in_one (leaf_form kind e.0 e.1) form (subst (λ (fs : List Bytes). Contains fs form)
+          (ap (forms_of_part half kind items zero path) is ∙ forms_bottom half kind items path e others) c))
+          (leaf_fit path e others is)
+  fits (suc left) path size nonzero form c =
+      by (here path) refl (λ b low none. fits left (path ++ b ∷ []) (omega (arith, size, length-append path (b ∷ []))) none form)
+    where
+      Deeper : Type 0
+      Deeper = (b : ℕ) → b < 16 → AllNonzero left (path ++ b ∷ []) → Contains (forms_here left (path ++ b ∷ [])) form → IsByteForm half form
+
+      forked : (e : Entry) (others : List Entry) → here path ≡ e ∷ others → is_alone path others ≡ false → Deeper → IsByteForm half form
+      forked e others is many deeper =
+          let above : Bytes = inner_prefix ++ flat_map (kid_hash half kind items left path) branches in
+          let nonzero_at : (b : ℕ) → b < 16 → AllNonzero left (path ++ b ∷ []) =
+          λ b low f there. nonzero f (kid_among left path e others is many b low f there) in
+          ⊎_elim
+          (λ below. let at = in_join (λ d. forms_here left (path ++ d ∷ [])) branches form below in
+          let low : at.0 < 16 = in_16 at.0 at.1 in deeper at.0 low (nonzero_at at.0 low) at.2)
+          (λ own. subst (λ (f : Bytes). IsByteForm half f) (in_one above form own) (
+            (
+              inner (map (kid_hash half kind items left path) branches),
+              (inner_is left path e others size is nonzero_at, inner_form left path),
+            ),
+            bytes_join inner_prefix (flat_map (kid_hash half kind items left path) branches) refl (inner_bytes left path branches),
+          ))
+          (Contains-append_cases (flat_map (λ d. forms_here left (path ++ d ∷ [])) branches) (above ∷ []) form
+          (subst (λ (fs : List Bytes). Contains fs form)
+          (ap (forms_of_part half kind items (suc left) path) is ∙ forms_fork half kind items left path e others many) c))
+
+      by : (there : List Entry) → here path ≡ there → Deeper → IsByteForm half form
+      by [] is deeper = absurd (in_nothing
+          (subst (λ (fs : List Bytes). Contains fs form)
+          (ap (forms_of_part half kind items (suc left) path) is ∙ forms_none half kind items (suc left) path) c))
+      by (e ∷ others) is deeper = cases (is_alone path others) refl
+        where
+          cases : (t : Bool) → is_alone path others ≡ t → IsByteForm half form
+          cases true lone =
+              subst (λ (f : Bytes). IsByteForm half f)
+              (in_one (leaf_form kind e.0 e.1) form (subst (λ (fs : List Bytes). Contains fs form)
+              (ap (forms_of_part half kind items (suc left) path) is ∙ forms_alone half kind items left path e others lone) c))
+              (leaf_fit path e others is)
+          cases false many = forked e others is many deeper
+
+  -- so is each form of the map
+  pub forms_fit : ((form : Bytes) → Contains (forms_of half kind items) form → IsTrue (is_nonzero (half form))) → (form : Bytes)
+      → Contains (forms_of half kind items) form → IsByteForm half form
+  forms_fit nonzero form c = fits 64 [] refl nonzero form c
+
+  -- the root hash of a map with an item isn't zero
+  pub root_nonzero : items ≢ [] → ((form : Bytes) → Contains (forms_of half kind items) form → IsTrue (is_nonzero (half form)))
+      → IsTrue (is_nonzero (root_of half kind items))
+  unfolding form_at
+  root_nonzero some nonzero = by (here []) refl
+    where
+      by : (there : List Entry) → here [] ≡ there → IsTrue (is_nonzero (root_of half kind items))
+      by [] is = absurd (some (sym (top_part items) ∙ is))
+      by (e ∷ others) is =
+          let form = form_there 64 [] e others is in
+          subst (λ (o : Option Bytes). IsTrue (is_nonzero (hash_or_zero half o))) (sym form.1) (nonzero form.0 form.2)
+
+  module _ (nodes : Lookup) where
+    -- each form at or below a path is stored under its half, which isn't zero
+    abbrev AllKept : ℕ → List ℕ → Type 0
+    AllKept left path =
+        (form : Bytes) → Contains (forms_here left path) form → (nodes (half form) ≡ Some form) × IsTrue (is_nonzero (half form))
+
+    abbrev Stands : ℕ → List ℕ → Type 0
+    Stands left path =
+        StandsAt half nodes kind [] left path (link_to (hash_or_zero half (form_here left path))) (here path)
+
+    none_stands : (left : ℕ) (path : List ℕ) → here path ≡ [] → Stands left path
+    none_stands left path none =
+        stands_from half nodes kind [] left path (link_to (hash_or_zero half (form_here left path))) (here path) _
+        (ap (λ o. found_at half nodes kind [] path (link_to (hash_or_zero half o)))
+        (ap (form_of_part half kind items left path) none ∙ form_none half kind items left path)) none
+
+    -- what is seen where a node's form is stored
+    seen : (path : List ℕ) (form : Bytes) (n : Held) → nodes (half form) ≡ Some form → Form half n form
+        → fault_of n None kind path ≡ None
+        → sight_of half (λ m. fault_of m None kind path) (nodes (half form)) ≡ sound n
+    seen path form n stored is fine =
+        ap (sight_of half (λ m. fault_of m None kind path)) stored
+        ∙ ap (judged (λ m. fault_of m None kind path)) (sees half n form is) ∙ ap (seen_as n) fine
+
+    -- what the link to a stored form leads to
+    found : (left : ℕ) (path : List ℕ) (form : Bytes) (n : Held) → form_here left path ≡ Some form → nodes (half form) ≡ Some form
+        → IsTrue (is_nonzero (half form)) → Form half n form → fault_of n None kind path ≡ None
+        → found_at half nodes kind [] path (link_to (hash_or_zero half (form_here left path)))
+        ≡ found_held n
+    found left path form n is stored nonzero fit fine =
+        ap (λ o. found_at half nodes kind [] path (link_to (hash_or_zero half o))) is
+        ∙ ap (found_at half nodes kind [] path) (link_of (half form) (nonzero_is (half form) nonzero))
+        ∙ ap (found_seen (half form)) (seen path form n stored fit fine)
+
+    leaf_stands : (left : ℕ) (path : List ℕ) (e : Entry) → 0 < length path → here path ≡ e ∷ []
+        → form_here left path ≡ Some (leaf_form kind e.0 e.1) → nodes (half (leaf_form kind e.0 e.1)) ≡ Some (leaf_form kind e.0 e.1)
+        → IsTrue (is_nonzero (half (leaf_form kind e.0 e.1))) → Stands left path
+    leaf_stands left path e low is form_is stored nonzero =
+        let held = subst (λ (l : Items). AllByRecursion (λ (x : Entry). IsHeld half (leaf kind x.0 x.1)) l) is (held_here path) in
+        let under = subst (λ (l : Items). AllByRecursion (λ (x : Entry). lies_under path x.0 ≡ true) l) is (all_under path items) in
+        stands_from half nodes kind [] left path (link_to (hash_or_zero half (form_here left path))) (here path) (one e.0 e.1)
+        (found left path (leaf_form kind e.0 e.1) (leaf kind e.0 e.1) form_is stored nonzero (held.0, refl)
+        (leaf_fits (same_kind kind kind) (length path == 0) (lies_under path e.0) WrongKind LeafAtRoot (LeafElsewhere e.0)
+        (kind_itself kind) (not_zero (length path) low) under.0))
+        (record { item = item_held half kind e.0 e.1 held.0; under = under.0; alone = is })
+
+    stands : (left : ℕ) (path : List ℕ) → length path + left ≡ 64 → AllKept left path → Stands left path
+    stands zero path size kept = by (here path) refl
+      where
+        by : (there : List Entry) → here path ≡ there → Stands zero path
+        by [] is = none_stands zero path is
+        by (e ∷ others) is =
+            let lone : here path ≡ e ∷ [] =
+            is ∙ ap (λ (l : List Entry). e ∷ l) (bottom_alone path e others (omega (arith, size)) is) in
+            let form_is = ap (form_of_part half kind items zero path) is ∙ form_bottom half kind items path e others in
+            let there = kept (leaf_form kind e.0 e.1) (subst (λ (fs : List Bytes). Contains fs (leaf_form kind e.0 e.1))
+            (sym (ap (forms_of_part half kind items zero path) is ∙ forms_bottom half kind items path e others)) (0, omega arith, refl)) in
+            leaf_stands zero path e (omega (arith, size)) lone form_is there.0 there.1
+    stands (suc left) path size kept =
+        by (here path) refl (λ b low there. stands left (path ++ b ∷ []) (omega (arith, size, length-append path (b ∷ []))) there)
+      where
+        Deeper : Type 0
+        Deeper = (b : ℕ) → b < 16 → AllKept left (path ++ b ∷ []) → Stands left (path ++ b ∷ [])
+
+        forked : (e : Entry) (others : List Entry) → here path ≡ e ∷ others → is_alone path others ≡ false → Deeper
+            → Stands (suc left) path
+        forked e others is many deeper =
+            let hashes : List Hash = map (kid_hash half kind items left path) branches in
+            let above : Bytes = inner_prefix ++ flat_map (kid_hash half kind items left path) branches in
+            let kept_at : (b : ℕ) → b < 16 → AllKept left (path ++ b ∷ []) =
+            λ b low f there. kept f (kid_among left path e others is many b low f there) in
+            let form_is : form_here (suc left) path ≡ Some above =
+            ap (form_of_part half kind items (suc left) path) is ∙ form_fork half kind items left path e others many in
+            let own = kept above (subst (λ (fs : List Bytes). Contains fs above)
+            (sym (ap (forms_of_part half kind items (suc left) path) is ∙ forms_fork half kind items left path e others many))
+            (Contains-append_right (flat_map (λ b. forms_here left (path ++ b ∷ [])) branches) (above ∷ []) above
+            (0, omega arith, refl))) in
+            stands_from half nodes kind [] (suc left) path (link_to (hash_or_zero half (form_here (suc left) path))) (here path)
+            (fork (map link_to hashes))
+            (found (suc left) path above (inner hashes) form_is own.0 own.1
+            (inner_is left path e others size is (λ b low f there. (kept_at b low f there).1), inner_form left path)
+            (ap (λ (t : Bool). if t then Some InnerAtBottom else None) (below_64 (length path) (omega (arith, size)))))
+            (record {
+              width = refl;
+              kids = λ b. here (path ++ b ∷ []);
+              joined = part_branches path items (omega (arith, size)) are.rising (keys_of_items half kind items are.each are.bytes);
+              each = λ b low. subst (λ (l : Link). StandsAt half nodes kind [] left (path ++ b ∷ []) l (here (path ++ b ∷ [])))
+                  (sym (get_or-map-range_with_len (λ c. link_to (kid_hash half kind items left path c)) 0 16 b b Empty low (omega arith)))
+                  (deeper b low (kept_at b low));
+              enough = enough path e others is many;
+            })
+          where
+            enough : (path : List ℕ) (e : Entry) (others : List Entry) → here path ≡ e ∷ others → is_alone path others ≡ false
+                → fewest path ≤ length (here path)
+            enough [] e others is many = omega (arith, ap length is)
+            enough (n ∷ path) e [] is many = absurd (false≢true (sym many))
+            enough (n ∷ path) e (x ∷ others) is many = omega (arith, ap length is)
+
+        by : (there : List Entry) → here path ≡ there → Deeper → Stands (suc left) path
+        by [] is deeper = none_stands (suc left) path is
+        by (e ∷ others) is deeper = cases (is_alone path others) refl
+          where
+            cases : (t : Bool) → is_alone path others ≡ t → Stands (suc left) path
+            cases false many = forked e others is many deeper
+            cases true lone =
+                let only : here path ≡ e ∷ [] = is ∙ ap (λ (l : List Entry). e ∷ l) (alone_nil path others lone) in
+                let form_is = ap (form_of_part half kind items (suc left) path) is
+                ∙ form_alone half kind items left path e others lone in
+                let there = kept (leaf_form kind e.0 e.1) (subst (λ (fs : List Bytes). Contains fs (leaf_form kind e.0 e.1))
+                (sym (ap (forms_of_part half kind items (suc left) path) is ∙ forms_alone half kind items left path e others lone))
+                (0, omega arith, refl)) in
+                leaf_stands (suc left) path e (some path others lone) only form_is there.0 there.1
+              where
+                some : (path : List ℕ) (others : List Entry) → is_alone path others ≡ true → 0 < length path
+                some [] others e = absurd (false≢true e)
+                some (n ∷ path) others e = omega arith
+
+    -- so the tree below the root hash is whole
+    pub forms_whole : IsLeftWhole → ((form : Bytes) → Contains (forms_of half kind items) form
+        → (nodes (half form) ≡ Some form) × IsTrue (is_nonzero (half form)))
+        → found_below half nodes kind 64 None [] (root_of half kind items) ≡ []
+    unfolding EachLeft form_at
+    forms_whole law kept = by (is_zero (root_of half kind items)) refl
+      where
+        root : Hash
+        root = root_of half kind items
+
+        tree : CowTree
+        tree = record { kind = kind; nodes = []; top = link_to root }
+
+        stood : StandsFor half nodes tree items
+        stood = subst (λ (l : Items). StandsAt half nodes kind [] 64 [] (link_to root) l)
+            (top_part items) (stands 64 [] refl kept)
+
+        by : (t : Bool) → is_zero root ≡ t → found_below half nodes kind 64 None [] root ≡ []
+        by true z = below_zero half nodes kind 64 None [] root z
+        by false z =
+            subst (λ (l : Link). EachLeft (λ left path h. found_below half nodes kind left None path h ≡ []) [] 64 [] l)
+            (link_of root z) (law half nodes tree items stood).0

@@ -1,0 +1,5 @@
+pub mod Editing
+pub mod Tables
+pub mod Rows
+pub mod Opening
+pub mod Closing

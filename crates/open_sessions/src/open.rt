@@ -1,0 +1,188 @@
+//! The table of open sessions.
+ghost use Rattle.std.specs.Prelude.{◌≡◌, [], None, Some, false, IsTrue, IfErr, IfOk, OnErr, OnOk, is_some, unwrap_or, length, MatchOption};
+ghost use Rattle.std.specs.FinMap as finite;
+ghost use Rattle.std.specs.List.{list_any};
+ghost use Rattle.std.specs.Map.{values_of};
+ghost use Rattle.ledger_spec.specs.Bytes.{same_bytes};
+ghost use Rattle.ledger_spec.specs.Maps.{numbered_cmp, get_in, has_in, insert_in, remove_in};
+ghost use Rattle.run_io.specs.Bytes.{Rose};
+ghost use Rattle.rotating_store.specs.Stores.{nodes_of};
+ghost use Rattle.rotating_store.specs.Sources.{own_nodes};
+ghost use Rattle.edit_session.specs.Changes.{ChangesState, ChangesTxs, SetsAccount, RemovesAccount, SetsTx};
+ghost use Rattle.open_sessions.specs.Changed.{Changed, WasAsked};
+
+use cow_map::MapFault;
+use edit_session::Session;
+use half_hash::{Blob, Hash32, Memory, NodeHash};
+use node_backend::Shelf;
+use rotating_store::RotStore;
+use shamap_node::Item;
+use std::alloc::Global;
+use std::collections::BTreeMap;
+use std::marker::Model;
+
+/// The open sessions. Contracts see the entries of a table of drafts, keys rising.
+#[derive(Drop)]
+pub struct Open {
+    sessions: BTreeMap<(u8, u16), Session>,
+}
+
+impl Model for Open {
+    ghost use Rattle.ledger_spec.specs.Maps.{ForActor};
+    ghost use Rattle.edit_session.specs.Drafts.{Draft};
+
+    ghost Value = { ForActor Draft };
+
+    ghost view = { λ o. o.sessions.entries };
+}
+
+impl Open {
+    /// No session is open.
+    pub fn new(alloc: Global) -> Open
+        ensures { result ≡ [] }
+    {
+        Open {
+            sessions: BTreeMap::new(alloc),
+        }
+    }
+
+    /// How many sessions are open.
+    pub fn len(&self) -> usize
+        ensures { result ≡ length self.now }
+    {
+        self.sessions.len()
+    }
+
+    /// Whether this one is.
+    pub fn has(&self, id: (u8, u16)) -> bool
+        ensures { result ≡ has_in numbered_cmp self.now id }
+    {
+        self.sessions.contains_key(&id)
+    }
+
+    /// Whether an open session edits the ledger.
+    pub fn pins(&self, target: &Hash32) -> bool
+        ensures { result ≡ list_any (λ d. same_bytes target.now d.base) (values_of self.now) }
+    {
+        is_edited(&self.sessions, target)
+    }
+
+    /// Opens a session.
+    pub fn open(&mut self, id: (u8, u16), session: Session) -> Result<(), Memory>
+        ensures ok { OnOk result (self.new ≡ insert_in numbered_cmp self.old id session) }
+        ensures err { OnErr result (self.new ≡ self.old) }
+    {
+        self.sessions.insert(id, session)?;
+        Ok(())
+    }
+
+    /// Ends a session; whether it was open.
+    pub fn end(&mut self, id: (u8, u16)) -> bool
+        ensures was { result ≡ has_in numbered_cmp self.old id }
+        ensures after { self.new ≡ remove_in numbered_cmp self.old id }
+    {
+        self.sessions.remove(&id).is_some()
+    }
+
+    /// The session of this number.
+    pub fn session(&self, id: (u8, u16)) -> Option<&Session>
+        ensures { MatchOption result (get_in numbered_cmp self.now id ≡ None) (λ s. get_in numbered_cmp self.now id ≡ Some s.now) }
+    {
+        self.sessions.get(&id)
+    }
+
+    /// Sets an item of a session's account state; whether the session is open.
+    pub fn put<H: NodeHash, Sh: Shelf>(
+        &mut self,
+        alloc: Global,
+        store: &mut RotStore<Sh>,
+        id: (u8, u16),
+        item: &Item,
+    ) -> Result<bool, MapFault>
+        ensures changed { IfOk result (Changed (λ d d'. ChangesState 65 d d' × (IsTrue Sh.B.tells
+            → SetsAccount H.half (finite.get (own_nodes H.half (nodes_of store.old))) d d' item.now.key item.now.value))
+            self.old self.new id) }
+        ensures err { OnErr result (self.new ≡ self.old) }
+        ensures asked { WasAsked Sh.B.tells H.half store.old store.new }
+        ensures fault { IfErr result (λ e. e ≡ MapFault.Fault → Rose store.old.faults store.new.faults) }
+    {
+        let item = copy_of(alloc, item)?;
+        let Some(session) = self.sessions.get_mut(&id) else {
+            return Ok(false);
+        };
+        session.put::<H, RotStore<Sh>>(alloc, store, item)?;
+        Ok(true)
+    }
+
+    /// Removes a key of a session's account state, and tells whether it was there; none where the session isn't open.
+    pub fn remove<H: NodeHash, Sh: Shelf>(
+        &mut self,
+        alloc: Global,
+        store: &mut RotStore<Sh>,
+        id: (u8, u16),
+        key: &Hash32,
+    ) -> Result<Option<bool>, MapFault>
+        ensures changed { IfOk result (λ there. Changed (λ d d'. ChangesState 64 d d' × (IsTrue Sh.B.tells
+            → RemovesAccount H.half (finite.get (own_nodes H.half (nodes_of store.old))) d d' key.now (unwrap_or there false)))
+            self.old self.new id (is_some there)) }
+        ensures err { OnErr result (self.new ≡ self.old) }
+        ensures asked { WasAsked Sh.B.tells H.half store.old store.new }
+        ensures fault { IfErr result (λ e. e ≡ MapFault.Fault → Rose store.old.faults store.new.faults) }
+    {
+        let Some(session) = self.sessions.get_mut(&id) else {
+            return Ok(None);
+        };
+        let there = session.remove::<H, RotStore<Sh>>(alloc, store, key)?;
+        Ok(Some(there))
+    }
+
+    /// Sets an item of a session's transactions; whether the session is open. No source is asked.
+    pub fn tx<H: NodeHash, Sh: Shelf>(
+        &mut self,
+        alloc: Global,
+        store: &mut RotStore<Sh>,
+        id: (u8, u16),
+        item: &Item,
+    ) -> Result<bool, MapFault>
+        ensures changed { IfOk result (Changed (λ d d'. ChangesTxs 65 d d' × SetsTx d d' item.now.key item.now.value)
+            self.old self.new id) }
+        ensures err { OnErr result (self.new ≡ self.old) }
+        ensures same { store.new ≡ store.old }
+        ensures memory { IfErr result (λ e. e ≡ MapFault.Memory) }
+    {
+        let item = copy_of(alloc, item)?;
+        let Some(session) = self.sessions.get_mut(&id) else {
+            return Ok(false);
+        };
+        session.tx::<H, RotStore<Sh>>(alloc, store, item)?;
+        Ok(true)
+    }
+}
+
+// Whether one of the sessions edits the ledger.
+fn is_edited(sessions: &BTreeMap<(u8, u16), Session>, target: &Hash32) -> bool
+    ensures { result ≡ list_any (λ d. same_bytes target.now d.base) (values_of sessions.now.entries) }
+{
+    sessions.values().any(|session| edits(session, target))
+}
+
+// Whether the session edits the ledger.
+fn edits(session: &Session, target: &Hash32) -> bool
+    ensures { result ≡ same_bytes target.now session.now.base }
+{
+    target.equals(session.base())
+}
+
+// The item once more.
+fn copy_of(alloc: Global, item: &Item) -> Result<Item, MapFault>
+    ensures same { IfOk result (λ i. (i.key ≡ item.now.key) × (i.value ≡ item.now.value)) }
+    ensures memory { IfErr result (λ e. e ≡ MapFault.Memory) }
+{
+    let Ok(value) = Blob::from_slice(alloc, item.data()) else {
+        return Err(MapFault::Memory);
+    };
+    match Item::new(*item.key(), value) {
+        Ok(item) => Ok(item),
+        Err(_) => Err(MapFault::Memory),
+    }
+}

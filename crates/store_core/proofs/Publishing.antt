@@ -1,0 +1,243 @@
+-- What a close leaves: the row of a ledger that is stored and listed, and of one that isn't.
+use Rattle.std.proofs.Common.{◌≡◌, ◌≤◌, ℕ, suc, length, arith, ◌++◌, nat_lt, Bool, true, false, IsTrue, List, [], ◌∷◌, map}
+use Rattle.std.proofs.Common.{if◌then◌else◌, Contains}
+use Rattle.std.proofs.Common.{Option, None, Result, Ok, Err, refl, sym, ap, ◌∙◌, subst}
+use Rattle.std.specs.List.{find}
+use Rattle.std.specs.Option.{option_or}
+use Rattle.std.proofs.lemmas.Bool.{false≢true}
+use Rattle.std.proofs.lemmas.List.{append-nil}
+use Rattle.std.proofs.lemmas.List.Elements.{Contains-append_left}
+use Rattle.ledger_spec.specs.Bytes.{Bytes, Hash, Half, is_zero}
+use Rattle.ledger_spec.specs.Forms.{header_prefix}
+use Rattle.ledger_spec.specs.Header.{seq_of}
+use Rattle.ledger_spec.specs.Maps.{ForActor, hash_cmp, numbered_cmp, has_in, remove_in}
+use Rattle.ledger_spec.proofs.ReachLaws.{Grows}
+use Rattle.ledger_spec.proofs.Storing.{in_nothing}
+use Rattle.edit_session.specs.declared.close.Closed.{Closed}
+use Rattle.edit_session.specs.Drafts.{Draft, StaysOverParent}
+use Rattle.node_offer.specs.declared.fault.OfferFault.{OfferFault}
+use Rattle.node_offer.specs.declared.fault.OfferFault.TheVariants as faults
+use Rattle.ledger_laws.proofs.Beside.{form_beside, forms_beside}
+use Rattle.ledger_laws.proofs.SoundClosing.{none_zero}
+use Rattle.ledger_laws.proofs.SoundForms.{with_forms_grow}
+use Rattle.ledger_machine.specs.declared.commands.Command.TheVariants as command
+use Rattle.ledger_machine.specs.declared.replies.CloseReply.TheVariants as close
+use Rattle.ledger_machine.specs.declared.replies.Reply.{Reply}
+use Rattle.ledger_machine.specs.declared.replies.Reply.TheVariants as says
+use Rattle.ledger_machine.specs.Closing.{new_header, closing_forms, clash_under, first_clash, closed_or_clash, zero_or}
+use Rattle.ledger_machine.specs.Closing.{close_given, close_reply, closed, after_close, closes_into, unless_zero, close_forms}
+use Rattle.ledger_machine.specs.Rotation.{WhileTurning}
+use Rattle.ledger_machine.specs.Sessions.{without_session}
+use Rattle.ledger_machine.specs.State.{State, Session, form_in, with_form, with_forms, with_sessions, listed_with}
+use Rattle.ledger_machine.specs.Steps.{Step, IsAfter, Refused}
+use Rattle.open_sessions.specs.Edited.{sessions_in}
+use Rattle.open_sessions.specs.Rows.{AllKept}
+use Rattle.store_core.specs.Benches.{with_open, KeepsDrafts}
+use Rattle.store_core.specs.Closing.{MayKeepAll, KeptSome, IsMade, IsUnclosed}
+use Rattle.store_core.specs.Refusals.{refusal_of}
+use Rattle.store_core.proofs.Listing.{insert_few}
+use Rattle.store_core.proofs.Benches.{all_grow, sessions_stay, ended_state, ended_keeps, keeps_same}
+
+module _ (half : Half) (law : StaysOverParent) (drafts : ForActor Draft) where
+  -- which sessions are open decides no clash
+  clash_beside : (es : ForActor Session) (s : State) (forms : List Bytes)
+      → first_clash half (with_sessions s es) forms ≡ first_clash half s forms
+  clash_beside es s [] = refl
+  clash_beside es s (form ∷ forms) =
+      ap (λ (x : State). option_or (clash_under (half form) form (form_in s (half form))) (first_clash half x forms))
+      (form_beside half es s form)
+      ∙ ap (option_or (clash_under (half form) form (form_in s (half form)))) (clash_beside es (with_form half s form) forms)
+
+  forms_grow : (s s' : State) (forms : List Bytes) → s' ≡ with_forms half s forms → Grows (form_in s) (form_in s')
+  forms_grow s s' forms is = subst (λ (x : State). Grows (form_in s) (form_in x)) (sym is) (with_forms_grow half s forms)
+
+  -- forms that are stored leave the sessions what they are
+  forms_open : (s s' : State) (forms : List Bytes) → s' ≡ with_forms half s forms → AllKept half s drafts
+      → with_open half true s' drafts ≡ with_forms half (with_open half true s drafts) forms
+  forms_open s s' forms is all =
+      ap (with_sessions s') (sessions_stay half law drafts s s' (forms_grow s s' forms is) all)
+      ∙ ap (λ (x : State). with_sessions x (sessions_in half (form_in s) drafts)) is
+      ∙ sym (forms_beside half (sessions_in half (form_in s) drafts) s forms)
+
+  some_open : (s s' : State) (forms : List Bytes) → AllKept half s drafts → KeptSome half s forms s'
+      → KeptSome half (with_open half true s drafts) forms (with_open half true s' drafts)
+  some_open s s' forms all k =
+      record { kept = k.kept; rest = k.rest; whole = k.whole; state = forms_open s s' k.kept k.state all }
+
+  -- what the machine keeps of the forms is kept beside the sessions
+  pub kept_open : {X : Type 0} (tells : Bool) (s s' : State) (forms : List Bytes) (r : Result X OfferFault) → IsTrue tells
+      → AllKept half s drafts → MayKeepAll half s forms r s'
+      → MayKeepAll half (with_open half tells s drafts) forms r (with_open half tells s' drafts)
+  kept_open true s s' forms (Ok x) told all may =
+      (clash_beside (sessions_in half (form_in s) drafts) s forms ∙ may.0, forms_open s s' forms may.1 all)
+  kept_open true s s' forms (Err (faults.Clash h old new)) told all may =
+      (clash_beside (sessions_in half (form_in s) drafts) s forms ∙ may.0, some_open s s' forms all may.1)
+  kept_open true s s' forms (Err faults.Fault) told all may = some_open s s' forms all may
+  kept_open true s s' forms (Err faults.Memory) told all may = some_open s s' forms all may
+  kept_open false s s' forms r told all may = absurd (false≢true told)
+
+  kept_grow : {X : Type 0} (s s' : State) (forms : List Bytes) (r : Result X OfferFault) → MayKeepAll half s forms r s'
+      → Grows (form_in s) (form_in s')
+  kept_grow s s' forms (Ok x) may = forms_grow s s' forms may.1
+  kept_grow s s' forms (Err (faults.Clash h old new)) may = forms_grow s s' may.1.kept may.1.state
+  kept_grow s s' forms (Err faults.Fault) may = forms_grow s s' may.kept may.state
+  kept_grow s s' forms (Err faults.Memory) may = forms_grow s s' may.kept may.state
+
+  pub kept_keeps : {X : Type 0} (tells : Bool) (s s' : State) (forms : List Bytes) (r : Result X OfferFault)
+      → (IsTrue tells → AllKept half s drafts) → (IsTrue tells → MayKeepAll half s forms r s') → KeepsDrafts half tells s' drafts
+  kept_keeps tells s s' forms r all may told stored = all_grow half law drafts s s' (kept_grow s s' forms r (may told)) (all told)
+
+-- a ledger that is listed, whose session has ended
+listed_open : (half : Half) (tells : Bool) (s : State) (drafts : ForActor Draft) (t : Hash) (seq : ℕ)
+    → with_open half tells (listed_with s t seq) drafts ≡ listed_with (with_open half tells s drafts) t seq
+listed_open half true s drafts t seq = refl
+listed_open half false s drafts t seq = refl
+
+pub enlisted : (half : Half) (tells : Bool) (s s' : State) (drafts new : ForActor Draft) (x : ℕ × ℕ) (t : Hash) (seq : ℕ)
+    → s' ≡ listed_with s t seq → new ≡ remove_in numbered_cmp drafts x
+    → with_open half tells s' new ≡ without_session (listed_with (with_open half tells s drafts) t seq) x
+enlisted half tells s s' drafts new x t seq is ended =
+    ended_state half tells s' drafts new x ended
+    ∙ ap (λ (y : State). without_session (with_open half tells y drafts) x) is
+    ∙ ap (λ (y : State). without_session y x) (listed_open half tells s drafts t seq)
+
+-- one ledger more is listed at most
+pub enlisted_few : (s mid s' : State) (x : ℕ × ℕ) (t : Hash) (seq : ℕ) → mid.listed ≡ s.listed
+    → s' ≡ without_session (listed_with mid t seq) x → length s'.listed ≤ suc (length s.listed)
+enlisted_few s mid s' x t seq same is =
+    omega (arith, insert_few mid.listed t seq, ap (λ (y : State). length y.listed) is, ap length same)
+
+pub enlisted_keeps : (half : Half) (tells : Bool) (s s' : State) (drafts new : ForActor Draft) (x : ℕ × ℕ) (t : Hash) (seq : ℕ)
+    → s' ≡ listed_with s t seq → new ≡ remove_in numbered_cmp drafts x → KeepsDrafts half tells s drafts → KeepsDrafts half tells s' new
+enlisted_keeps half tells s s' drafts new x t seq is ended keeps =
+    ended_keeps half tells s' drafts new x ended (keeps_same half tells s s' drafts (ap form_in is) keeps)
+
+-- a state is one but for what a rotation keeps
+by_shade : (s' t : State) → s' ≡ t → IsAfter t s'
+by_shade s' t is = is ∙ ap (λ (y : State). record t { shaded = y.shaded }) (sym is)
+
+-- a fact of two states, where no rotation is under way
+idle : (s s' : State) (P : Type 0) → s.turning ≡ None → WhileTurning s.turning s'.turning P
+idle s s' P none = subst (λ (o : Option ℕ). WhileTurning o s'.turning P) (sym none) tt
+
+module _ (half : Half) (s : State) (x : ℕ × ℕ) (given : List ℕ) (none : s.turning ≡ None) where
+  -- a close that changes nothing
+  pub unclosed : (reply : Reply) → IsUnclosed (close_reply half s x given) reply → Step half s x.0 (command.Close x.1 given) reply [] s
+  unclosed (says.Close close.NoSession) row =
+      record { outcome = record { says = row; after = refl }; uses = refl; carries = idle s s _ none }
+  unclosed (says.Close close.ZeroState) row =
+      record { outcome = record { says = row; after = refl }; uses = refl; carries = idle s s _ none }
+  unclosed (says.Close (close.BelowFloor f)) row =
+      record { outcome = record { says = row; after = refl }; uses = refl; carries = idle s s _ none }
+  unclosed (says.ZeroHash form) row = record {
+    outcome = (row, record { forms = []; own = λ f c. absurd (in_nothing c); same = refl });
+    uses = refl;
+    carries = idle s s _ none;
+  }
+  unclosed says.Memory row = record {
+    outcome = (tt, record { forms = []; own = λ f c. absurd (in_nothing c); same = refl });
+    uses = refl;
+    carries = idle s s _ none;
+  }
+  unclosed _ row = cc
+
+  module _ (c : Closed) (m : IsMade half s x given c) where
+    abbrev header : Bytes
+    header = new_header half s m.session given
+
+    abbrev forms : List Bytes
+    forms = closing_forms half m.session header
+
+    abbrev made : List Bytes
+    made = map (λ f. f.form) c.forms.items
+
+    -- the reply, by the row's tests
+    abbrev by_tests : Bool → Bool → Option Bytes → Reply → Reply
+    by_tests a b z rest = if a then says.Close close.ZeroState else if b then says.Close (close.BelowFloor s.floor) else zero_or z rest
+
+    abbrev last : Hash → Reply
+    last h = if has_in hash_cmp s.listed h then says.Close close.Listed else closed_or_clash h (first_clash half s forms)
+
+    abbrev rest : Reply
+    rest = if has_in hash_cmp s.listed c.hash then says.Close close.Listed else closed_or_clash c.hash (first_clash half s made)
+
+    -- where the tests before are passed, it is listed already, has a clash, or is closed
+    row : close_reply half s x given ≡ rest
+    row =
+        ap (close_given half s given) m.is_open
+        ∙ ap (λ a. by_tests a (nat_lt (seq_of header) s.floor) (find (λ form. is_zero (half form)) forms)
+        (last (half (header_prefix ++ header)))) m.occupied
+        ∙ ap (λ b. by_tests false b (find (λ form. is_zero (half form)) forms) (last (half (header_prefix ++ header)))) m.high
+        ∙ ap (λ z. by_tests false false z (last (half (header_prefix ++ header)))) m.nonzero
+        ∙ ap last (sym m.hash)
+        ∙ ap (λ o. if has_in hash_cmp s.listed c.hash then says.Close close.Listed else closed_or_clash c.hash o) m.clash
+
+    -- its forms are the command's own, since none has the zero hash
+    own : close_forms half s x given ≡ forms
+    own =
+        ap (λ o. unless_zero (find (λ form. is_zero (half form)) (closes_into half s given o)) (closes_into half s given o)) m.is_open
+        ∙ ap (λ z. unless_zero z forms) m.nonzero
+
+    some_refused : (s' : State) → KeptSome half s made s' → Refused half s x.0 (command.Close x.1 given) s'
+    some_refused s' k = record {
+      forms = k.kept;
+      own = λ form there.
+          let is : Contains forms form = m.some form (subst (λ fs. Contains fs form) (sym k.whole)
+          (Contains-append_left k.kept k.rest form there)) in
+          (subst (λ fs. Contains fs form) (sym own) is, none_zero half forms m.nonzero form is);
+      same = by_shade s' (with_forms half s k.kept) k.state;
+    }
+
+    -- a ledger that is listed already
+    pub was_listed : has_in hash_cmp s.listed c.hash ≡ true
+        → Step half s x.0 (command.Close x.1 given) (says.Close close.Listed) [] s
+    was_listed there = record {
+      outcome = record {
+        says = sym (row ∙ ap (λ b. if b then says.Close close.Listed else closed_or_clash c.hash (first_clash half s made)) there);
+        after = refl;
+      };
+      uses = refl;
+      carries = idle s s _ none;
+    }
+
+    -- the reply where it isn't
+    unlisted : has_in hash_cmp s.listed c.hash ≡ false → (o : _) → first_clash half s made ≡ o
+        → close_reply half s x given ≡ closed_or_clash c.hash o
+    unlisted new o is =
+        row ∙ ap (λ b. if b then says.Close close.Listed else closed_or_clash c.hash (first_clash half s made)) new
+        ∙ ap (closed_or_clash c.hash) is
+
+    -- one whose forms weren't all stored
+    pub unkept : (why : OfferFault) (s' : State) → has_in hash_cmp s.listed c.hash ≡ false
+        → MayKeepAll {X = Unit {0}} half s made (Err why) s' → Step half s x.0 (command.Close x.1 given) (refusal_of why) [] s'
+    unkept (faults.Clash h old new) s' listed may = record {
+      outcome = (sym (unlisted listed _ may.0), some_refused s' may.1);
+      uses = refl;
+      carries = idle s s' _ none;
+    }
+    unkept faults.Fault s' listed may = record { outcome = (tt, some_refused s' may); uses = refl; carries = idle s s' _ none }
+    unkept faults.Memory s' listed may = record { outcome = (tt, some_refused s' may); uses = refl; carries = idle s s' _ none }
+
+    -- one that couldn't be listed for want of memory
+    pub unenlisted : (s' : State) → s' ≡ with_forms half s made → Step half s x.0 (command.Close x.1 given) says.Memory [] s'
+    unenlisted s' is = record {
+      outcome = (tt, some_refused s' (record { kept = made; rest = []; whole = sym (append-nil made); state = is }));
+      uses = refl;
+      carries = idle s s' _ none;
+    }
+
+    -- and one that is closed
+    pub was_closed : (mid s' : State) → has_in hash_cmp s.listed c.hash ≡ false → first_clash half s made ≡ None
+        → mid ≡ with_forms half s made → s' ≡ without_session (listed_with mid c.hash c.header.seq) x
+        → Step half s x.0 (command.Close x.1 given) (says.Close (close.Closed c.hash)) [] s'
+    was_closed mid s' listed clear kept is = record {
+      outcome = record { says = sym (unlisted listed None clear); after = by_shade s' _ all };
+      uses = refl;
+      carries = idle s s' _ none;
+    }
+      where
+        all : s' ≡ after_close half s x given (says.Close (close.Closed c.hash))
+        all =
+            is ∙ ap (λ (y : State). without_session (listed_with y c.hash c.header.seq) x) (kept ∙ sym m.stored)
+            ∙ ap (λ n. without_session (listed_with (with_forms half s forms) c.hash n) x) m.seq
+            ∙ sym (ap (closed half s x given c.hash) m.is_open)

@@ -1,0 +1,14 @@
+-- what only reads the store leaves what drafts are kept by
+use Rattle.std.proofs.Common.{sym, subst}
+use Rattle.store_core.specs.Desks.{Desk, IsFiled}
+use Rattle.store_core.proofs.Benches.{keeps_read}
+use Rattle.store_core.proofs.bench.Bench.header_of.Goals as goal
+
+pub header_of-requires-after_bounds : goal.header_of-requires-after_bounds
+header_of-requires-after_bounds g c κs within =
+    subst (λ (d : Desk). IsFiled g.H.NodeHash.half g.Sh.B.Backend.tells d.state) (sym c.self.view_is) c.requires
+
+pub invariant_of-self : goal.invariant_of-self
+invariant_of-self g c =
+    keeps_read g.H.NodeHash.half g.Sh.B.Backend.tells c.self.inside.machine c.header_of.new.self c.self.inside.sessions
+    c.header_of.ensures.reads c.self.invariant

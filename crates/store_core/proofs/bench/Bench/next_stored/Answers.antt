@@ -1,0 +1,19 @@
+-- what only reads the store leaves what drafts are kept by
+use Rattle.std.proofs.Common.{sym, subst}
+use Rattle.store_core.specs.Desks.{Desk, IsFiled}
+use Rattle.store_core.proofs.Benches.{keeps_read}
+use Rattle.store_core.proofs.bench.Bench.next_stored.Goals as goal
+
+pub next_stored-requires-after_bounds : goal.next_stored-requires-after_bounds
+next_stored-requires-after_bounds g c κs within =
+    subst (λ (d : Desk). IsFiled g.H.NodeHash.half g.Sh.B.Backend.tells d.state) (sym c.self.view_is) c.requires
+
+pub invariant_of-self : goal.invariant_of-self
+invariant_of-self g c =
+    keeps_read g.H.NodeHash.half g.Sh.B.Backend.tells c.self.inside.machine c.next_stored.new.self c.self.inside.sessions
+    c.next_stored.ensures.reads c.self.invariant
+
+pub invariant_of-self-2 : goal.invariant_of-self-2
+invariant_of-self-2 g c =
+    keeps_read g.H.NodeHash.half g.Sh.B.Backend.tells c.self.inside.machine c.next_stored.new.self c.self.inside.sessions
+    c.next_stored.ensures.reads c.self.invariant

@@ -1,0 +1,12 @@
+use Rattle.std.proofs.Common.{IsTrue, map, drop}
+use Rattle.store_core.specs.Desks.{Stays}
+use Rattle.store_core.proofs.KeepingAll.{AreKept}
+use Rattle.store_core.proofs.machine.Machine.keep_all.Given as goal
+
+-- the forms up to here are stored, and no clash was met
+abbrev pub invariant-loop-form : goal.invariant-loop-form
+invariant-loop-form g l = record {
+  kept : IsTrue g.Sh.B.Backend.tells
+      → AreKept g.H.NodeHash.half l.fn.self.state (map (λ f. f.form) l.forms) (map (λ f. f.form) (drop l.form-index l.forms)) l.self.state;
+  stays : Stays l.fn.self l.self;
+}

@@ -1,0 +1,220 @@
+//! The machine with the open edit sessions beside it: each command is the machine's, the sessions', or one of both.
+ghost use Rattle.std.specs.Prelude.{◌≡◌, [], IsTrue, IfOk, IfErr, IfSome, OnErr, None, length, map};
+ghost use Rattle.std.specs.FinMap as finite;
+ghost use Rattle.std.specs.Option.{option_copied};
+ghost use Rattle.run_io.specs.Bytes.{Rose};
+ghost use Rattle.shamap_node.specs.Nodes.{held};
+ghost use Rattle.ledger_machine.specs.Scripts.{IsBeside, IsCovered, IsInRange};
+ghost use Rattle.ledger_machine.specs.Sound.{Sound};
+ghost use Rattle.ledger_machine.specs.State.{opening};
+ghost use Rattle.ledger_machine.specs.Steps.{Step};
+ghost use Rattle.ledger_machine.specs.Views.{is_retained as state_retains, view_reply, after_view};
+ghost use Rattle.store_core.specs.Benches.{IsOfSessions};
+ghost use Rattle.store_core.specs.Desks.{IsFiled, Grows, OnlyReads, over};
+ghost use Rattle.store_core.specs.Dumping.{IsNextRecord, Follows};
+
+use crate::machine::{Machine, unread};
+use edit_session::a_session_stays_over_its_ledger;
+use half_hash::{Hash32, Memory, NodeHash};
+use ledger_machine::{Command, Record, Reply, ViewReply};
+use node_backend::{BackFault, Shelf};
+use open_sessions::Open;
+use rotating_store::RotStore;
+use shamap_node::Node;
+use std::alloc::Global;
+use std::marker::Model;
+use std::sync::Arc;
+
+#[derive(Drop)]
+pub(crate) struct Bench<H: NodeHash, Sh: Shelf> {
+    pub(crate) machine: Machine<H, Sh>,
+    pub(crate) sessions: Open,
+}
+
+impl<H: NodeHash, Sh: Shelf> Model for Bench<H, Sh> {
+    ghost use Rattle.std.specs.Prelude.{◌≡◌, None};
+    ghost use Rattle.std.specs.Coded.{codes};
+    ghost use Rattle.ledger_spec.specs.Maps.{map_code, set_code};
+    ghost use Rattle.store_core.specs.Desks.{Desk};
+    ghost use Rattle.store_core.specs.Benches.{with_open, KeepsDrafts};
+
+    ghost Value = { Desk };
+
+    ghost coded = { Prim.hlevel (codes, map_code, set_code) };
+
+    ghost view = { λ b. record {
+      state = with_open H.half Sh.B.tells b.machine.state b.sessions;
+      faults = b.machine.faults;
+    } };
+
+    ghost invariant = { λ b. KeepsDrafts H.half Sh.B.tells b.machine.state b.sessions };
+}
+
+impl<H: NodeHash, Sh: Shelf> Bench<H, Sh> {
+    /// The opening state over a store, without sessions.
+    pub(crate) fn new(alloc: Global, hash: H, interval: u32, store: RotStore<Sh>) -> Bench<H, Sh>
+        ensures state { result.state ≡ over store (opening finite.empty interval) }
+        ensures faults { result.faults ≡ store.faults }
+    {
+        Bench {
+            machine: Machine::new(alloc, hash, interval, store),
+            sessions: Open::new(alloc),
+        }
+    }
+
+    /// How many ledgers are listed.
+    pub(crate) fn listed(&self) -> usize
+        ensures { result ≡ length self.now.state.listed }
+    {
+        self.machine.listed()
+    }
+
+    pub(crate) fn floor(&self) -> u32
+        ensures { result ≡ self.now.state.floor }
+    {
+        self.machine.floor()
+    }
+
+    pub(crate) fn last(&self) -> Option<u32>
+        ensures { result ≡ self.now.state.last }
+    {
+        self.machine.last()
+    }
+
+    pub(crate) fn epoch(&self) -> u64
+        ensures { result ≡ self.now.state.epoch }
+    {
+        self.machine.epoch()
+    }
+
+    /// How often the devices of the store failed.
+    pub(crate) fn faults(&self) -> u64
+        ensures { result ≡ self.now.faults }
+    {
+        self.machine.faults()
+    }
+
+    /// The next stored record after a hash, or the first one.
+    pub(crate) fn next_stored(
+        &mut self,
+        alloc: Global,
+        after: Option<&Hash32>,
+    ) -> Result<Option<Record>, BackFault>
+        requires { IsFiled H.half Sh.B.tells self.old.state }
+        ensures next { IsTrue Sh.B.tells → IfOk result (IsNextRecord self.old.state.nodes (option_copied after.entry)) }
+        ensures follows { IfOk result (λ r. IfSome r (λ r. Follows (option_copied after.entry) r.hash)) }
+        ensures reads { OnlyReads Sh.B.tells self.old self.new }
+        ensures fault { IfErr result (λ e. e ≡ BackFault.Fault → Rose self.old.faults self.new.faults) }
+    {
+        let next = self.machine.next_stored(alloc, after)?;
+        Ok(next)
+    }
+
+    /// One step of the machine: the reply, and the nodes that it used.
+    pub(crate) fn answer(
+        &mut self,
+        alloc: Global,
+        actor: u8,
+        command: &Command,
+    ) -> (Reply, Vec<Arc<Node>>)
+        requires covered { IsCovered command.now }
+        requires in_range { IsInRange command.now }
+        requires sound { IsTrue Sh.B.tells → Sound H.half self.old.state }
+        ensures step { IsTrue Sh.B.tells
+            → Step H.half self.old.state actor command.now result.0 (map (λ a. held a.value) result.1.items) self.new.state }
+        ensures grows { Grows self.old self.new }
+        ensures fault { result.0 ≡ Reply.Fault → Rose self.old.faults self.new.faults }
+    {
+        self.known();
+        match command {
+            Command::View { .. }
+            | Command::Edit { .. }
+            | Command::Put { .. }
+            | Command::Del { .. }
+            | Command::Tx { .. }
+            | Command::Close { .. }
+            | Command::Abandon { .. } => (self.work(alloc, actor, command), Vec::new(alloc)),
+            _ => self.beside(alloc, actor, command),
+        }
+    }
+
+    // One step of a command that names a session or sees which are open. It reads no nodes.
+    fn work(&mut self, alloc: Global, actor: u8, command: &Command) -> Reply
+        requires covered { IsCovered command.now }
+        requires open { IsOfSessions command.now }
+        requires in_range { IsInRange command.now }
+        requires sound { IsTrue Sh.B.tells → Sound H.half self.old.state }
+        ensures step { IsTrue Sh.B.tells → Step H.half self.old.state actor command.now result [] self.new.state }
+        ensures grows { Grows self.old self.new }
+        ensures fault { result ≡ Reply.Fault → Rose self.old.faults self.new.faults }
+    {
+        self.known();
+        match command {
+            Command::View { view, target } => match self.view(actor, *view, target) {
+                Ok(reply) => Reply::View(reply),
+                Err(_) => Reply::Memory,
+            },
+            Command::Edit { session, target } => match self.edit(alloc, actor, *session, target) {
+                Ok(reply) => Reply::Edit(reply),
+                Err(fault) => unread(fault),
+            },
+            Command::Put { session, item } => match self.put(alloc, actor, *session, item) {
+                Ok(put) => Reply::Put(put),
+                Err(fault) => unread(fault),
+            },
+            Command::Del { session, key } => match self.del(alloc, actor, *session, key) {
+                Ok(reply) => Reply::Del(reply),
+                Err(fault) => unread(fault),
+            },
+            Command::Tx { session, item } => match self.tx(alloc, actor, *session, item) {
+                Ok(put) => Reply::Tx(put),
+                Err(_) => Reply::Memory,
+            },
+            Command::Close { session, fields } => self.close(alloc, (actor, *session), fields),
+            Command::Abandon { session } => Reply::Abandon(self.abandon(actor, *session)),
+            _ => unreachable!(),
+        }
+    }
+
+    // What stands at its opening value.
+    pub(crate) fn known(&self)
+        ensures turning { self.now.state.turning ≡ None }
+    {
+        self.machine.known();
+    }
+
+    // One step of a command that names no session and sees none.
+    fn beside(&mut self, alloc: Global, actor: u8, command: &Command) -> (Reply, Vec<Arc<Node>>)
+        requires beside { IsBeside command.now }
+        requires in_range { IsInRange command.now }
+        requires filed { IsFiled H.half Sh.B.tells self.old.state }
+        ensures step { IsTrue Sh.B.tells
+            → Step H.half self.old.state actor command.now result.0 (map (λ a. held a.value) result.1.items) self.new.state }
+        ensures grows { Grows self.old self.new }
+        ensures fault { result.0 ≡ Reply.Fault → Rose self.old.faults self.new.faults }
+    {
+        a_session_stays_over_its_ledger();
+        self.machine.known();
+        self.machine.answer(alloc, actor, command)
+    }
+
+    // Opens a view of a retained ledger.
+    fn view(&mut self, actor: u8, view: u16, target: &Hash32) -> Result<ViewReply, Memory>
+        ensures reply { IfOk result (λ r. r ≡ view_reply self.old.state (actor, view) target.now) }
+        ensures after { IfOk result (λ r. self.new.state ≡ after_view self.old.state (actor, view) target.now r) }
+        ensures err { OnErr result (self.new ≡ self.old) }
+        ensures faults { self.new.faults ≡ self.old.faults }
+    {
+        let retained = self.is_retained(target);
+        self.machine.view(actor, view, target, retained)
+    }
+
+    /// Whether the ledger is listed, or pinned by a view or a session.
+    pub(crate) fn is_retained(&self, target: &Hash32) -> bool
+        ensures { result ≡ state_retains self.now.state target.now }
+    {
+        self.machine.known();
+        let pinned = self.sessions.pins(target);
+        self.machine.is_retained(target) || pinned
+    }
+}

@@ -1,0 +1,206 @@
+//! How a session is closed: the forms of its ledger are stored under their hashes, and the ledger is listed.
+ghost use Rattle.std.specs.Prelude.{◌≡◌, [], ℕ, IsTrue, IfErr, IfOk, OnErr, OnOk, List, map};
+ghost use Rattle.std.specs.List.{All};
+ghost use Rattle.ledger_spec.specs.Maps.{hash_cmp, has_in};
+ghost use Rattle.run_io.specs.Bytes.{Rose};
+ghost use Rattle.ledger_machine.specs.Scripts.{AreFields};
+ghost use Rattle.ledger_machine.specs.Sessions.{without_session};
+ghost use Rattle.ledger_machine.specs.Sound.{Sound};
+ghost use Rattle.ledger_machine.specs.State.{listed_with};
+ghost use Rattle.ledger_machine.specs.Steps.{Step};
+ghost use Rattle.store_core.specs.Closing.{MayKeep, MayKeepAll, AreNamed, IsMade, IsUnmade, fields_of, kept_by, unkept_by, unsealed_by};
+ghost use Rattle.store_core.specs.Desks.{IsFiled, Stays, Grows};
+
+use crate::bench::Bench;
+use crate::machine::Machine;
+use crate::told::refusal;
+use cow_map::{FormOf, MapFault, what_is_left_is_whole};
+use edit_session::{Closed, Fields, a_session_stays_over_its_ledger};
+use half_hash::{Hash32, Memory, NodeHash, known_half};
+use ledger_machine::{CloseReply, Command, Reply};
+use node_backend::Shelf;
+use node_offer::OfferFault;
+use rotating_store::{Put, StoreFault};
+use std::alloc::Global;
+
+impl<H: NodeHash, Sh: Shelf> Bench<H, Sh> {
+    /// Closes a session into a new ledger, which is stored and listed.
+    pub(crate) fn close(&mut self, alloc: Global, id: (u8, u16), given: &[u64; 4]) -> Reply
+        requires in_range { AreFields given.now }
+        requires sound { IsTrue Sh.B.tells → Sound H.half self.old.state }
+        ensures step { IsTrue Sh.B.tells → Step H.half self.old.state id.0 (Command.Close id.1 given.now) result [] self.new.state }
+        ensures grows { Grows self.old self.new }
+        ensures fault { result ≡ Reply.Fault → Rose self.old.faults self.new.faults }
+    {
+        self.known();
+        match self.seal(alloc, id, given) {
+            Ok(made) => self.publish(alloc, id, &made),
+            Err(reply) => reply,
+        }
+    }
+
+    // The ledger that a session closes into, or the reply where there is none.
+    fn seal(&self, alloc: Global, id: (u8, u16), given: &[u64; 4]) -> Result<Closed, Reply>
+        requires in_range { AreFields given.now }
+        requires sound { IsTrue Sh.B.tells → Sound H.half self.now.state }
+        ensures named { IsTrue Sh.B.tells → IfOk result (λ c. AreNamed H.half c.forms.items) }
+        ensures made { IsTrue Sh.B.tells → IfOk result (IsMade H.half self.now.state id given.now) }
+        ensures unmade { IfErr result (IsUnmade H.half Sh.B.tells self.now.state id given.now) }
+    {
+        known_half::<H>();
+        what_is_left_is_whole();
+        let Some(session) = self.sessions.session(id) else {
+            return Err(Reply::Close(CloseReply::NoSession));
+        };
+        if session.is_empty() {
+            return Err(Reply::Close(CloseReply::ZeroState));
+        }
+        let floor = self.machine.floor();
+        if session.next_seq() < floor {
+            return Err(Reply::Close(CloseReply::BelowFloor(floor)));
+        }
+        match session.close::<H>(alloc, &fields(given)) {
+            Ok(made) => Ok(made),
+            Err(fault) => Err(unsealed(fault)),
+        }
+    }
+
+    // Stores and lists the ledger that a session closes into, and ends the session.
+    fn publish(&mut self, alloc: Global, id: (u8, u16), made: &Closed) -> Reply
+        requires named { IsTrue Sh.B.tells → AreNamed H.half made.now.forms.items }
+        requires filed { IsFiled H.half Sh.B.tells self.old.state }
+        ensures step { IsTrue Sh.B.tells → (given : List ℕ) → IsMade H.half self.old.state id given made.now
+            → Step H.half self.old.state id.0 (Command.Close id.1 given) result [] self.new.state }
+        ensures grows { Grows self.old self.new }
+        ensures fault { result ≡ Reply.Fault → Rose self.old.faults self.new.faults }
+    {
+        self.known();
+        if self.machine.is_listed(&made.hash) {
+            return Reply::Close(CloseReply::Listed);
+        }
+        match self.keep_forms(alloc, &made.forms) {
+            Ok(()) => {}
+            Err(fault) => return refusal(fault),
+        }
+        match self.enlist(id, &made.hash, made.header.seq) {
+            Ok(()) => Reply::Close(CloseReply::Closed(made.hash)),
+            Err(_) => Reply::Memory,
+        }
+    }
+
+    // Stores forms under their hashes. The open sessions stay what they are.
+    fn keep_forms(&mut self, alloc: Global, forms: &[FormOf]) -> Result<(), OfferFault>
+        requires named { IsTrue Sh.B.tells → AreNamed H.half forms.now }
+        requires filed { IsFiled H.half Sh.B.tells self.old.state }
+        ensures keeps { IsTrue Sh.B.tells → MayKeepAll H.half self.old.state (map (λ f. f.form) forms.now) result self.new.state }
+        ensures stays { Stays self.old self.new }
+        ensures fault { IfErr result (λ e. e ≡ OfferFault.Fault → Rose self.old.faults self.new.faults) }
+    {
+        a_session_stays_over_its_ledger();
+        self.machine.keep_all(alloc, forms)
+    }
+
+    // Lists the ledger of a session, which ends.
+    fn enlist(&mut self, id: (u8, u16), target: &Hash32, seq: u32) -> Result<(), Memory>
+        ensures ok { OnOk result (self.new.state ≡ without_session (listed_with self.old.state target.now seq) id) }
+        ensures err { OnErr result (self.new ≡ self.old) }
+        ensures faults { self.new.faults ≡ self.old.faults }
+    {
+        self.machine.enlist(target, seq)?;
+        self.sessions.end(id);
+        Ok(())
+    }
+}
+
+impl<H: NodeHash, Sh: Shelf> Machine<H, Sh> {
+    /// Stores a form under its hash, unless it is there.
+    pub(crate) fn keep(&mut self, alloc: Global, form: &FormOf) -> Result<(), OfferFault>
+        requires { IsTrue Sh.B.tells → form.now.hash ≡ H.half form.now.form }
+        ensures keeps { IsTrue Sh.B.tells → MayKeep H.half self.old.state form.now.form result self.new.state }
+        ensures stays { Stays self.old self.new }
+        ensures fault { IfErr result (λ e. e ≡ OfferFault.Fault → Rose self.old.faults self.new.faults) }
+    {
+        let put = self.store.put::<H>(alloc, &form.hash, form.form.bytes());
+        kept(put)
+    }
+}
+
+impl<H: NodeHash, Sh: Shelf> Machine<H, Sh> {
+    /// Stores forms under their hashes, one after another, until another one is there or the store fails.
+    pub(crate) fn keep_all(&mut self, alloc: Global, forms: &[FormOf]) -> Result<(), OfferFault>
+        requires { IsTrue Sh.B.tells → AreNamed H.half forms.now }
+        ensures keeps { IsTrue Sh.B.tells → MayKeepAll H.half self.old.state (map (λ f. f.form) forms.now) result self.new.state }
+        ensures stays { Stays self.old self.new }
+        ensures fault { IfErr result (λ e. e ≡ OfferFault.Fault → Rose self.old.faults self.new.faults) }
+    {
+        for form in forms {
+            match self.keep(alloc, form) {
+                Ok(()) => {}
+                Err(fault) => return Err(fault),
+            }
+        }
+        Ok(())
+    }
+
+    /// Whether the ledger is listed.
+    pub(crate) fn is_listed(&self, target: &Hash32) -> bool
+        ensures { result ≡ has_in hash_cmp self.now.state.listed target.now }
+    {
+        self.listed.contains_key(target)
+    }
+
+    /// Lists a ledger with a sequence.
+    pub(crate) fn enlist(&mut self, target: &Hash32, seq: u32) -> Result<(), Memory>
+        ensures ok { OnOk result (self.new.state ≡ listed_with self.old.state target.now seq) }
+        ensures err { OnErr result (self.new ≡ self.old) }
+        ensures faults { self.new.faults ≡ self.old.faults }
+    {
+        self.listed.insert(*target, seq)?;
+        self.last = Some(self.last.unwrap_or(seq));
+        Ok(())
+    }
+}
+
+// The fields of a close, by name.
+fn fields(given: &[u64; 4]) -> Fields
+    requires { AreFields given.now }
+    ensures { result ≡ fields_of given.now }
+{
+    Fields {
+        drops: given[0],
+        close: given[1] as u32,
+        resolution: given[2] as u8,
+        flags: given[3] as u8,
+    }
+}
+
+// The reply where a ledger wasn't made: a form of it has the zero hash, or memory was wanted.
+fn unsealed(fault: MapFault) -> Reply
+    ensures { result ≡ unsealed_by fault }
+{
+    match fault {
+        MapFault::ZeroHash(form) => Reply::ZeroHash(form),
+        _ => Reply::Memory,
+    }
+}
+
+// Whether a form is stored now. A form that is put under its own hash isn't found under a wrong one.
+fn kept(put: Result<Put, StoreFault>) -> Result<(), OfferFault>
+    ensures { result ≡ kept_by put }
+{
+    match put {
+        Ok(_) => Ok(()),
+        Err(fault) => Err(unkept(fault)),
+    }
+}
+
+// Why a form isn't stored.
+fn unkept(fault: StoreFault) -> OfferFault
+    ensures { result ≡ unkept_by fault }
+{
+    match fault {
+        StoreFault::Clash { hash, old, new } => OfferFault::Clash { hash, old, new },
+        StoreFault::Fault => OfferFault::Fault,
+        StoreFault::Memory | StoreFault::WrongHash { .. } => OfferFault::Memory,
+    }
+}

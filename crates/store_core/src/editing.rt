@@ -1,0 +1,170 @@
+//! The commands that open, change and end edit sessions.
+ghost use Rattle.std.specs.Prelude.{◌≡◌, IsTrue, IfErr, IfOk, IfSome, OnErr, length};
+ghost use Rattle.run_io.specs.Bytes.{Rose};
+ghost use Rattle.ledger_machine.specs.Sessions.{has_session, after_put, after_tx, del_reply, after_del, without_session};
+ghost use Rattle.ledger_machine.specs.Sessions.{edit_reply, after_edit};
+ghost use Rattle.ledger_machine.specs.Sound.{Sound};
+ghost use Rattle.open_sessions.specs.Rows.{del_said};
+ghost use Rattle.store_core.specs.Benches.{IsHeaderOf, IsFit, edit_by};
+ghost use Rattle.store_core.specs.Desks.{IsFiled, Stays, OnlyReads};
+
+use crate::bench::Bench;
+use edit_session::Session;
+use half_hash::{Hash32, Memory, NodeHash, known_half};
+use ledger_header::Header;
+use ledger_machine::{DelReply, EditReply};
+use node_backend::{BackFault, Shelf};
+use shamap_node::Item;
+use std::alloc::Global;
+
+/// The most sessions that are open at a time.
+const MOST_SESSIONS: usize = 64;
+
+impl<H: NodeHash, Sh: Shelf> Bench<H, Sh> {
+    /// Opens a session on a retained ledger, unless that is the last that a header can number.
+    pub(crate) fn edit(
+        &mut self,
+        alloc: Global,
+        actor: u8,
+        session: u16,
+        target: &Hash32,
+    ) -> Result<EditReply, BackFault>
+        requires { IsTrue Sh.B.tells → Sound H.half self.old.state }
+        ensures reply { IsTrue Sh.B.tells → IfOk result (λ r. r ≡ edit_reply self.old.state (actor, session) target.now) }
+        ensures after { IsTrue Sh.B.tells
+            → IfOk result (λ r. self.new.state ≡ after_edit H.half self.old.state (actor, session) target.now r) }
+        ensures err { IsTrue Sh.B.tells → OnErr result (self.new.state ≡ self.old.state) }
+        ensures stays { Stays self.old self.new }
+        ensures fault { IfErr result (λ e. e ≡ BackFault.Fault → Rose self.old.faults self.new.faults) }
+    {
+        let id = (actor, session);
+        if self.sessions.has(id) {
+            return Ok(EditReply::InUse);
+        }
+        if !self.is_retained(target) {
+            return Ok(EditReply::NotRetained);
+        }
+        match self.header_of(alloc, target)? {
+            Some(header) => Ok(self.start(alloc, id, target, header)?),
+            // the header of a retained ledger is held, so that only memory was wanted
+            None => Err(BackFault::Memory),
+        }
+    }
+
+    // The header that is held under a ledger's hash.
+    fn header_of(&mut self, alloc: Global, target: &Hash32) -> Result<Option<Header>, BackFault>
+        requires { IsFiled H.half Sh.B.tells self.old.state }
+        ensures header { IsTrue Sh.B.tells → IfOk result (λ found. IfSome found (IsHeaderOf self.old.state target.now)) }
+        ensures reads { OnlyReads Sh.B.tells self.old self.new }
+        ensures fault { IfErr result (λ e. e ≡ BackFault.Fault → Rose self.old.faults self.new.faults) }
+    {
+        self.machine.header_of(alloc, target)
+    }
+
+    // Opens a session on the ledger with this header.
+    fn start(
+        &mut self,
+        alloc: Global,
+        id: (u8, u16),
+        target: &Hash32,
+        header: Header,
+    ) -> Result<EditReply, Memory>
+        requires { IsTrue Sh.B.tells → IsFit H.half self.old.state target.now header }
+        ensures reply { IfOk result (λ r. r ≡ edit_by header.seq (length self.old.state.sessions)) }
+        ensures after { IsTrue Sh.B.tells → IfOk result (λ r. self.new.state ≡ after_edit H.half self.old.state id target.now r) }
+        ensures err { OnErr result (self.new ≡ self.old) }
+        ensures stays { Stays self.old self.new }
+    {
+        known_half::<H>();
+        if header.seq == 4_294_967_295 {
+            return Ok(EditReply::LastSeq);
+        }
+        if self.sessions.len() == MOST_SESSIONS {
+            return Ok(EditReply::TooMany);
+        }
+        let session = Session::open(alloc, *target, header);
+        self.sessions.open(id, session)?;
+        Ok(EditReply::Fine)
+    }
+
+    /// Sets an item of a session's account state; whether the session is open.
+    pub(crate) fn put(
+        &mut self,
+        alloc: Global,
+        actor: u8,
+        session: u16,
+        item: &Item,
+    ) -> Result<bool, BackFault>
+        requires { IsFiled H.half Sh.B.tells self.old.state }
+        ensures reply { IsTrue Sh.B.tells → IfOk result (λ r. r ≡ has_session self.old.state (actor, session)) }
+        ensures after { IsTrue Sh.B.tells
+            → IfOk result (λ _. self.new.state ≡ after_put self.old.state (actor, session) item.now.key item.now.value) }
+        ensures err { IsTrue Sh.B.tells → OnErr result (self.new.state ≡ self.old.state) }
+        ensures stays { Stays self.old self.new }
+        ensures fault { IfErr result (λ e. e ≡ BackFault.Fault → Rose self.old.faults self.new.faults) }
+    {
+        self.machine
+            .put(alloc, &mut self.sessions, (actor, session), item)
+    }
+
+    /// Removes a key of a session's account state.
+    pub(crate) fn del(
+        &mut self,
+        alloc: Global,
+        actor: u8,
+        session: u16,
+        key: &Hash32,
+    ) -> Result<DelReply, BackFault>
+        requires { IsFiled H.half Sh.B.tells self.old.state }
+        ensures reply { IsTrue Sh.B.tells → IfOk result (λ r. r ≡ del_reply self.old.state (actor, session) key.now) }
+        ensures after { IsTrue Sh.B.tells
+            → IfOk result (λ _. self.new.state ≡ after_del self.old.state (actor, session) key.now) }
+        ensures err { IsTrue Sh.B.tells → OnErr result (self.new.state ≡ self.old.state) }
+        ensures stays { Stays self.old self.new }
+        ensures fault { IfErr result (λ e. e ≡ BackFault.Fault → Rose self.old.faults self.new.faults) }
+    {
+        let there = self
+            .machine
+            .remove(alloc, &mut self.sessions, (actor, session), key)?;
+        Ok(removed(there))
+    }
+
+    /// Sets an item of a session's transactions; whether the session is open.
+    pub(crate) fn tx(
+        &mut self,
+        alloc: Global,
+        actor: u8,
+        session: u16,
+        item: &Item,
+    ) -> Result<bool, Memory>
+        requires { IsFiled H.half Sh.B.tells self.old.state }
+        ensures reply { IsTrue Sh.B.tells → IfOk result (λ r. r ≡ has_session self.old.state (actor, session)) }
+        ensures after { IsTrue Sh.B.tells
+            → IfOk result (λ _. self.new.state ≡ after_tx self.old.state (actor, session) item.now.key item.now.value) }
+        ensures err { OnErr result (self.new ≡ self.old) }
+        ensures stays { Stays self.old self.new }
+    {
+        self.machine
+            .tx(alloc, &mut self.sessions, (actor, session), item)
+    }
+
+    /// Ends a session; whether it was open.
+    pub(crate) fn abandon(&mut self, actor: u8, session: u16) -> bool
+        ensures reply { result ≡ has_session self.old.state (actor, session) }
+        ensures after { self.new.state ≡ without_session self.old.state (actor, session) }
+        ensures faults { self.new.faults ≡ self.old.faults }
+    {
+        self.sessions.end((actor, session))
+    }
+}
+
+// The reply to a removal.
+fn removed(there: Option<bool>) -> DelReply
+    ensures { result ≡ del_said there }
+{
+    match there {
+        None => DelReply::NoSession,
+        Some(true) => DelReply::Fine,
+        Some(false) => DelReply::Absent,
+    }
+}
