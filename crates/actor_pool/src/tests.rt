@@ -1,7 +1,7 @@
 ghost use Rattle.std.specs.Prelude.{◌≡◌, ◌≢◌, IsTrue, IfOk};
 ghost use Rattle.ledger_spec.specs.Bytes.{is_nonzero};
 ghost use Rattle.ledger_machine.specs.Scripts.{IsInRange};
-ghost use Rattle.script_form.specs.Servable.{IsServed, AreServable};
+ghost use Rattle.script_form.specs.Servable.{AreServable};
 
 use super::*;
 use half_hash::{Hash32, Memory, TinyHash};
@@ -90,7 +90,6 @@ fn want(number: u32, actor: u8, after: u32, first: u8, seq: u32) -> Line
     ensures number { result.number ≡ number }
     ensures actor { result.actor ≡ actor }
     ensures after { result.after ≡ after }
-    ensures served { IsServed result.command }
     ensures in_range { IsInRange result.command }
 {
     Line {
@@ -133,7 +132,7 @@ fn opened(alloc: Global, lines: Vec<Line>) -> Result<Core<TinyHash, MemShelf>, M
         lines,
     };
     let shelf = MemShelf::new(alloc, Vec::new(alloc), Vec::new(alloc));
-    Core::open(alloc, TinyHash, script, shelf).map_err(|_| Memory)
+    Core::open(alloc, TinyHash, script, 256, shelf).map_err(|_| Memory)
 }
 
 #[test]

@@ -1,6 +1,6 @@
 -- What sealing gives.
 use Rattle.std.specs.Prelude.{◌≡◌, ℕ, ◌<◌, take, List, [], ◌∷◌, ◌++◌, map, Option, None, Some, Result, Ok, Err}
-use Rattle.std.specs.List.{find, flat_map, slice_index_or}
+use Rattle.std.specs.List.{All, find, flat_map, slice_index_or}
 use Rattle.ledger_spec.specs.declared.Kind.{Kind}
 use Rattle.ledger_spec.specs.Bytes.{Bytes, Hash, Half, Lookup, is_zero}
 use Rattle.ledger_spec.specs.Tree.{Entry}
@@ -17,6 +17,10 @@ use Rattle.cow_map.specs.Seals.{hash_at, made_by, made_below}
 -- a form with its hash
 abbrev pub named : Half → Bytes → FormOf
 named half form = record { hash = half form; form = form }
+
+-- each form is given with its own hash
+abbrev pub AreNamed : Half → List FormOf → Type 0
+AreNamed half forms = All (λ f. f.hash ≡ half f.form) forms
 
 -- the first form whose hash is zero
 abbrev pub first_zero : Half → List Bytes → Option Bytes

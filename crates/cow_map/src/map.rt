@@ -15,7 +15,7 @@ ghost use Rattle.half_hash.specs.Half.{sha512_half};
 ghost use Rattle.cow_map.specs.Gathered.{entries_of, nothing_held, moved_link, moved_body, branch_at, ArePartsOf};
 ghost use Rattle.cow_map.specs.Laws.{IsSized};
 ghost use Rattle.cow_map.specs.Seals.{Picks};
-ghost use Rattle.cow_map.specs.Sealing.{named, first_zero, made_of_map, IsSealFault, NamesZero};
+ghost use Rattle.cow_map.specs.Sealing.{AreNamed, named, first_zero, made_of_map, IsSealFault, NamesZero};
 ghost use Rattle.cow_map.specs.Ways.{stop_of, removal_stop_of, Goes, IsFailure, NamesNoForm};
 ghost use Rattle.cow_map.specs.Unloaded.{KeepsReach};
 ghost use Rattle.cow_map.specs.Edits.{GrowsBy, SetsItem, RemovesKey, SettlesAt};
@@ -360,6 +360,9 @@ impl CowMap {
         ensures tree { IfOk result (λ s. (stored : Lookup) (items : Items) → AreOwn H.half stored →
             StandsFor H.half stored self.now items →
             Picks H.half stored (made_of_map H.half self.now) (forms_of H.half self.now.kind items)) }
+
+        // each is given with its own hash, whatever the map stands for
+        ensures named { IfOk result (λ s. AreNamed H.half s.forms.items) }
 
         // a form that is made here and has the zero hash is named, the first in that order
         ensures zero { (stored : Lookup) (items : Items) → StandsFor H.half stored self.now items →

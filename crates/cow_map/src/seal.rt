@@ -5,7 +5,7 @@ ghost use Rattle.half_hash.specs.Prefix.{prefix_of};
 ghost use Rattle.ledger_spec.specs.Forms.{leaf_form as form_of_leaf, leaf_prefix};
 ghost use Rattle.cow_map.specs.declared.link.Link.TheVariants.{Empty as empty_link, Own as own_link};
 ghost use Rattle.cow_map.specs.Bodies.{inner as inner_body, IsBelow};
-ghost use Rattle.cow_map.specs.Sealing.{Seals, SealsForm, Adds, IsSealFault};
+ghost use Rattle.cow_map.specs.Sealing.{Seals, SealsForm, Adds, AreNamed, IsSealFault};
 
 use crate::arena::Arena;
 use crate::{Cow, Link, Links, MapFault};
@@ -40,6 +40,7 @@ pub(crate) fn seal_link<H: NodeHash>(
 ) -> Result<Hash32, MapFault>
     requires { IsBelow (length arena.now) link.now }
     ensures seals { Seals H.half kind arena.now link.now forms.old.items forms.new.items result }
+    ensures named { AreNamed H.half forms.old.items → AreNamed H.half forms.new.items }
     ensures cause { IfErr result IsSealFault }
 {
     arena.known();
@@ -73,6 +74,7 @@ fn inner_form<H: NodeHash>(
     requires place { at < length arena.now }
     requires node { slice_get arena.now at ≡ Some (inner_body links.now) }
     ensures seals { SealsForm H.half kind arena.now links.now forms.old.items forms.new.items result }
+    ensures named { AreNamed H.half forms.old.items → AreNamed H.half forms.new.items }
     ensures cause { IfErr result IsSealFault }
 {
     arena.known();
@@ -103,6 +105,7 @@ fn leaf_form(alloc: Global, kind: Kind, item: &Item) -> Result<Blob, Memory>
 // Adds a form, unless its hash is zero.
 fn add<H: NodeHash>(forms: &mut Vec<FormOf>, form: Blob) -> Result<Hash32, MapFault>
     ensures adds { Adds H.half form forms.old.items forms.new.items result }
+    ensures named { AreNamed H.half forms.old.items → AreNamed H.half forms.new.items }
     ensures cause { IfErr result IsSealFault }
 {
     let hash = H::half(form.bytes());

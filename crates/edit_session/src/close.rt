@@ -1,7 +1,7 @@
 //! What a session closes into.
 ghost use Rattle.std.specs.Prelude.{◌≡◌, ◌++◌, ◌∷◌, [], IfErr, IfOk};
 ghost use Rattle.edit_session.specs.Closing.{header_form};
-ghost use Rattle.cow_map.specs.Sealing.{named, first_zero, IsSealFault, NamesZero};
+ghost use Rattle.cow_map.specs.Sealing.{AreNamed, named, first_zero, IsSealFault, NamesZero};
 
 use cow_map::{FormOf, MapFault};
 use half_hash::{Blob, Hash32, NodeHash};
@@ -37,6 +37,8 @@ pub(crate) fn closed_with<H: NodeHash>(
     mut forms: Vec<FormOf>,
     mut txs: Vec<FormOf>,
 ) -> Result<Closed, MapFault>
+    requires named { AreNamed H.half forms.items × AreNamed H.half txs.items }
+    ensures named { IfOk result (λ c. AreNamed H.half c.forms.items) }
     ensures header { IfOk result (λ c. c.header ≡ header) }
     ensures hash { IfOk result (λ c. c.hash ≡ H.half (header_form header)) }
     ensures forms { IfOk result (λ c. c.forms.items ≡ forms.items ++ txs.items ++ named H.half (header_form header) ∷ []) }

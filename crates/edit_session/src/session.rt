@@ -7,7 +7,7 @@ ghost use Rattle.ledger_spec.specs.Commits.{AreOwn, IsWholeMap};
 ghost use Rattle.ledger_spec.specs.Findings.{items_of};
 ghost use Rattle.cow_map.specs.declared.fault.MapFault.TheVariants as causes;
 ghost use Rattle.cow_map.specs.Laws.{IsSized};
-ghost use Rattle.cow_map.specs.Sealing.{IsSealFault};
+ghost use Rattle.cow_map.specs.Sealing.{AreNamed, IsSealFault};
 ghost use Rattle.cow_map.specs.Trees.{link_to, StandsFor};
 ghost use Rattle.cow_map.specs.Ways.{stop_of, removal_stop_of};
 ghost use Rattle.edit_session.specs.Drafts.{StandsAlone, Keeps, Edits, LeavesToParent};
@@ -159,6 +159,9 @@ impl Session {
     pub fn close<H: NodeHash>(&self, alloc: Global, fields: &Fields) -> Result<Closed, MapFault>
         requires { IsOccupied self.now.state }
         ensures follows { IfOk result (Follows H.half self.now fields.now) }
+
+        // each form is given with its own hash, whatever maps the session has
+        ensures named { IfOk result (λ c. AreNamed H.half c.forms.items) }
 
         // where the session has maps over forms under their own hashes, the ledger has these
         ensures closes { IfOk result (λ c. (stored : Lookup) (accounts txs : Items) → AreOwn H.half stored →

@@ -29,8 +29,7 @@ use Rattle.ledger_machine.specs.Base.{after_base, after_node, node_forms}
 use Rattle.ledger_machine.specs.Ticks.{tick_reply, after_tick}
 use Rattle.ledger_machine.specs.Views.{after_unview}
 use Rattle.ledger_machine.specs.Reading.{view_root}
-use Rattle.ledger_machine.specs.Rotation.{WhileTurning}
-use Rattle.ledger_machine.specs.Steps.{Step, IsAfter, Gives, Gets, Pages, Answered, Refused, IsRow, Outcomes}
+use Rattle.ledger_machine.specs.Steps.{Does, IsAfter, Gives, Gets, Pages, Answered, Refused, IsRow, Outcomes}
 
 module _ (half : Half) (es : ForActor Session) where
   -- the state with these sessions
@@ -138,28 +137,19 @@ module _ (half : Half) (es : ForActor Session) where
     same = after_beside (with_forms half s r.forms) (with_forms half (beside s) r.forms) s' (forms_beside s r.forms) r.same;
   }
 
-  row_beside : (s : State) (a : ℕ) (c : Command) (reply : Reply) → IsBeside c → IsRow half s a c reply → IsRow half (beside s) a c reply
-  row_beside s a (command.Close x given) reply is e = absurd is
-  row_beside s a c reply is e = e
+  said_beside : (s : State) (a : ℕ) (c : Command) (reply : Reply) → IsBeside c → IsRow half s a c reply → IsRow half (beside s) a c reply
+  said_beside s a (command.Close x given) reply is e = absurd is
+  said_beside s a c reply is e = e
 
   outcome_beside : (s : State) (a : ℕ) (c : Command) (reply : Reply) (used : List Held) (s' : State) → IsBeside c
       → Outcomes half s a c reply used s' → Outcomes half (beside s) a c reply used (beside s')
   outcome_beside s a c says.Fault used s' is o = (o.0, refused_beside s a c s' is o.1)
   outcome_beside s a c says.Memory used s' is o = (o.0, refused_beside s a c s' is o.1)
   outcome_beside s a c (says.Clash h old new) used s' is o =
-      (row_beside s a c (says.Clash h old new) is o.0, refused_beside s a c s' is o.1)
-  outcome_beside s a c (says.ZeroHash form) used s' is o = (row_beside s a c (says.ZeroHash form) is o.0, refused_beside s a c s' is o.1)
+      (said_beside s a c (says.Clash h old new) is o.0, refused_beside s a c s' is o.1)
+  outcome_beside s a c (says.ZeroHash form) used s' is o = (said_beside s a c (says.ZeroHash form) is o.0, refused_beside s a c s' is o.1)
   outcome_beside s a c reply used s' is o = answered_beside s a c reply used s' is o
 
-  -- while no rotation is under way
-  pub step_beside : (s s' : State) (a : ℕ) (c : Command) (reply : Reply) (used : List Held) → IsBeside c → s.turning ≡ None
-      → Step half s a c reply used s' → Step half (beside s) a c reply used (beside s')
-  step_beside s s' a c reply used is idle step = record {
-    outcome = outcome_beside s a c reply used s' is step.outcome;
-    uses = step.uses;
-    carries = idle_any s.turning s'.turning _ idle;
-  }
-    where
-      idle_any : (o p : Option ℕ) (P : Type 0) → o ≡ None → WhileTurning o p P
-      idle_any None p P e = tt
-      idle_any (Some v) p P e = cc
+  pub row_beside : (s s' : State) (a : ℕ) (c : Command) (reply : Reply) (used : List Held) → IsBeside c → Does half s a c reply used s'
+      → Does half (beside s) a c reply used (beside s')
+  row_beside s s' a c reply used is does = record { outcome = outcome_beside s a c reply used s' is does.outcome; uses = does.uses }

@@ -73,7 +73,7 @@ header_there (Some form) stored e = at (header_of form) e
     at (Some bytes) e = sound_missing e
 
 -- what is sound is held by what is stored, and breaks no rule
-sound_held : (half : Half) (rules : Held → Option ShapeFault) (o : Option Bytes) (n : Held) → sight_of half rules o ≡ sound n
+pub sound_held : (half : Half) (rules : Held → Option ShapeFault) (o : Option Bytes) (n : Held) → sight_of half rules o ≡ sound n
     → (form : Bytes) × (o ≡ Some form) × (held_of half form ≡ Some n) × (rules n ≡ None)
 sound_held half rules None n e = absurd (missing_sound e)
 sound_held half rules (Some form) n e = at (held_of half form) refl e
@@ -118,7 +118,7 @@ leaf_no_inner half b hashes e = first (keyed_leaf_of State b) (keyed_leaf_of Tx 
     first (Some n) p never nor_then e = never e
 
 -- what an inner node's form holds
-held_inner : (half : Half) (form : Bytes) (hashes : List Hash) → held_of half form ≡ Some (inner hashes) → inner_of form ≡ Some hashes
+pub held_inner : (half : Half) (form : Bytes) (hashes : List Hash) → held_of half form ≡ Some (inner hashes) → inner_of form ≡ Some hashes
 held_inner half form hashes e = first (inner_of form) refl (header_of form) e
   where
     second : (h : Option Bytes) → option_or (option_map header h) (leaf_of half form) ≡ Some (inner hashes) → ⊥
@@ -132,7 +132,7 @@ held_inner half form hashes e = first (inner_of form) refl (header_of form) e
     first (Some own) is h e = let same : own ≡ hashes = cc in is ∙ ap Some same
 
 -- a header that is sound is what is stored
-sound_header : (o : Option Bytes) (bytes : Bytes) → header_sight o ≡ sound (header bytes)
+pub sound_header : (o : Option Bytes) (bytes : Bytes) → header_sight o ≡ sound (header bytes)
     → (form : Bytes) × (o ≡ Some form) × (header_of form ≡ Some bytes)
 sound_header None bytes e = absurd (missing_sound e)
 sound_header (Some form) bytes e = at (header_of form) refl e

@@ -12,7 +12,7 @@ use Rattle.ledger_spec.specs.declared.Kind.{Kind}
 use Rattle.ledger_spec.specs.declared.Kind.TheVariants as kinds
 use Rattle.ledger_spec.specs.declared.ShapeFault.{ShapeFault}
 use Rattle.ledger_spec.specs.Maps.{hash_cmp, numbered_cmp, get_in, has_in}
-use Rattle.ledger_spec.specs.Bytes.{Bytes, Hash, Half, Lookup, Nodes, is_zero, same_bytes}
+use Rattle.ledger_spec.specs.Bytes.{Bytes, Hash, Half, Lookup, is_zero, same_bytes}
 use Rattle.ledger_spec.specs.Header.{seq_of}
 use Rattle.ledger_spec.specs.Forms.{Held, form_of, hash_of, header_prefix}
 use Rattle.ledger_spec.specs.Rules.{fault_of}
@@ -28,46 +28,29 @@ use Rattle.ledger_spec.specs.declared.outcomes.Offered.{Offered}
 use Rattle.ledger_spec.specs.declared.outcomes.Offered.TheVariants as offered
 use Rattle.ledger_spec.specs.declared.outcomes.HeadOffered.{HeadOffered}
 use Rattle.ledger_spec.specs.declared.outcomes.HeadOffered.TheVariants as head
-use Rattle.ledger_machine.specs.declared.replies.WantReply.{WantReply}
-use Rattle.ledger_machine.specs.declared.replies.WantReply.TheVariants as want
-use Rattle.ledger_machine.specs.declared.replies.TickReply.{TickReply}
-use Rattle.ledger_machine.specs.declared.replies.TickReply.TheVariants as tick
-use Rattle.ledger_machine.specs.Ticks.{tick_reply, after_tick}
-use Rattle.ledger_machine.specs.declared.replies.CheckReply.{CheckReply}
-use Rattle.ledger_machine.specs.declared.replies.CheckReply.TheVariants as check
 use Rattle.ledger_machine.specs.declared.replies.BaseReply.TheVariants as base
 use Rattle.ledger_machine.specs.declared.replies.NodeReply.TheVariants as node
 use Rattle.ledger_machine.specs.declared.replies.Reply.{Reply}
 use Rattle.ledger_machine.specs.declared.replies.Reply.TheVariants as says
-use Rattle.ledger_machine.specs.State.{State, Session, form_in, with_form, with_forms, stored_seq}
-use Rattle.ledger_machine.specs.Want.{want_reply, after_want}
-use Rattle.ledger_machine.specs.Peer.{after_peer}
-use Rattle.ledger_machine.specs.Check.{check_reply, after_check}
+use Rattle.ledger_machine.specs.State.{State, Session, form_in, with_form, with_forms}
 use Rattle.ledger_spec.specs.Bases as lookup
 use Rattle.ledger_spec.specs.Bases.{Judged, given, root_outcome, root_forms, joined, behind_header, behind_state, base_outcome, base_forms}
 use Rattle.ledger_spec.specs.Peers.{is_present}
 use Rattle.ledger_spec.specs.Acquiring.{Acquiring}
 use Rattle.ledger_spec.specs.Offers.{Clash, head_given, head_outcome, node_given, spot_outcome, wire_outcome, node_outcome, stored_by}
-use Rattle.ledger_machine.specs.Base.{base_said, base_for, base_reply, after_base, node_said, node_for, node_forms, after_node}
+use Rattle.ledger_machine.specs.Base.{base_said, base_for, base_reply, node_said, node_for, node_forms}
 use Rattle.ledger_spec.specs.Offers.{head_forms}
-use Rattle.ledger_machine.specs.Views.{view_reply, after_view, after_unview}
-use Rattle.ledger_machine.specs.Reading.{view_root}
-use Rattle.ledger_laws.proofs.SoundViews.{view_nodes}
-use Rattle.ledger_laws.proofs.SoundSteps.{gets_after, pages_after}
-use Rattle.ledger_machine.specs.Scripts.{IsCovered}
-use Rattle.ledger_machine.specs.Steps.{Step, IsAfter, Answered, IsRow, own_forms}
+use Rattle.ledger_machine.specs.Steps.{Step, IsRow, own_forms}
 use Rattle.ledger_machine.specs.Runs.{Run, IsRunOf, used_by, opening_of}
 use Rattle.ledger_machine.specs.Collisions.{form_read, part_form, head_form, offered_by, offered_in, Collides, made_by, made_along}
 use Rattle.ledger_machine.specs.Collisions.{brought_by, HasZero, ShowsIn}
 use Rattle.ledger_machine.specs.declared.replies.CloseReply.TheVariants as close
-use Rattle.ledger_machine.specs.Sessions.{edit_reply, after_edit, after_put, after_tx, after_del, without_session}
 use Rattle.ledger_machine.specs.Closing.{new_header, closing_forms, clash_under, first_clash, closed_or_clash, zero_or, close_given}
-use Rattle.ledger_machine.specs.Closing.{closed, after_close, closes_into, unless_zero}
-use Rattle.ledger_laws.proofs.SoundSessions.{edit_nodes, with_session_nodes}
+use Rattle.ledger_machine.specs.Closing.{closes_into, unless_zero}
 use Rattle.ledger_laws.proofs.SoundOffers.{present_form, parts_cases}
-use Rattle.ledger_laws.proofs.SoundKeeps.{shaded_same}
 use Rattle.ledger_laws.proofs.SoundForms.{new_or_old, in_nothing, in_head, in_tail, forms_looked_up}
-use Rattle.ledger_laws.proofs.SoundSteps.{outcome_cases, line_at}
+use Rattle.ledger_laws.proofs.SoundSteps.{line_at}
+use Rattle.ledger_laws.proofs.Stored.{row_goes, goes_adds}
 use Rattle.ledger_laws.proofs.Openings.{stored_all, none_in_empty, forms_among}
 
 -- each form that is looked up stands under its own hash and is one of these
@@ -79,10 +62,6 @@ abbrev pub IsFrom : Half → List Bytes → State → Type 0
 IsFrom half forms s = AreFrom half forms (form_in s)
 
 module _ (half : Half) (forms : List Bytes) where
-  -- the same forms
-  same_from : (s s' : State) → s'.nodes ≡ s.nodes → IsFrom half forms s → IsFrom half forms s'
-  same_from s s' same from h form e = from h form (sym (ap (λ (n : Nodes). finite.get n h) same) ∙ e)
-
   -- one form more
   with_form_from : (s : State) (form : Bytes) → Contains forms form → IsFrom half forms s → IsFrom half forms (with_form half s form)
   with_form_from s form one from = at (form_in s (half form))
@@ -102,29 +81,6 @@ module _ (half : Half) (forms : List Bytes) where
   with_forms_from s (form ∷ more) each from =
       with_forms_from (with_form half s form) more (λ x c. each x (in_tail form x more c))
       (with_form_from s form (each form (in_head form more)) from)
-
-  after_from : (t s' : State) → IsAfter t s' → IsFrom half forms t → IsFrom half forms s'
-  after_from t s' e from = same_from t s' (shaded_same t s' e).nodes from
-
--- no answer that changes acquisitions changes what is stored
-want_nodes : (s : State) (t : Hash) (seq : ℕ) (r : WantReply) → (after_want s t seq r).nodes ≡ s.nodes
-want_nodes s t seq want.Opened = refl
-want_nodes s t seq _ = refl
-
-tick_nodes : (s : State) (t : Hash) (r : TickReply) → (after_tick s t r).nodes ≡ s.nodes
-tick_nodes s t (tick.Timeout n) = refl
-tick_nodes s t (tick.GaveUp n) = refl
-tick_nodes s t tick.NotOpen = refl
-
--- each reply lists a ledger, ends an acquisition or changes its peers, and stores nothing
-check_nodes : (s : State) (t : Hash) (seq : ℕ) (r : CheckReply) → (after_check s t seq r).nodes ≡ s.nodes
-check_nodes s t seq check.Complete = refl
-check_nodes s t seq (check.Need peer places) = refl
-check_nodes s t seq (check.SeqDiffers asked found) = refl
-check_nodes s t seq check.ZeroState = refl
-check_nodes s t seq (check.BelowFloor f) = refl
-check_nodes s t seq (check.Malformed place rule) = refl
-check_nodes s t seq _ = refl
 
 -- what is stored of a node is what was read
 stored_read : (r : Result Held ℕ) (o : Result Offered Clash) (form : Bytes) → Contains (stored_by r o) form → Contains (form_read r) form
@@ -197,19 +153,12 @@ IsNoClose _ = Unit {0}
 -- another command's own forms are among those that it offers
 own_offered : (half : Half) (s : State) (a : ℕ) (c : Command) (form : Bytes) → IsNoClose c → Contains (own_forms half s a c) form
     → Contains (offered_by half c) form
-own_offered half s a (command.Base p t bytes state tx) form covered c =
+own_offered half s a (command.Base p t bytes state tx) form other c =
     parts_read half bytes state tx form (form_in s) t
     (present_form p (get_in hash_cmp s.wanted t) (base_forms half (form_in s) t bytes state tx) form c)
-own_offered half s a (command.Node p t kind path blob) form covered c =
+own_offered half s a (command.Node p t kind path blob) form other c =
     stored_read (read_wire half blob) (node_outcome half (form_in s) t kind path blob) form
     (present_form p (get_in hash_cmp s.wanted t) (node_forms half s t kind path blob) form c)
-own_offered half s a (command.Want t seq) form covered c = absurd (in_nothing c)
-own_offered half s a (command.Peer p t) form covered c = absurd (in_nothing c)
-own_offered half s a (command.Check t) form covered c = absurd (in_nothing c)
-own_offered half s a (command.Tick t) form covered c = absurd (in_nothing c)
-own_offered half s a (command.View v t) form covered c = absurd (in_nothing c)
-own_offered half s a (command.Unview v) form covered c = absurd (in_nothing c)
-own_offered half s a (command.Get v kind key) form covered c = absurd (in_nothing c)
 own_offered half s a (command.Close x given) form other c = absurd other
 own_offered half s a _ form other c = absurd (in_nothing c)
 
@@ -245,95 +194,14 @@ differs true x d c e = cc
 differs false x d c e = refl
 
 module _ (half : Half) (forms : List Bytes) where
-  -- what the answer of a row leaves
-  base_from : (s : State) (p : ℕ) (t : Hash) (bytes : Bytes) (state tx : Option Bytes) (reply : Reply)
-      → ((form : Bytes) → Contains (head_form bytes ++ part_form half state ++ part_form half tx) form → Contains forms form)
-      → IsFrom half forms s
-      → IsFrom half forms (after_base half s p t bytes state tx reply)
-  base_from s p t bytes state tx (says.Base (base.Parts h a b)) each from =
-      with_forms_from half forms s (base_forms half (form_in s) t bytes state tx)
-      (λ form c. each form (parts_read half bytes state tx form (form_in s) t c)) from
-  base_from s p t bytes state tx _ each from = from
-
-  -- a node's forms are read of its blob, and a charge stores nothing
-  node_from : (s : State) (p : ℕ) (t : Hash) (kind : Kind) (path : List ℕ) (blob : Bytes) (reply : Reply)
-      → ((form : Bytes) → Contains (part_form half (Some blob)) form → Contains forms form)
-      → IsFrom half forms s → IsFrom half forms (after_node half s p t kind path blob reply)
-  node_from s p t kind path blob (says.Node (node.One o)) each from =
-      with_forms_from half forms s (node_forms half s t kind path blob)
-      (λ form c. each form (stored_read (read_wire half blob) (node_outcome half (form_in s) t kind path blob) form c)) from
-  node_from s p t kind path blob _ each from = from
-
-  close_from : (s : State) (x : ℕ × ℕ) (given : List ℕ) (reply : Reply)
-      → ((form : Bytes) → Contains (closes_into half s given (get_in numbered_cmp s.sessions x)) form → Contains forms form)
-      → IsFrom half forms s → IsFrom half forms (after_close half s x given reply)
-  close_from s x given (says.Close (close.Closed h)) made from = at (get_in numbered_cmp s.sessions x) made
-    where
-      at : (o : Option Session) → ((form : Bytes) → Contains (closes_into half s given o) form → Contains forms form)
-          → IsFrom half forms (closed half s x given h o)
-      at None made = from
-      at (Some e) made = with_forms_from half forms s (closing_forms half e (new_header half s e given)) made from
-  close_from s x given _ made from = from
-
-  row_from : (s : State) (a : ℕ) (c : Command) (reply : Reply) (used : List Held) (s' : State) → IsCovered c
-      → ((form : Bytes) → Contains (offered_by half c) form → Contains forms form)
-      → ((form : Bytes) → Contains (made_by half s a c) form → Contains forms form)
-      → IsFrom half forms s → Answered half s a c reply used s' → IsFrom half forms s'
-  row_from s a (command.Want t seq) reply used s' covered each made from g =
-      after_from half forms (after_want s t seq (want_reply s t seq)) s' g.after
-      (same_from half forms s (after_want s t seq (want_reply s t seq)) (want_nodes s t seq (want_reply s t seq)) from)
-  row_from s a (command.Peer p t) reply used s' covered each made from g =
-      after_from half forms (after_peer s p t) s' g.after
-      (same_from half forms s (after_peer s p t) refl from)
-  row_from s a (command.Base p t bytes state tx) reply used s' covered each made from g =
-      after_from half forms (after_base half s p t bytes state tx reply) s' g.after (base_from s p t bytes state tx reply each from)
-  row_from s a (command.Node p t kind path blob) reply used s' covered each made from g =
-      after_from half forms (after_node half s p t kind path blob reply) s' g.after (node_from s p t kind path blob reply each from)
-  row_from s a (command.Check t) reply used s' covered each made from g =
-      after_from half forms (after_check s t (stored_seq s t) (check_reply half s t)) s' g.after
-      (same_from half forms s (after_check s t (stored_seq s t) (check_reply half s t))
-      (check_nodes s t (stored_seq s t) (check_reply half s t)) from)
-  row_from s a (command.Tick t) reply used s' covered each made from g =
-      after_from half forms (after_tick s t (tick_reply s t)) s' g.after
-      (same_from half forms s (after_tick s t (tick_reply s t)) (tick_nodes s t (tick_reply s t)) from)
-  row_from s a (command.View v t) reply used s' covered each made from g =
-      after_from half forms (after_view s (a, v) t (view_reply s (a, v) t)) s' g.after
-      (same_from half forms s (after_view s (a, v) t (view_reply s (a, v) t)) (view_nodes s (a, v) t (view_reply s (a, v) t)) from)
-  row_from s a (command.Unview v) reply used s' covered each made from g =
-      after_from half forms (after_unview s (a, v)) s' g.after (same_from half forms s (after_unview s (a, v)) refl from)
-  row_from s a (command.Get v kind key) reply used s' covered each made from g =
-      after_from half forms s s' (gets_after half s kind key (view_root s kind (a, v)) reply used s' g) from
-  row_from s a (command.Page v kind key n) reply used s' covered each made from g =
-      after_from half forms s s' (pages_after half s kind key n (view_root s kind (a, v)) reply used s' g) from
-  row_from s a (command.Edit x t) reply used s' covered each made from g =
-      after_from half forms (after_edit half s (a, x) t (edit_reply s (a, x) t)) s' g.after
-      (same_from half forms s (after_edit half s (a, x) t (edit_reply s (a, x) t)) (edit_nodes half s (a, x) t (edit_reply s (a, x) t))
-      from)
-  row_from s a (command.Put x item) reply used s' covered each made from g =
-      after_from half forms (after_put s (a, x) item.key item.value) s' g.after
-      (same_from half forms s (after_put s (a, x) item.key item.value) (with_session_nodes s (a, x) _) from)
-  row_from s a (command.Tx x item) reply used s' covered each made from g =
-      after_from half forms (after_tx s (a, x) item.key item.value) s' g.after
-      (same_from half forms s (after_tx s (a, x) item.key item.value) (with_session_nodes s (a, x) _) from)
-  row_from s a (command.Del x key) reply used s' covered each made from g =
-      after_from half forms (after_del s (a, x) key) s' g.after
-      (same_from half forms s (after_del s (a, x) key) (with_session_nodes s (a, x) _) from)
-  row_from s a (command.Close x given) reply used s' covered each made from g =
-      after_from half forms (after_close half s (a, x) given reply) s' g.after (close_from s (a, x) given reply made from)
-  row_from s a (command.Abandon x) reply used s' covered each made from g =
-      after_from half forms (without_session s (a, x)) s' g.after (same_from half forms s (without_session s (a, x)) refl from)
-  row_from s a _ reply used s' covered each made from g = absurd covered
-
   -- after each step all that is stored is offered or made
-  step_from : (s : State) (a : ℕ) (c : Command) (reply : Reply) (used : List Held) (s' : State) → IsCovered c
+  step_from : (s : State) (a : ℕ) (c : Command) (reply : Reply) (used : List Held) (s' : State)
       → ((form : Bytes) → Contains (offered_by half c) form → Contains forms form)
       → ((form : Bytes) → Contains (made_by half s a c) form → Contains forms form)
       → IsFrom half forms s → Step half s a c reply used s' → IsFrom half forms s'
-  step_from s a c reply used s' covered each made from step =
-      ⊎_elim
-      (λ r. after_from half forms (with_forms half s r.forms) s' r.same
-      (with_forms_from half forms s r.forms (λ form i. own_among half forms s a c each made form (r.own form i).0) from))
-      (λ g. row_from s a c reply used s' covered each made from g) (outcome_cases half s a c reply used s' step.outcome)
+  step_from s a c reply used s' each made from step h form e =
+      ⊎_elim (λ old. from h form old) (λ new. (new.0, own_among half forms s a c each made form new.1))
+      (goes_adds half c (own_forms half s a c) s s' (row_goes half s a c reply used s' step.outcome) h form e)
 
   -- a form that isn't the one under its hash is another with that hash
   found_other : (nodes : Lookup) (h : Hash) (old new : Bytes) → AreFrom half forms nodes → nodes h ≡ Some old → half new ≡ h
@@ -587,63 +455,50 @@ module _ (half : Half) (forms : List Bytes) where
       at false false None zero false (Some c) clash is = subst (ShowsIn half forms) is (forms_clash s whole c made from clash)
 
   -- a clash in the answer of a row
-  row_clash : (s : State) (a : ℕ) (c : Command) (h : Hash) (old new : Bytes) → IsCovered c
+  row_clash : (s : State) (a : ℕ) (c : Command) (h : Hash) (old new : Bytes)
       → ((form : Bytes) → Contains (offered_by half c) form → Contains forms form)
       → ((form : Bytes) → Contains (made_by half s a c) form → Contains forms form) → IsFrom half forms s
       → IsRow half s a c (says.Clash h old new) → Collides half forms
-  row_clash s a (command.Base p t bytes state tx) h old new covered each made from e =
+  row_clash s a (command.Base p t bytes state tx) h old new each made from e =
       base_clash s p t bytes state tx h old new each from (sym e)
-  row_clash s a (command.Node p t kind path blob) h old new covered each made from e =
+  row_clash s a (command.Node p t kind path blob) h old new each made from e =
       let r : (c : Clash) × (node_outcome half (form_in s) t kind path blob ≡ Err c) =
       node_present half s p t kind path blob (get_in hash_cmp s.wanted t) h old new (sym e) in
       read_clash half forms (form_in s) t kind path (read_wire half blob) r.0 from each r.1
-  row_clash s a (command.Want t seq) h old new covered each made from e = absurd e
-  row_clash s a (command.Peer p t) h old new covered each made from e = absurd e
-  row_clash s a (command.Check t) h old new covered each made from e = absurd e
-  row_clash s a (command.Tick t) h old new covered each made from e = absurd e
-  row_clash s a (command.View v t) h old new covered each made from e = absurd e
-  row_clash s a (command.Unview v) h old new covered each made from e = absurd e
-  row_clash s a (command.Get v kind key) h old new covered each made from e = absurd e
-  row_clash s a (command.Page v kind key n) h old new covered each made from e = absurd e
-  row_clash s a (command.Edit x t) h old new covered each made from e = absurd e
-  row_clash s a (command.Put x item) h old new covered each made from e = absurd e
-  row_clash s a (command.Tx x item) h old new covered each made from e = absurd e
-  row_clash s a (command.Del x key) h old new covered each made from e = absurd e
-  row_clash s a (command.Close x given) h old new covered each made from e =
+  row_clash s a (command.Close x given) h old new each made from e =
       close_shows s (a, x) given (get_in numbered_cmp s.sessions (a, x)) (says.Clash h old new) made from (sym e)
-  row_clash s a (command.Abandon x) h old new covered each made from e = absurd e
-  row_clash s a _ h old new covered each made from e = absurd covered
+  row_clash s a _ h old new each made from e = absurd e
 
   -- only a close has a zero hash in its answer
-  row_zero : (s : State) (a : ℕ) (c : Command) (form : Bytes) → IsCovered c
+  row_zero : (s : State) (a : ℕ) (c : Command) (form : Bytes)
       → ((form : Bytes) → Contains (made_by half s a c) form → Contains forms form) → IsFrom half forms s
       → IsRow half s a c (says.ZeroHash form) → HasZero half forms
-  row_zero s a (command.Base p t bytes state tx) form covered made from e =
+  row_zero s a (command.Base p t bytes state tx) form made from e =
       absurd (no_zero_base half s p t bytes state tx (get_in hash_cmp s.wanted t) form (sym e))
-  row_zero s a (command.Node p t kind path blob) form covered made from e =
+  row_zero s a (command.Node p t kind path blob) form made from e =
       absurd (no_zero_node half s p t kind path blob (get_in hash_cmp s.wanted t) form (sym e))
-  row_zero s a (command.Close x given) form covered made from e =
+  row_zero s a (command.Close x given) form made from e =
       close_shows s (a, x) given (get_in numbered_cmp s.sessions (a, x)) (says.ZeroHash form) made from (sym e)
-  row_zero s a _ form covered made from e = absurd e
+  row_zero s a _ form made from e = absurd e
 
   -- a step that answers a clash or a zero hash shows it
-  step_shows : (s : State) (a : ℕ) (c : Command) (reply : Reply) (used : List Held) (s' : State) → IsCovered c
+  step_shows : (s : State) (a : ℕ) (c : Command) (reply : Reply) (used : List Held) (s' : State)
       → ((form : Bytes) → Contains (offered_by half c) form → Contains forms form)
       → ((form : Bytes) → Contains (made_by half s a c) form → Contains forms form)
       → IsFrom half forms s → Step half s a c reply used s' → ShowsIn half forms reply
-  step_shows s a c (says.Clash h old new) used s' covered each made from step =
-      row_clash s a c h old new covered each made from step.outcome.0
-  step_shows s a c (says.ZeroHash form) used s' covered each made from step = row_zero s a c form covered made from step.outcome.0
-  step_shows s a c _ used s' covered each made from step = tt
+  step_shows s a c (says.Clash h old new) used s' each made from step =
+      row_clash s a c h old new each made from step.outcome.0
+  step_shows s a c (says.ZeroHash form) used s' each made from step = row_zero s a c form made from step.outcome.0
+  step_shows s a c _ used s' each made from step = tt
 
   -- and so does a run
-  run_shows : (lines : List Line) (s : State) (entries : List Entry) (s' : State) → ((l : Line) → Contains lines l → IsCovered l.command)
+  run_shows : (lines : List Line) (s : State) (entries : List Entry) (s' : State)
       → ((l : Line) → Contains lines l → (form : Bytes) → Contains (offered_by half l.command) form → Contains forms form)
       → IsFrom half forms s → (run : Run half lines s entries s')
       → ((form : Bytes) → Contains (made_along half lines s entries s' run) form → Contains forms form)
       → All (λ e. ShowsIn half forms e.reply) entries
-  run_shows lines s [] s' covered each from run made = All-nil (λ e. ShowsIn half forms e.reply)
-  run_shows lines s (e ∷ rest) s' covered each from run made =
+  run_shows lines s [] s' each from run made = All-nil (λ e. ShowsIn half forms e.reply)
+  run_shows lines s (e ∷ rest) s' each from run made =
       let line : Line = run.1.line in
       let among : Contains lines line = line_at lines run.1.place line run.1.stands in
       let here : List Bytes = made_by half s e.actor line.command in
@@ -651,9 +506,9 @@ module _ (half : Half) (forms : List Bytes) where
       let first : (form : Bytes) → Contains here form → Contains forms form =
       λ form c. made form (Contains-append_left here behind form c) in
       All-cons (λ x. ShowsIn half forms x.reply) e rest
-      (step_shows s e.actor line.command e.reply (used_by e) run.0 (covered line among) (each line among) first from run.1.step)
-      (run_shows lines run.0 rest s' covered each
-      (step_from half forms s e.actor line.command e.reply (used_by e) run.0 (covered line among) (each line among) first from run.1.step)
+      (step_shows s e.actor line.command e.reply (used_by e) run.0 (each line among) first from run.1.step)
+      (run_shows lines run.0 rest s' each
+      (step_from half forms s e.actor line.command e.reply (used_by e) run.0 (each line among) first from run.1.step)
       run.2 (λ form c. made form (Contains-append_right here behind form c)))
 
 -- what a line offers is among what the lines offer
@@ -688,13 +543,12 @@ module _ (half : Half) (records : List Record) (lines : List Line) where
 
   -- each clash and each zero hash of a run from the script's records is shown by the forms that the run brings
   pub run_shown : (interval : ℕ) (entries : List Entry) (s' : State) → AreRecords half records
-      → ((l : Line) → Contains lines l → IsCovered l.command)
       → (run : IsRunOf half records lines interval entries s')
       → All (λ e. ShowsIn half (brought_by half records lines interval entries s' run) e.reply) entries
-  run_shown interval entries s' are covered run =
+  run_shown interval entries s' are run =
       let offered : List Bytes = offered_in half records lines in
       let made : List Bytes = made_along half lines (opening_of records interval) entries s' run in
-      run_shows half (offered ++ made) lines (opening_of records interval) entries s' covered
+      run_shows half (offered ++ made) lines (opening_of records interval) entries s'
       (λ l among form c. Contains-append_left offered made form (among_offered l among form c))
       (λ h form e. let from = records_from interval are h form e in (from.0, Contains-append_left offered made form from.1)) run
       (λ form c. Contains-append_right offered made form c)
@@ -702,9 +556,8 @@ module _ (half : Half) (records : List Record) (lines : List Line) where
 -- the same of one entry
 pub entry_shown : (half : Half) (records : List Record) (lines : List Line) (interval : ℕ) (entries : List Entry) (s' : State)
     (e : Entry)
-    → AreRecords half records → ((l : Line) → Contains lines l → IsCovered l.command)
-    → (run : IsRunOf half records lines interval entries s') → Contains entries e
+    → AreRecords half records → (run : IsRunOf half records lines interval entries s') → Contains entries e
     → ShowsIn half (brought_by half records lines interval entries s' run) e.reply
-entry_shown half records lines interval entries s' e are covered run among =
+entry_shown half records lines interval entries s' e are run among =
     All-contains (λ x. ShowsIn half (brought_by half records lines interval entries s' run) x.reply) entries e
-    (run_shown half records lines interval entries s' are covered run) among
+    (run_shown half records lines interval entries s' are run) among

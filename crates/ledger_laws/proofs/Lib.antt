@@ -20,3 +20,8 @@ pub mod Making
 pub mod SoundSessions
 pub mod SoundClosing
 pub mod Beside
+pub mod Stored
+pub mod Carrying
+pub mod Sweeping
+pub mod Alike
+pub mod SoundRotation

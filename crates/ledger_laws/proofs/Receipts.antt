@@ -9,10 +9,10 @@ use Rattle.std.proofs.lemmas.Cmp.{nat_list_cmp_total, tied_itself}
 use Rattle.ledger_spec.specs.declared.Kind.{Kind}
 use Rattle.ledger_spec.specs.declared.Kind.TheVariants as kinds
 use Rattle.ledger_spec.specs.declared.ShapeFault.{ShapeFault}
-use Rattle.ledger_spec.specs.Maps.{hash_cmp, numbered_cmp, get_in}
+use Rattle.ledger_spec.specs.Maps.{hash_cmp, get_in}
 use Rattle.ledger_spec.specs.Bytes.{Bytes, Hash, Half, Lookup, Nodes, same_bytes}
 use Rattle.ledger_spec.specs.Forms.{Held, header, form_of, hash_of, header_prefix}
-use Rattle.ledger_spec.specs.Reach.{root}
+use Rattle.ledger_spec.specs.Reach.{Reach, root, kid}
 use Rattle.ledger_spec.specs.Rules.{fault_of}
 use Rattle.ledger_spec.specs.Spots.{Spot, no_base, no_parent, empty_branch, under_leaf, wanted, spot_of}
 use Rattle.ledger_spec.specs.Wire.{read_wire}
@@ -26,21 +26,11 @@ use Rattle.ledger_spec.specs.declared.outcomes.Offered.{Offered}
 use Rattle.ledger_spec.specs.declared.outcomes.Offered.TheVariants as offered
 use Rattle.ledger_spec.specs.declared.outcomes.HeadOffered.{HeadOffered}
 use Rattle.ledger_spec.specs.declared.outcomes.HeadOffered.TheVariants as head
-use Rattle.ledger_machine.specs.declared.replies.WantReply.{WantReply}
-use Rattle.ledger_machine.specs.declared.replies.WantReply.TheVariants as want
-use Rattle.ledger_machine.specs.declared.replies.CheckReply.{CheckReply}
-use Rattle.ledger_machine.specs.declared.replies.CheckReply.TheVariants as check
 use Rattle.ledger_machine.specs.declared.replies.BaseReply.TheVariants as base
 use Rattle.ledger_machine.specs.declared.replies.NodeReply.TheVariants as node
-use Rattle.ledger_machine.specs.declared.replies.TickReply.{TickReply}
-use Rattle.ledger_machine.specs.declared.replies.TickReply.TheVariants as tick
-use Rattle.ledger_machine.specs.Ticks.{tick_reply, after_tick}
 use Rattle.ledger_machine.specs.declared.replies.Reply.{Reply}
 use Rattle.ledger_machine.specs.declared.replies.Reply.TheVariants as says
-use Rattle.ledger_machine.specs.State.{State, Session, form_in, roots, with_form, with_forms, stored_seq}
-use Rattle.ledger_machine.specs.Want.{want_reply, after_want}
-use Rattle.ledger_machine.specs.Peer.{after_peer}
-use Rattle.ledger_machine.specs.Check.{check_reply, after_check}
+use Rattle.ledger_machine.specs.State.{State, form_in, roots, with_form, with_forms}
 use Rattle.ledger_spec.specs.Offers.{Clash, head_given, head_outcome, head_forms, node_given, spot_outcome, wire_outcome, node_outcome}
 use Rattle.ledger_spec.specs.Offers.{stored_by}
 use Rattle.ledger_spec.specs.Bases as lookup
@@ -49,144 +39,32 @@ use Rattle.ledger_spec.specs.Bases.{base_outcome, base_forms}
 use Rattle.ledger_spec.specs.Peers.{is_present}
 use Rattle.ledger_spec.specs.Acquiring.{Acquiring}
 use Rattle.ledger_machine.specs.Base.{base_said, base_for, base_reply, after_base, node_said, node_for, node_reply, node_forms, after_node}
-use Rattle.ledger_machine.specs.Views.{view_reply, after_view, after_unview}
-use Rattle.ledger_machine.specs.Reading.{view_root}
-use Rattle.ledger_machine.specs.declared.replies.EditReply.{EditReply}
-use Rattle.ledger_machine.specs.declared.replies.CloseReply.TheVariants as close
-use Rattle.ledger_machine.specs.Sessions.{edit_reply, after_edit, after_put, after_tx, after_del, without_session}
-use Rattle.ledger_machine.specs.Closing.{after_close, closed, closing_forms, new_header}
-use Rattle.ledger_laws.proofs.SoundSessions.{edit_nodes, with_session_nodes}
-use Rattle.ledger_laws.proofs.SoundViews.{view_nodes}
-use Rattle.ledger_laws.proofs.SoundSteps.{gets_after, pages_after}
-use Rattle.ledger_machine.specs.Scripts.{IsCovered}
-use Rattle.ledger_machine.specs.Steps.{Step, IsAfter, Answered, Gives}
+use Rattle.ledger_machine.specs.Steps.{Step, IsAfter, Gives, own_forms}
 use Rattle.ledger_machine.specs.Runs.{Run, used_by}
 use Rattle.ledger_machine.specs.Receipts.{IsReceived, IsHeadReceived, IsReceivedPart, Receives, IsKept, Stays, AllStay}
 use Rattle.ledger_laws.proofs.SoundKeeps.{shaded_same}
 use Rattle.ledger_laws.proofs.SoundForms.{get_more, in_head, forms_looked_up, with_forms-append, grows_on, with_forms_grow}
 use Rattle.ledger_spec.proofs.Storing.{in_one}
-use Rattle.ledger_laws.proofs.SoundSteps.{outcome_cases, line_at}
+use Rattle.ledger_laws.proofs.SoundRotation.{root_stays}
+use Rattle.ledger_laws.proofs.Stored.{Goes, on, begun, swapped, row_goes}
 use Rattle.ledger_laws.proofs.Ways.{IsNamed, named_reached, wanted_named}
 
 -- what a rotation keeps is no part of what is stored
 after_grows : (t s' : State) → IsAfter t s' → Grows (form_in t) (form_in s')
 after_grows t s' e h form x = ap (λ (n : Nodes). finite.get n h) (shaded_same t s' e).nodes ∙ x
 
--- no answer to a command that acquires a ledger takes a form away
-want_grows : (s : State) (t : Hash) (seq : ℕ) (r : WantReply) → Grows (form_in s) (form_in (after_want s t seq r))
-want_grows s t seq want.Opened = λ h was x. x
-want_grows s t seq _ = λ h was x. x
-
-peer_grows : (s : State) (p : ℕ) (t : Hash) → Grows (form_in s) (form_in (after_peer s p t))
-peer_grows s p t = λ h was x. x
-
--- a check stores nothing and takes nothing away
-check_grows : (half : Half) (s : State) (t : Hash) (seq : ℕ) (r : CheckReply) → Grows (form_in s) (form_in (after_check s t seq r))
-check_grows half s t seq check.Complete = λ h was x. x
-check_grows half s t seq (check.Need peer places) = λ h was x. x
-check_grows half s t seq (check.SeqDiffers asked found) = λ h was x. x
-check_grows half s t seq check.ZeroState = λ h was x. x
-check_grows half s t seq (check.BelowFloor f) = λ h was x. x
-check_grows half s t seq (check.Malformed place rule) = λ h was x. x
-check_grows half s t seq _ = λ h was x. x
-
--- the parts' forms come, and a charge takes nothing away
-base_grows : (half : Half) (s : State) (p : ℕ) (t : Hash) (bytes : Bytes) (state tx : Option Bytes) (reply : Reply)
-    → Grows (form_in s) (form_in (after_base half s p t bytes state tx reply))
-base_grows half s p t bytes state tx (says.Base (base.Parts h a b)) =
-    with_forms_grow half s (base_forms half (form_in s) t bytes state tx)
-base_grows half s p t bytes state tx _ = λ h was x. x
-
--- and so do a node's
-node_grows : (half : Half) (s : State) (p : ℕ) (t : Hash) (kind : Kind) (path : List ℕ) (blob : Bytes) (reply : Reply)
-    → Grows (form_in s) (form_in (after_node half s p t kind path blob reply))
-node_grows half s p t kind path blob (says.Node (node.One o)) =
-    with_forms_grow half s (node_forms half s t kind path blob)
-node_grows half s p t kind path blob _ = λ h was x. x
-
-tick_grows : (s : State) (t : Hash) (r : TickReply) → Grows (form_in s) (form_in (after_tick s t r))
-tick_grows s t (tick.Timeout n) = λ h was x. x
-tick_grows s t (tick.GaveUp n) = λ h was x. x
-tick_grows s t tick.NotOpen = λ h was x. x
-
--- the same forms
-same_grows : (s s' : State) → s'.nodes ≡ s.nodes → Grows (form_in s) (form_in s')
-same_grows s s' same h form e = ap (λ (n : Nodes). finite.get n h) same ∙ e
-
-edit_grows : (half : Half) (s : State) (x : ℕ × ℕ) (t : Hash) (r : EditReply) → Grows (form_in s) (form_in (after_edit half s x t r))
-edit_grows half s x t r = same_grows s (after_edit half s x t r) (edit_nodes half s x t r)
-
-close_grows : (half : Half) (s : State) (x : ℕ × ℕ) (given : List ℕ) (reply : Reply)
-    → Grows (form_in s) (form_in (after_close half s x given reply))
-close_grows half s x given (says.Close (close.Closed h)) = at (get_in numbered_cmp s.sessions x)
-  where
-    at : (o : Option Session) → Grows (form_in s) (form_in (closed half s x given h o))
-    at None = λ h was e. e
-    at (Some e) = with_forms_grow half s (closing_forms half e (new_header half s e given))
-close_grows half s x given _ = λ h was e. e
-
--- the answer of a row
-answer_grows : (half : Half) (s : State) (a : ℕ) (c : Command) (reply : Reply) (used : List Held) (s' : State) → IsCovered c
-    → Answered half s a c reply used s' → Grows (form_in s) (form_in s')
-answer_grows half s a (command.Want t seq) reply used s' covered g =
-    grows_on (want_grows s t seq (want_reply s t seq)) (after_grows (after_want s t seq (want_reply s t seq)) s' g.after)
-answer_grows half s a (command.Peer p t) reply used s' covered g =
-    grows_on (peer_grows s p t) (after_grows (after_peer s p t) s' g.after)
-answer_grows half s a (command.Base p t bytes state tx) reply used s' covered g =
-    grows_on (base_grows half s p t bytes state tx reply) (after_grows (after_base half s p t bytes state tx reply) s' g.after)
-answer_grows half s a (command.Node p t kind path blob) reply used s' covered g =
-    grows_on (node_grows half s p t kind path blob reply) (after_grows (after_node half s p t kind path blob reply) s' g.after)
-answer_grows half s a (command.Check t) reply used s' covered g =
-    grows_on (check_grows half s t (stored_seq s t) (check_reply half s t))
-    (after_grows (after_check s t (stored_seq s t) (check_reply half s t)) s' g.after)
-answer_grows half s a (command.Tick t) reply used s' covered g =
-    grows_on (tick_grows s t (tick_reply s t)) (after_grows (after_tick s t (tick_reply s t)) s' g.after)
-answer_grows half s a (command.View v t) reply used s' covered g =
-    grows_on (same_grows s (after_view s (a, v) t (view_reply s (a, v) t)) (view_nodes s (a, v) t (view_reply s (a, v) t)))
-    (after_grows (after_view s (a, v) t (view_reply s (a, v) t)) s' g.after)
-answer_grows half s a (command.Unview v) reply used s' covered g = after_grows (after_unview s (a, v)) s' g.after
-answer_grows half s a (command.Get v kind key) reply used s' covered g =
-    after_grows s s' (gets_after half s kind key (view_root s kind (a, v)) reply used s' g)
-answer_grows half s a (command.Page v kind key n) reply used s' covered g =
-    after_grows s s' (pages_after half s kind key n (view_root s kind (a, v)) reply used s' g)
-answer_grows half s a (command.Edit x t) reply used s' covered g =
-    grows_on (edit_grows half s (a, x) t (edit_reply s (a, x) t))
-    (after_grows (after_edit half s (a, x) t (edit_reply s (a, x) t)) s' g.after)
-answer_grows half s a (command.Put x item) reply used s' covered g =
-    grows_on (same_grows s (after_put s (a, x) item.key item.value) (with_session_nodes s (a, x) _))
-    (after_grows (after_put s (a, x) item.key item.value) s' g.after)
-answer_grows half s a (command.Tx x item) reply used s' covered g =
-    grows_on (same_grows s (after_tx s (a, x) item.key item.value) (with_session_nodes s (a, x) _))
-    (after_grows (after_tx s (a, x) item.key item.value) s' g.after)
-answer_grows half s a (command.Del x key) reply used s' covered g =
-    grows_on (same_grows s (after_del s (a, x) key) (with_session_nodes s (a, x) _)) (after_grows (after_del s (a, x) key) s' g.after)
-answer_grows half s a (command.Close x given) reply used s' covered g =
-    grows_on (close_grows half s (a, x) given reply) (after_grows (after_close half s (a, x) given reply) s' g.after)
-answer_grows half s a (command.Abandon x) reply used s' covered g = after_grows (without_session s (a, x)) s' g.after
-answer_grows half s a _ reply used s' covered g = absurd covered
-
--- what is stored stays at each step of such a command
-pub step_grows : (half : Half) (s s' : State) (a : ℕ) (c : Command) (reply : Reply) (used : List Held) → IsCovered c
-    → Step half s a c reply used s' → Grows (form_in s) (form_in s')
-step_grows half s s' a c reply used covered step =
-    ⊎_elim (λ r. grows_on (with_forms_grow half s r.forms) (after_grows (with_forms half s r.forms) s' r.same))
-    (λ g. answer_grows half s a c reply used s' covered g)
-    (outcome_cases half s a c reply used s' step.outcome)
-
--- and along each run of such commands
-pub run_grows : (half : Half) (lines : List Line) (s : State) (entries : List Entry) (s' : State)
-    → ((l : Line) → Contains lines l → IsCovered l.command)
-    → Run half lines s entries s' → Grows (form_in s) (form_in s')
-run_grows half lines s [] s' each run = subst (λ (x : State). Grows (form_in s) (form_in x)) (sym run) (λ h was x. x)
-run_grows half lines s (e ∷ rest) s' each run =
-    let line : Line = run.1.line in
-    grows_on (step_grows half s run.0 e.actor line.command e.reply (used_by e)
-    (each line (line_at lines run.1.place line run.1.stands)) run.1.step) (run_grows half lines run.0 rest s' each run.2)
-
 -- what is kept stays so
 pub kept_grows : (half : Half) (s s' : State) (targets : List Hash) (n : Held) → Grows (form_in s) (form_in s') → IsKept half s targets n
     → IsKept half s' targets n
 kept_grows half s s' targets n up k = record { stored = up (hash_of half n) (form_of n) k.stored; reached = reach_grows up k.reached }
+
+-- what is reached is reached in a store that has the same forms under all that is reached
+reach_alike : (m n : Lookup) (targets : List Hash) → ((h : Hash) → Reach m targets h → n h ≡ m h) → {h : Hash} → Reach m targets h
+    → Reach n targets h
+reach_alike m n targets same {h} (root named stored) = root named (stored.0, same h (root named stored) ∙ stored.1)
+reach_alike m n targets same {h} (kid reached form named stored) =
+    kid (reach_alike m n targets same reached) (same _ reached ∙ form) named
+    (stored.0, same h (kid reached form named stored) ∙ stored.1)
 
 -- and is reached from a list that has the target
 pub kept_among : (half : Half) (s : State) (t : Hash) (targets : List Hash) (n : Held) → Contains targets t → IsKept half s (t ∷ []) n
@@ -470,18 +348,32 @@ received_kept half s s' a (command.Node p target kind path blob) (says.Node (nod
     (node_present half s p target kind path blob (get_in hash_cmp s.wanted target) o (sym g.says)) received.1))
 received_kept half s s' a _ _ used t n step received = absurd received
 
--- along a run, of such commands alone, what is kept stays, and so what was received
-module _ (half : Half) (lines : List Line) (each : (l : Line) → Contains lines l → IsCovered l.command) where
+-- what a root reaches is kept by each step: nothing goes but at a swap, which takes nothing of it
+kept_on : (half : Half) (s s' : State) (a : ℕ) (c : Command) (reply : Reply) (used : List Held) (t : Hash) (n : Held)
+    → Step half s a c reply used s' → Contains (roots s) t → IsKept half s (t ∷ []) n → IsKept half s' (t ∷ []) n
+kept_on half s s' a c reply used t n step among kept = at (row_goes half s a c reply used s' step.outcome)
+  where
+    at : Goes half c (own_forms half s a c) s s' → IsKept half s' (t ∷ []) n
+    at (on g) = kept_grows half s s' (t ∷ []) n g.stores.grows kept
+    at (begun st shades) = kept_grows half s s' (t ∷ []) n st.grows kept
+    at (swapped is w) = record {
+      stored = root_stays s s' t w among (hash_of half n) kept.reached ∙ kept.stored;
+      reached = reach_alike (form_in s) (form_in s') (t ∷ []) (root_stays s s' t w among) kept.reached;
+    }
+
+-- along a run what is kept stays, and so what was received
+module _ (half : Half) (lines : List Line) where
+  -- as long as the target is a root, its next state keeps what this one kept
   stays : (t : Hash) (n : Held) (s : State) (entries : List Entry) (s' : State) (run : Run half lines s entries s')
       → IsKept half s (t ∷ []) n → Stays half t n lines s entries s' run
   stays t n s [] s' run kept = λ among. kept_among half s t (roots s) n among kept
-  stays t n s (e ∷ rest) s' run kept =
-      let line : Line = run.1.line in
-      let fit : IsCovered line.command = each line (line_at lines run.1.place line run.1.stands) in
-      let later : IsKept half run.0 (t ∷ []) n = kept_grows half s run.0 (t ∷ []) n
-      (step_grows half s run.0 e.actor line.command e.reply (used_by e) fit run.1.step) kept in
-      λ among. (kept_among half s t (roots s) n among kept, stays t n run.0 rest s' run.2 later)
+  stays t n s (e ∷ rest) s' run kept = λ among. (
+    kept_among half s t (roots s) n among kept,
+    stays t n run.0 rest s' run.2
+        (kept_on half s run.0 e.actor run.1.line.command e.reply (used_by e) t n run.1.step among kept),
+  )
 
+  -- and what is received is kept by the state that its step led to
   pub all_stay : (s : State) (entries : List Entry) (s' : State) (run : Run half lines s entries s') → AllStay half lines s entries s' run
   all_stay s [] s' run = tt
   all_stay s (e ∷ rest) s' run = (

@@ -44,7 +44,7 @@ pub record IsFit (half : Half) (s : State) (e : Session) : Type 0 where
   pub txs : AreItems half kinds.Tx e.txs
 
 -- each value's image is among the images
-in_map : {A B : Type 0} (f : A → B) (xs : List A) (k : ℕ) (d : A) → k < length xs → Contains (map f xs) (f (get_or xs k d))
+pub in_map : {A B : Type 0} (f : A → B) (xs : List A) (k : ℕ) (d : A) → k < length xs → Contains (map f xs) (f (get_or xs k d))
 in_map f [] k d lt = absurd (omega arith)
 in_map f (x ∷ xs) zero d lt = (0, omega arith, refl)
 in_map f (x ∷ xs) (suc k) d lt = in_tail (f x) (f (get_or xs k d)) (map f xs) (in_map f xs k d (omega (arith, lt)))

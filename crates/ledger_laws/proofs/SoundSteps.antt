@@ -1,4 +1,4 @@
--- Steps and runs of the commands that acquire a ledger keep a state sound.
+-- Steps and runs keep a state sound.
 use Rattle.std.proofs.Common.{◌≡◌, ◌⊎◌, inl, inr, ⊎_elim, ℕ, List, [], ◌∷◌, Option, None, Some, Contains, slice_get, refl, sym}
 use Rattle.std.proofs.Common.{subst}
 use Rattle.std.proofs.lemmas.Option.{slice_get_within, get_or_from_slice_get}
@@ -21,7 +21,7 @@ use Rattle.ledger_spec.specs.Maps.{hash_cmp, insert_in}
 use Rattle.ledger_spec.specs.Acquiring.{acquiring}
 use Rattle.ledger_spec.specs.Peers as peers
 use Rattle.ledger_machine.specs.State.{State, stored_seq}
-use Rattle.ledger_machine.specs.Scripts.{AreBytes, AreOffered, IsCovered, IsInRange}
+use Rattle.ledger_machine.specs.Scripts.{AreBytes, AreOffered, IsInRange}
 use Rattle.ledger_machine.specs.Want.{want_reply, after_want}
 use Rattle.ledger_machine.specs.Peer.{peer_reply, after_peer}
 use Rattle.ledger_machine.specs.Check.{check_reply, after_check}
@@ -39,7 +39,10 @@ use Rattle.ledger_laws.proofs.SoundForms.{refused_keeps, refused_none}
 use Rattle.ledger_laws.proofs.SoundCheck.{check_sound}
 use Rattle.ledger_machine.specs.Views.{view_reply, after_view, unview_reply, after_unview}
 use Rattle.ledger_machine.specs.Reading.{view_root}
-use Rattle.ledger_machine.specs.Steps.{Gets, Pages, IsAfter}
+use Rattle.ledger_machine.specs.declared.replies.SwapReply.TheVariants as swaps
+use Rattle.ledger_machine.specs.Rotation.{begin_reply, after_begin}
+use Rattle.ledger_machine.specs.Steps.{Gets, Pages, Swaps, IsAfter}
+use Rattle.ledger_laws.proofs.SoundRotation.{begin_sound, swap_sound}
 use Rattle.ledger_laws.proofs.SoundViews.{view_sound, unview_sound}
 use Rattle.shamap_node.specs.declared.parts.Item.{Item}
 use Rattle.cow_map.specs.Unloaded.{IsLeftWhole}
@@ -242,57 +245,78 @@ abandon_step_sound half s s' a x reply used sound step =
     (λ g. gives_same half (without_session s (a, x)) s' (says.Abandon (has_session s (a, x))) reply (without_sound half s (a, x) sound) g)
     (outcome_cases half s a (command.Abandon x) reply used s' step.outcome)
 
--- each step of a command that the laws cover leads from a sound state to a sound state
-pub covered_step_sound : (half : Half) (sized : IsHalf half) (law : IsLeftWhole) (s s' : State) (a : ℕ) (c : Command) (reply : Reply)
+-- a step of `begin`
+begin_step_sound : (half : Half) (s s' : State) (a : ℕ) (reply : Reply) (used : List Held) → Sound half s
+    → Step half s a command.Begin reply used s' → Sound half s'
+begin_step_sound half s s' a reply used sound step =
+    ⊎_elim (λ r. keeps_sound half s s' sound (refused_none half s a command.Begin s' refl r))
+    (λ g. gives_same half (after_begin s (begin_reply s)) s' (says.Begin (begin_reply s)) reply (begin_sound half s (begin_reply s) sound)
+    g.0)
+    (outcome_cases half s a command.Begin reply used s' step.outcome)
+
+-- a step of `swap`
+swap_step_sound : (half : Half) (s s' : State) (a : ℕ) (reply : Reply) (used : List Held) → Sound half s
+    → Step half s a command.Swap reply used s' → Sound half s'
+swap_step_sound half s s' a reply used sound step =
+    ⊎_elim (λ r. keeps_sound half s s' sound (refused_none half s a command.Swap s' refl r)) (λ g. at s.turning g)
+    (outcome_cases half s a command.Swap reply used s' step.outcome)
+  where
+    at : (o : Option ℕ) → Swaps s o reply s' → Sound half s'
+    at None g = gives_same half s s' (says.Swap swaps.Idle) reply sound g
+    at (Some v) g = swap_sound half s s' g.1 sound
+
+-- each step of a command in range leads from a sound state to a sound state
+pub step_sound : (half : Half) (sized : IsHalf half) (law : IsLeftWhole) (s s' : State) (a : ℕ) (c : Command) (reply : Reply)
     (used : List Held)
-    → IsCovered c → IsInRange c → Sound half s → Step half s a c reply used s'
+    → IsInRange c → Sound half s → Step half s a c reply used s'
     → Sound half s'
-covered_step_sound half sized law s s' a (command.Want t seq) reply used covered range sound step =
+step_sound half sized law s s' a (command.Want t seq) reply used range sound step =
     want_sound half s s' a t seq reply used sound step
-covered_step_sound half sized law s s' a (command.Peer p t) reply used covered range sound step =
+step_sound half sized law s s' a (command.Peer p t) reply used range sound step =
     peer_sound half s s' a p t reply used sound step
-covered_step_sound half sized law s s' a (command.Base p t bytes state tx) reply used covered range sound step =
+step_sound half sized law s s' a (command.Base p t bytes state tx) reply used range sound step =
     base_sound half sized s s' a p t bytes state tx reply used range sound step
-covered_step_sound half sized law s s' a (command.Node p t kind path blob) reply used covered range sound step =
+step_sound half sized law s s' a (command.Node p t kind path blob) reply used range sound step =
     node_sound half sized s s' a p t kind path blob reply used range.2 sound step
-covered_step_sound half sized law s s' a (command.Check t) reply used covered range sound step =
+step_sound half sized law s s' a (command.Check t) reply used range sound step =
     check_step_sound half s s' a t reply used sound step
-covered_step_sound half sized law s s' a (command.Tick t) reply used covered range sound step =
+step_sound half sized law s s' a (command.Tick t) reply used range sound step =
     tick_sound half s s' a t reply used sound step
-covered_step_sound half sized law s s' a (command.View v t) reply used covered range sound step =
+step_sound half sized law s s' a (command.View v t) reply used range sound step =
     view_step_sound half s s' a v t reply used sound step
-covered_step_sound half sized law s s' a (command.Unview v) reply used covered range sound step =
+step_sound half sized law s s' a (command.Unview v) reply used range sound step =
     unview_step_sound half s s' a v reply used sound step
-covered_step_sound half sized law s s' a (command.Get v kind key) reply used covered range sound step =
+step_sound half sized law s s' a (command.Get v kind key) reply used range sound step =
     get_step_sound half s s' a v kind key reply used sound step
-covered_step_sound half sized law s s' a (command.Page v kind key n) reply used covered range sound step =
+step_sound half sized law s s' a (command.Page v kind key n) reply used range sound step =
     page_step_sound half s s' a v kind key n reply used sound step
-covered_step_sound half sized law s s' a (command.Edit x t) reply used covered range sound step =
+step_sound half sized law s s' a (command.Edit x t) reply used range sound step =
     edit_step_sound half sized s s' a x t reply used sound step
-covered_step_sound half sized law s s' a (command.Put x item) reply used covered range sound step =
+step_sound half sized law s s' a (command.Put x item) reply used range sound step =
     put_step_sound half s s' a x item reply used range sound step
-covered_step_sound half sized law s s' a (command.Tx x item) reply used covered range sound step =
+step_sound half sized law s s' a (command.Tx x item) reply used range sound step =
     tx_step_sound half s s' a x item reply used range sound step
-covered_step_sound half sized law s s' a (command.Del x key) reply used covered range sound step =
+step_sound half sized law s s' a (command.Del x key) reply used range sound step =
     del_step_sound half s s' a x key reply used sound step
-covered_step_sound half sized law s s' a (command.Close x given) reply used covered range sound step =
+step_sound half sized law s s' a (command.Close x given) reply used range sound step =
     close_step_sound half sized law s s' a x given reply used range sound step
-covered_step_sound half sized law s s' a (command.Abandon x) reply used covered range sound step =
+step_sound half sized law s s' a (command.Abandon x) reply used range sound step =
     abandon_step_sound half s s' a x reply used sound step
-covered_step_sound half sized law s s' a _ reply used covered range sound step = absurd covered
+step_sound half sized law s s' a command.Begin reply used range sound step = begin_step_sound half s s' a reply used sound step
+step_sound half sized law s s' a command.Swap reply used range sound step = swap_step_sound half s s' a reply used sound step
 
 -- a line at a place is a line of the script
 pub line_at : (lines : List Line) (place : ℕ) (l : Line) → slice_get lines place ≡ Some l → Contains lines l
 line_at lines place l e = (place, slice_get_within lines place l e, get_or_from_slice_get lines place l l e)
 
 -- each run over such commands leads from a sound state to a sound state
-pub covered_run_sound : (half : Half) (sized : IsHalf half) (law : IsLeftWhole) (lines : List Line) (s : State) (entries : List Entry)
+pub run_sound : (half : Half) (sized : IsHalf half) (law : IsLeftWhole) (lines : List Line) (s : State) (entries : List Entry)
     (s' : State)
-    → ((l : Line) → Contains lines l → IsCovered l.command × IsInRange l.command) → Sound half s → Run half lines s entries s'
+    → ((l : Line) → Contains lines l → IsInRange l.command) → Sound half s → Run half lines s entries s'
     → Sound half s'
-covered_run_sound half sized law lines s [] s' each sound run = subst (λ x. Sound half x) (sym run) sound
-covered_run_sound half sized law lines s (e ∷ rest) s' each sound run =
+run_sound half sized law lines s [] s' each sound run = subst (λ x. Sound half x) (sym run) sound
+run_sound half sized law lines s (e ∷ rest) s' each sound run =
     let line : Line = run.1.line in
-    let fit : IsCovered line.command × IsInRange line.command = each line (line_at lines run.1.place line run.1.stands) in
-    covered_run_sound half sized law lines run.0 rest s' each
-    (covered_step_sound half sized law s run.0 e.actor line.command e.reply (used_by e) fit.0 fit.1 sound run.1.step) run.2
+    let fit : IsInRange line.command = each line (line_at lines run.1.place line run.1.stands) in
+    run_sound half sized law lines run.0 rest s' each
+    (step_sound half sized law s run.0 e.actor line.command e.reply (used_by e) fit sound run.1.step) run.2

@@ -1,6 +1,6 @@
 -- Tables whose keys rise stay such tables as entries come, change and go.
 use Rattle.std.proofs.Common.{◌≡◌, suc, arith, Bool, true, false, cond, List, [], ◌∷◌, None, Some, refl, sym, ap, ◌∙◌, subst}
-use Rattle.std.specs.List.{All, AllByRecursion}
+use Rattle.std.specs.List.{All, AllByRecursion, filter}
 use Rattle.std.specs.List.Sorted.{IsStrictlySortedBy}
 use Rattle.std.specs.Map.{keys_of, values_of, lookup, remove_entry, set_value}
 use Rattle.std.specs.Cmp.{IsTotalOrder}
@@ -73,6 +73,26 @@ remove_rises R test (e ∷ m) rises = by (test e.0) (remove_rises R test m rises
     by : (b : Bool) → IsMap R (remove_entry test m) → IsMap R (cond b m (e ∷ remove_entry test m))
     by true rest = rises.1
     by false rest = (all_keys_removed (λ y. R e.0 y ≡ Less) test m rises.0, rest)
+
+-- the keys of entries that pass a test were keys before
+all_keys_filtered : {K X : Type 0} (P : K → Type 0) (test : K × X → Bool) (m : List (K × X)) → AllByRecursion P (keys_of m)
+    → AllByRecursion P (keys_of (filter test m))
+all_keys_filtered P test [] all = tt
+all_keys_filtered P test (e ∷ m) all = by (test e) (all_keys_filtered P test m all.1)
+  where
+    by : (b : Bool) → AllByRecursion P (keys_of (filter test m)) → AllByRecursion P (keys_of (cond b (e ∷ filter test m) (filter test m)))
+    by true rest = (all.0, rest)
+    by false rest = rest
+
+-- keys that are left out leave the others rising
+pub filter_rises : {K X : Type 0} (R : K → K → Ordering) (test : K × X → Bool) (m : List (K × X)) → IsMap R m → IsMap R (filter test m)
+unfolding IsStrictlySortedBy
+filter_rises R test [] rises = tt
+filter_rises R test (e ∷ m) rises = by (test e) (filter_rises R test m rises.1)
+  where
+    by : (b : Bool) → IsMap R (filter test m) → IsMap R (cond b (e ∷ filter test m) (filter test m))
+    by true rest = (all_keys_filtered (λ y. R e.0 y ≡ Less) test m rises.0, rest)
+    by false rest = rest
 
 pub set_rises : {K X : Type 0} (R : K → K → Ordering) (test : K → Bool) (m : List (K × X)) (x : X) → IsMap R m
     → IsMap R (set_value test m x)

@@ -1,23 +1,26 @@
 //! Laws of the machine, each the contract of an empty function.
-ghost use Rattle.std.specs.Prelude.{◌≡◌, ◌≢◌, ◌↔◌, ◌++◌, ◌∷◌, [], ℕ, List, None, Some};
+ghost use Rattle.std.specs.Prelude.{◌≡◌, ◌++◌, ◌∷◌, [], ℕ, List, Some, IsSome};
 ghost use Rattle.std.specs.List.{Contains};
 ghost use Rattle.std.specs.FinMap as map;
 ghost use Rattle.ledger_spec.specs.Bytes.{Nodes, IsHalf};
 ghost use Rattle.ledger_spec.specs.Commits.{IsWholeMap};
 ghost use Rattle.ledger_spec.specs.declared.Kind.{Kind};
 ghost use Rattle.ledger_spec.specs.Forms.{Held};
-ghost use Rattle.ledger_spec.specs.Maps.{ForActor, hash_cmp, get_in};
-ghost use Rattle.ledger_machine.specs.State.{State, Session, form_in, opening, retained, with_sessions};
+ghost use Rattle.ledger_spec.specs.Maps.{ForActor};
+ghost use Rattle.ledger_spec.specs.Reach.{Reach};
+ghost use Rattle.ledger_machine.specs.State.{State, Session, form_in, opening, retained, roots, with_sessions, Kept};
 ghost use Rattle.ledger_machine.specs.Sound.{Sound, IsStoredAt};
 ghost use Rattle.ledger_machine.specs.Reading.{view_root};
-ghost use Rattle.ledger_machine.specs.Scripts.{IsCovered, IsInRange, IsLedgerMap, IsBeside};
-ghost use Rattle.ledger_machine.specs.Steps.{Step};
+ghost use Rattle.ledger_machine.specs.Scripts.{IsInRange, IsLedgerMap, IsBeside};
+ghost use Rattle.ledger_machine.specs.Rotation.{AreShaded, Tells, WhileTurning};
+ghost use Rattle.ledger_machine.specs.Steps.{Does, Step, own_hashes};
 ghost use Rattle.ledger_machine.specs.Runs.{Run, Answers, IsRunOf, opening_of};
 ghost use Rattle.ledger_machine.specs.Records.{AreRecords};
 ghost use Rattle.ledger_machine.specs.Receipts.{AllStay};
 ghost use Rattle.ledger_machine.specs.Exact.{AreEveryMaps};
 ghost use Rattle.ledger_machine.specs.Complete.{IsAllStored, IsExact, AreExact};
 ghost use Rattle.ledger_machine.specs.Collisions.{brought_by, ShowsIn};
+ghost use Rattle.ledger_machine.specs.Swaps.{AllSwapsKeep};
 ghost use Rattle.ledger_machine.specs.declared.commands.Command.{Command};
 ghost use Rattle.ledger_machine.specs.declared.commands.Line.{Line};
 ghost use Rattle.ledger_machine.specs.declared.commands.Record.{Record};
@@ -46,35 +49,60 @@ pub fn a_run_goes_on()
         → Run half lines s entries mid → Answers half lines mid e s' → Run half lines s (entries ++ e ∷ []) s' }
 {}
 
-/// Each step of a command that acquires a ledger, reads one or edits one leads from a sound state to a sound state.
+/// Each step of a command that is in range leads from a sound state to a sound state.
 pub fn steps_keep_the_store_sound()
     ensures { (half : List ℕ → List ℕ) → IsHalf half → (s s' : State) (a : ℕ) (c : Command) (reply : Reply) (used : List Held)
-        → IsCovered c → IsInRange c → Sound half s → Step half s a c reply used s' → Sound half s' }
+        → IsInRange c → Sound half s → Step half s a c reply used s' → Sound half s' }
 {
     what_is_left_is_whole();
 }
 
-/// So does each run along a journal, where the script's lines are such commands.
+/// So does each run along a journal, where the script's commands are in range.
 pub fn a_run_keeps_the_store_sound()
     ensures { (half : List ℕ → List ℕ) → IsHalf half → (lines : List Line) (s : State) (entries : List Entry) (s' : State)
-        → ((l : Line) → Contains lines l → IsCovered l.command × IsInRange l.command)
+        → ((l : Line) → Contains lines l → IsInRange l.command)
         → Sound half s → Run half lines s entries s' → Sound half s' }
 {
     what_is_left_is_whole();
 }
 
-/// A step of a command that names no session, and sees none, is one whatever sessions are open, while no rotation is under way.
-pub fn a_step_is_one_beside_any_sessions()
+/// What a command that names no session, and sees none, does is the same whatever sessions are open.
+pub fn a_row_is_one_beside_any_sessions()
     ensures { (half : List ℕ → List ℕ) (sessions : ForActor Session) (s s' : State) (a : ℕ) (c : Command) (reply : Reply) (used : List Held)
-        → IsBeside c → s.turning ≡ None → Step half s a c reply used s'
-        → Step half (with_sessions s sessions) a c reply used (with_sessions s' sessions) }
+        → IsBeside c → Does half s a c reply used s'
+        → Does half (with_sessions s sessions) a c reply used (with_sessions s' sessions) }
+{}
+
+/// What a command does is a step, provided that a rotation that is under way was told each root, and nothing else but roots and the
+/// command's own hashes.
+pub fn a_step_carries_what_was_told()
+    ensures { (half : List ℕ → List ℕ) → (s s' : State) (a : ℕ) (c : Command) (reply : Reply) (used : List Held)
+        → Does half s a c reply used s'
+        → WhileTurning s.turning s'.turning (AreShaded s' × Tells s s' (own_hashes half s a c reply))
+        → Step half s a c reply used s' }
+{}
+
+/// While a rotation is under way, what it keeps has all that retained ledgers and open acquisitions reach.
+pub fn a_rotation_keeps_what_the_roots_reach()
+    ensures { (half : List ℕ → List ℕ) (records : List Record) (lines : List Line) (interval : ℕ) (entries : List Entry) (s' : State)
+        → IsRunOf half records lines interval entries s' → IsSome s'.turning
+        → (h : List ℕ) → Reach (form_in s') (roots s') h → Kept s' h }
+{}
+
+/// Each swap of a run takes nothing that a retained ledger or an open acquisition reaches. It leaves nothing but what was born in the epoch
+/// that ended, and what was kept: that was reached, at a step since the rotation began, from the roots then or from the command's own
+/// forms.
+pub fn swaps_leave_what_is_kept_or_born()
+    ensures { (half : List ℕ → List ℕ) (records : List Record) (lines : List Line) (interval : ℕ) (entries : List Entry) (s' : State)
+        (run : IsRunOf half records lines interval entries s')
+        → AllSwapsKeep half lines (λ h. ⊥) (opening_of records interval) entries s' run }
 {}
 
 /// What an answer of a run says was received for a target is stored under its own hash from then on, and
 /// reached from what is retained or open, in each state up to which the target was one of these throughout.
 pub fn what_was_received_stays()
-    ensures { (half : List ℕ → List ℕ) (lines : List Line) → ((l : Line) → Contains lines l → IsCovered l.command)
-        → (s : State) (entries : List Entry) (s' : State) (run : Run half lines s entries s') → AllStay half lines s entries s' run }
+    ensures { (half : List ℕ → List ℕ) (lines : List Line) (s : State) (entries : List Entry) (s' : State)
+        (run : Run half lines s entries s') → AllStay half lines s entries s' run }
 {}
 
 /// A check of an open acquisition that meets no fault and has memory answers complete exactly where
@@ -115,7 +143,6 @@ pub fn nothing_of_a_retained_ledger_is_absent()
 pub fn a_clash_shows_two_forms_with_one_hash()
     ensures { (half : List ℕ → List ℕ) (records : List Record) (lines : List Line) (interval : ℕ) (entries : List Entry) (s' : State)
         (e : Entry)
-        → AreRecords half records → ((l : Line) → Contains lines l → IsCovered l.command)
-        → (run : IsRunOf half records lines interval entries s')
+        → AreRecords half records → (run : IsRunOf half records lines interval entries s')
         → Contains entries e → ShowsIn half (brought_by half records lines interval entries s' run) e.reply }
 {}

@@ -101,6 +101,14 @@ same_of x y e = by (hash_cmp x y) refl e
     by Equal is e = same_hash x y is
     by Greater is e = absurd (true≢false (sym e))
 
+-- a hash that is found among these is one of them
+pub in_these : (all : List Hash) (h : Hash) → among all h ≡ true → Contains all h
+in_these all h one = Contains-from_any same_of h all one
+
+-- and so is one of some that are all found among them
+pub one_of : (some all : List Hash) → list_all (among all) some ≡ true → (h : Hash) → Contains some h → Contains all h
+one_of some all are h c = in_these all h (contained_passes (among all) some h are c)
+
 -- one of these that is stored is reached from them
 pub reach_start : {nodes : Lookup} (from : List Hash) (h : Hash) (form : Bytes) → among from h ≡ true → nodes h ≡ Some form
     → Reach nodes from h

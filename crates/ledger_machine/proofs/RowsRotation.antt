@@ -1,5 +1,6 @@
 -- Worked rows of a rotation, under the byte sum: ledgers 10 to 14, an interval of 4, and a view of ledger 11 that is opened meanwhile.
 use Rattle.std.specs.Prelude.{◌≡◌, ℕ, List, [], ◌∷◌, None, Some, refl}
+use Rattle.std.specs.List.{Contains}
 use Rattle.std.specs.FinMap as finite
 use Rattle.std.proofs.Common.{inl, inr, sym, true≢false}
 use Rattle.half_hash.specs.Half.{byte_sum_half}
@@ -18,14 +19,14 @@ use Rattle.ledger_machine.specs.declared.replies.Reply.TheVariants as says
 use Rattle.ledger_machine.specs.State.{State, Session, roots, opening}
 use Rattle.ledger_spec.specs.Acquiring.{acquiring}
 use Rattle.ledger_machine.specs.Closing.{closing_forms}
-use Rattle.ledger_machine.specs.Rotation.{Swapped, Carries}
+use Rattle.ledger_machine.specs.Rotation.{Swapped, Carries, AreShaded, Tells}
 use Rattle.ledger_machine.proofs.RowValues.{at, entries_of, hashes_of, forms_in, leaf10, leaf11, inner11, root11, root12, leaf20}
 use Rattle.ledger_machine.proofs.RowValues.{root_of_two}
 use Rattle.ledger_machine.proofs.RowValues.{bytes11, bytes12, bytes13, bytes14, nodes12, nodes13, nodes14}
 use Rattle.ledger_machine.proofs.RowSteps.{in_list, store, Row, step, gives}
 use Rattle.ledger_machine.proofs.RowClosing.{header_over, close_gives}
 use Rattle.ledger_machine.proofs.RowSwaps.{swapped_to, swap_may_leave, swap_may_not_lose, born_may_stay, carries_on, reach_on, reach_off}
-use Rattle.ledger_machine.proofs.RowReach.{reach_start, reach_kid, reach_within, reach_more}
+use Rattle.ledger_machine.proofs.RowReach.{among, contained_passes, in_these, one_of, reach_start, reach_kid, reach_within, reach_more}
 
 abbrev up_to12 : List (Hash × ℕ)
 up_to12 = (at 0x7E, 12) ∷ (at 0x9C, 11) ∷ (at 0xDD, 10) ∷ []
@@ -188,3 +189,19 @@ a_want_leaves_no_target_unshaded w =
     true≢false (sym (reach_within (in_list (entries_of nodes14)) kept14 (hashes_of nodes_kept) refl refl
     (reach_off (entries_of nodes14) (w.roots_kept (at 0xDD) (reach_on (entries_of nodes14)
     (reach_start (roots (wanting kept14)) (at 0xDD) _ refl refl))))))
+
+-- it tells its target to the rotation, and nothing else
+a_want_tells_its_target : AreShaded (wanting (at 0xDD ∷ kept14)) × Tells turning (wanting (at 0xDD ∷ kept14)) []
+a_want_tells_its_target = (
+  one_of (roots (wanting [])) (at 0xDD ∷ kept14) refl,
+  record {
+    stays = one_of kept14 (at 0xDD ∷ kept14) refl;
+    only = λ h told. inr (inl (one_of (at 0xDD ∷ kept14) (roots (wanting [])) refl h told));
+  },
+)
+
+-- where it doesn't, a root wasn't told
+a_target_is_told : AreShaded (wanting kept14) → ⊥
+a_target_is_told are =
+    let told : Contains kept14 (at 0xDD) = are (at 0xDD) (in_these (roots (wanting kept14)) (at 0xDD) refl) in
+    true≢false (sym (contained_passes (among kept14) kept14 (at 0xDD) refl told))

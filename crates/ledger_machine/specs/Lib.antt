@@ -18,3 +18,4 @@ pub mod Receipts
 pub mod Complete
 pub mod Collisions
 pub mod Exact
+pub mod Swaps

@@ -1,5 +1,6 @@
 -- The rows of `begin` and `swap`, and what a rotation keeps meanwhile.
 use Rattle.std.specs.Prelude.{◌≡◌, ◌≢◌, ◌⊎◌, ℕ, ◌+◌, IsTrue, List, Option, None, Some}
+use Rattle.std.specs.List.{Contains}
 use Rattle.std.specs.FinSet as set
 use Rattle.ledger_spec.specs.Bytes.{Bytes, Hash}
 use Rattle.ledger_spec.specs.Reach.{Reach}
@@ -43,6 +44,15 @@ pub record Carries (s s' : State) (own : List Hash) : Type 0 where
   pub before : (h : Hash) → Kept s h → Kept s' h
   pub roots_kept : (h : Hash) → Reach (form_in s') (roots s') h → Kept s' h
   pub only : (h : Hash) → Kept s' h → Kept s h ⊎ (Reach (form_in s') (roots s') h ⊎ Reach (form_in s') own h)
+
+-- each root was told to the rotation
+abbrev pub AreShaded : State → Type 0
+AreShaded s = (h : Hash) → Contains (roots s) h → Contains s.shaded h
+
+-- what the rotation was told stays told, and it was told nothing else but roots and these
+pub record Tells (s s' : State) (own : List Hash) : Type 0 where
+  pub stays : (h : Hash) → Contains s.shaded h → Contains s'.shaded h
+  pub only : (h : Hash) → Contains s'.shaded h → Contains s.shaded h ⊎ (Contains (roots s') h ⊎ Contains own h)
 
 -- a fact of two states that are both turning
 abbrev pub WhileTurning : Option ℕ → Option ℕ → Type 0 → Type 0

@@ -107,26 +107,6 @@ IsInRange (command.Abandon x) = Unit {0}
 IsInRange command.Begin = Unit {0}
 IsInRange command.Swap = Unit {0}
 
--- the commands that the laws on steps cover at present
-abbrev pub IsCovered : Command → Type 0
-IsCovered (command.Want t seq) = Unit {0}
-IsCovered (command.Peer p t) = Unit {0}
-IsCovered (command.Base p t head state tx) = Unit {0}
-IsCovered (command.Node p t kind path blob) = Unit {0}
-IsCovered (command.Check t) = Unit {0}
-IsCovered (command.Tick t) = Unit {0}
-IsCovered (command.View v t) = Unit {0}
-IsCovered (command.Unview v) = Unit {0}
-IsCovered (command.Get v kind key) = Unit {0}
-IsCovered (command.Page v kind key n) = Unit {0}
-IsCovered (command.Edit x t) = Unit {0}
-IsCovered (command.Put x item) = Unit {0}
-IsCovered (command.Del x key) = Unit {0}
-IsCovered (command.Tx x item) = Unit {0}
-IsCovered (command.Close x fields) = Unit {0}
-IsCovered (command.Abandon x) = Unit {0}
-IsCovered _ = ⊥
-
 -- the commands that neither open, change and end a session, nor see which are open
 abbrev pub IsBeside : Command → Type 0
 IsBeside (command.Want t seq) = Unit {0}

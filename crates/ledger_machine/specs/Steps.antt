@@ -125,6 +125,11 @@ UsesNodes (says.Get (gets.Value n)) used = Unit {0}
 UsesNodes (says.Page (pages.Items leaves)) used = Unit {0}
 UsesNodes _ used = used ≡ []
 
+-- what a command does, whatever a rotation keeps: its row, and the nodes that were read for it
+pub record Does (half : Half) (s : State) (a : ℕ) (c : Command) (reply : Reply) (used : List Held) (s' : State) : Type 0 where
+  pub outcome : Outcomes half s a c reply used s'
+  pub uses : UsesNodes reply used
+
 -- An actor's command leads from s by the reply, for which these nodes were used, to s'. While a rotation is under way it carries what
 -- that keeps.
 pub record Step (half : Half) (s : State) (a : ℕ) (c : Command) (reply : Reply) (used : List Held) (s' : State) : Type 0 where

@@ -136,8 +136,8 @@ cut_by told nodes held now (Err y) e is cut = subst (λ (x : DumpFault). Dumps t
     at sinks.Memory = cut
 
 -- what is printed before a dump is as it was
-pub text_same : (told : Bool) (c c' : CoreView) → Lists told c c' → text_of c' ≡ text_of c
-text_same told c c' lists =
-    ap (λ (s : State). output c'.lines c'.journal (totals_of c'.journal s)) lists.tables
-    ∙ ap (λ (ls : List Line). output ls c'.journal (totals_of c'.journal c.state)) lists.lines
-    ∙ ap (λ (es : List Entry). output c.lines es (totals_of es c.state)) lists.journal
+pub text_same : (told quiet : Bool) (c c' : CoreView) → Lists told c c' → text_of quiet c' ≡ text_of quiet c
+text_same told quiet c c' lists =
+    ap (λ (s : State). output quiet c'.lines c'.journal (totals_of c'.journal s)) lists.tables
+    ∙ ap (λ (ls : List Line). output quiet ls c'.journal (totals_of c'.journal c.state)) lists.lines
+    ∙ ap (λ (es : List Entry). output quiet c.lines es (totals_of es c.state)) lists.journal

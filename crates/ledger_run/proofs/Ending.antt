@@ -1,5 +1,5 @@
 -- What a run prints behind its journal.
-use Rattle.std.proofs.Common.{◌≡◌, ◌↔◌, inl, inr, ℕ, ◌≤◌, Bool, true, false, IsTrue, if◌then◌else◌, [], ◌∷◌, ◌++◌, Option}
+use Rattle.std.proofs.Common.{◌≡◌, inl, inr, ℕ, ◌≤◌, Bool, true, false, IsTrue, if◌then◌else◌, [], ◌∷◌, ◌++◌, Option}
 use Rattle.std.proofs.Common.{refl, sym, ap, ◌∙◌, subst, arith}
 use Rattle.std.proofs.lemmas.Bool.{false≢true}
 use Rattle.std.proofs.lemmas.List.{append-nil}
@@ -10,6 +10,7 @@ use Rattle.run_io.specs.Bytes.{Wrote, WrotePart}
 use Rattle.run_io.proofs.Bytes.{rose_later, wrote_nothing, wrote_more, wrote_part, wrote_front}
 use Rattle.store_core.specs.Journal.{CoreView}
 use Rattle.store_core.specs.Dumping.{Lists}
+use Rattle.ledger_run.specs.declared.asking.Asked.{Asked}
 use Rattle.ledger_run.specs.declared.status.TheConstants.{FINE, SINK_FAILED, STORE_FAILED, CLASHED, NO_MEMORY}
 use Rattle.ledger_run.specs.declared.dump.DumpEnd.{DumpEnd}
 use Rattle.ledger_run.specs.declared.dump.DumpEnd.TheVariants as ends
@@ -28,24 +29,24 @@ dumped_as told nodes nodes' ends.Faulted text same is = λ t. subst (λ (n : Nod
 dumped_as told nodes nodes' ends.Cut text same is = λ t. subst (λ (n : Nodes). IsPrefix text (dump_text n)) (sym (same t)) (is t)
 
 -- behind the text of the journal
-pub printed_behind : (told : Bool) (Asked : Type 0) (c c' : CoreView) (held mid now : Option Bytes) (n : ℕ) (dump : DumpEnd)
+pub printed_behind : (told : Bool) (a : Asked) (c c' : CoreView) (held mid now : Option Bytes) (n : ℕ) (dump : DumpEnd)
     → Lists told c c'
-    → Wrote held mid (text_of c) → PrintsMore told c.state.nodes mid now n dump → HasDumped Asked n dump c'
-    → HasPrinted told Asked held now n dump c'
-printed_behind told Asked c c' held mid now n dump lists wrote more dumped =
-    let same : text_of c' ≡ text_of c = text_same told c c' lists in
-    let first : Wrote held mid (text_of c') = subst (Wrote held mid) (sym same) wrote in
+    → Wrote held mid (text_of a.quiet c) → PrintsMore told c.state.nodes mid now n dump → HasDumped a.dump n dump c'
+    → HasPrinted told a held now n dump c'
+printed_behind told a c c' held mid now n dump lists wrote more dumped =
+    let same : text_of a.quiet c' ≡ text_of a.quiet c = text_same told a.quiet c c' lists in
+    let first : Wrote held mid (text_of a.quiet c') = subst (Wrote held mid) (sym same) wrote in
     let nodes : IsTrue told → c'.state.nodes ≡ c.state.nodes = λ t. ap (λ (s : State). s.nodes) (lists.state t) in
     record {
       whole = λ one.
           let m = more.whole one in
-          (m.0, dumped_as told c.state.nodes c'.state.nodes dump m.0 nodes m.1, wrote_more held mid now (text_of c') m.0 first m.2);
+          (m.0, dumped_as told c.state.nodes c'.state.nodes dump m.0 nodes m.1, wrote_more held mid now (text_of a.quiet c') m.0 first m.2);
       part =
           let m = more.part in (
             m.0,
             dumped_as told c.state.nodes c'.state.nodes dump m.0 nodes m.1,
-            wrote_part held mid now (text_of c') m.0 (text_of c' ++ m.0) first m.2
-                (prefix_self (text_of c' ++ m.0) (text_of c' ++ m.0) refl),
+            wrote_part held mid now (text_of a.quiet c') m.0 (text_of a.quiet c' ++ m.0) first m.2
+                (prefix_self (text_of a.quiet c' ++ m.0) (text_of a.quiet c' ++ m.0) refl),
           );
       dumped = dumped;
     }
@@ -57,7 +58,7 @@ none_dumped told nodes false = refl
 
 -- nothing was missed, and the dump was cut where one was asked for
 cut_or_none : (asked : Bool) (n : ℕ) (c : CoreView) → IsOneOf n (SINK_FAILED ∷ NO_MEMORY ∷ []) → c.missed ≡ 0
-    → HasDumped (IsTrue asked) n (if asked then ends.Cut else ends.NotAsked) c
+    → HasDumped asked n (if asked then ends.Cut else ends.NotAsked) c
 cut_or_none true n c one missed = record {
   not_asked = ((λ e. absurd (other e)), (λ none. absurd (none refl)));
   faulted = ((λ e. absurd (faulted e)), (λ some. absurd (omega (arith, missed, some))));
@@ -82,17 +83,17 @@ cut_or_none false n c one missed = record {
     cut e = cc
 
 -- where the journal was printed in part
-pub printed_part : (told : Bool) (c : CoreView) (held now : Option Bytes) (n : ℕ) (asked : Bool) (dump : DumpEnd)
-    → dump ≡ (if asked then ends.Cut else ends.NotAsked) → (IsOneOf n (FINE ∷ STORE_FAILED ∷ CLASHED ∷ []) → ⊥)
+pub printed_part : (told : Bool) (c : CoreView) (held now : Option Bytes) (n : ℕ) (a : Asked) (dump : DumpEnd)
+    → dump ≡ (if a.dump then ends.Cut else ends.NotAsked) → (IsOneOf n (FINE ∷ STORE_FAILED ∷ CLASHED ∷ []) → ⊥)
     → IsOneOf n (SINK_FAILED ∷ NO_MEMORY ∷ []) → c.missed ≡ 0
-    → WrotePart held now (text_of c) → HasPrinted told (IsTrue asked) held now n dump c
-printed_part told c held now n asked dump is other one missed part =
+    → WrotePart held now (text_of a.quiet c) → HasPrinted told a held now n dump c
+printed_part told c held now n a dump is other one missed part =
     let none : IsDumped told c.state.nodes dump [] = subst (λ (d : DumpEnd). IsDumped told c.state.nodes d []) (sym is)
-    (none_dumped told c.state.nodes asked) in
+    (none_dumped told c.state.nodes a.dump) in
     record {
       whole = λ one. absurd (other one);
-      part = ([], none, subst (WrotePart held now) (sym (append-nil (text_of c))) part);
-      dumped = subst (λ (d : DumpEnd). HasDumped (IsTrue asked) n d c) (sym is) (cut_or_none asked n c one missed);
+      part = ([], none, subst (WrotePart held now) (sym (append-nil (text_of a.quiet c))) part);
+      dumped = subst (λ (d : DumpEnd). HasDumped a.dump n d c) (sym is) (cut_or_none a.dump n c one missed);
     }
 
 module _ (told : Bool) (nodes : Nodes) (held now : Option Bytes) (n : ℕ) (dump : DumpEnd) where
@@ -129,16 +130,3 @@ pub said_later : (n : ℕ) (c : CoreView) (before mid now : ℕ) → before ≤ 
 said_later n c before mid now later (inl own) = inl own
 said_later n c before mid now later (inr (inl sink)) = inr (inl (sink.0, rose_later before mid now later sink.1))
 said_later n c before mid now later (inr (inr memory)) = inr (inr memory)
-
--- the same, asked by other words
-pub printed_asked : (told : Bool) (A B : Type 0) (held now : Option Bytes) (n : ℕ) (dump : DumpEnd) (c : CoreView) → A ↔ B
-    → HasPrinted told A held now n dump c → HasPrinted told B held now n dump c
-printed_asked told A B held now n dump c same p = record {
-  whole = p.whole;
-  part = p.part;
-  dumped = record {
-    not_asked = ((λ e b. p.dumped.not_asked.0 e (same.1 b)), (λ none. p.dumped.not_asked.1 (λ a. none (same.0 a))));
-    faulted = p.dumped.faulted;
-    cut = p.dumped.cut;
-  };
-}

@@ -4,3 +4,4 @@ pub mod Statuses
 pub mod Opening
 pub mod Dumping
 pub mod Ending
+pub mod Replays

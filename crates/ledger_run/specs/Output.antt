@@ -18,9 +18,14 @@ use Rattle.ledger_run.specs.declared.status.TheConstants.{FINE, STORE_FAILED, CL
 abbrev pub entry_line : List Line → Entry → Bytes
 entry_line lines e = option_map_or (λ l. entry_text l.command e) (line_of lines e.line) []
 
--- the entries in order, then the summary
-abbrev pub output : List Line → List Entry → Totals → Bytes
-output lines journal totals = flat_map (entry_line lines) journal ++ summary_text totals
+-- the lines of the entries in order; none of a quiet run
+abbrev pub entry_lines : Bool → List Line → List Entry → Bytes
+entry_lines true lines journal = []
+entry_lines false lines journal = flat_map (entry_line lines) journal
+
+-- then the summary
+abbrev pub output : Bool → List Line → List Entry → Totals → Bytes
+output quiet lines journal totals = entry_lines quiet lines journal ++ summary_text totals
 
 -- what is printed for other words
 abbrev pub usage_text : Bytes

@@ -1,19 +1,23 @@
 -- What the top call says.
 use Rattle.std.specs.Prelude.{◌≡◌, ◌≢◌, ◌⊎◌, ◌↔◌, ◌<◌, ◌-◌, ◌^◌, ℕ, Bool, IsTrue, IsSome, List, [], ◌∷◌, ◌++◌, Option, Some, map, take}
-use Rattle.std.specs.Prelude.{codes, true, ◌==◌, IfSome, IsSomeAnd, IsNone}
+use Rattle.std.specs.Prelude.{true, ◌==◌, IfSome, IsSomeAnd, IsNone}
 use Rattle.std.specs.Borrow.{Bor}
 use Rattle.std.specs.List.{list_any}
 use Rattle.ledger_spec.specs.Bytes.{Bytes, Half, Nodes}
 use Rattle.ledger_machine.specs.declared.commands.Line.{Line}
 use Rattle.ledger_machine.specs.declared.commands.Record.{Record}
-use Rattle.ledger_machine.specs.State.{State, default_interval}
+use Rattle.ledger_machine.specs.State.{State}
 use Rattle.ledger_machine.specs.declared.journal.Entry.{Entry}
 use Rattle.ledger_machine.specs.Runs.{IsFull, IsRunOf}
 use Rattle.ledger_machine.specs.Collisions.{brought_by, IsShown}
 use Rattle.store_core.specs.Journal.{CoreView, IsJournal, IsRun}
 use Rattle.store_core.specs.Totals.{totals_of}
 use Rattle.script_form.specs.Grammar.{IsScript, IsRefused, most_read}
+use Rattle.run_words.specs.declared.words.Words.{Words}
+use Rattle.run_words.specs.declared.words.Words.TheVariants.{Replay, Swarm}
+use Rattle.run_words.specs.Words.{Says}
 use Rattle.run_io.specs.Bytes.{Rose, Took, TookPart, Wrote, WrotePart}
+use Rattle.ledger_run.specs.declared.asking.Asked.{Asked}
 use Rattle.ledger_run.specs.declared.status.TheConstants.{FINE, USAGE, REFUSED, SOURCE_FAILED, SINK_FAILED, STORE_FAILED}
 use Rattle.ledger_run.specs.declared.status.TheConstants.{CLASHED, NO_MEMORY}
 use Rattle.ledger_run.specs.declared.dump.DumpEnd.{DumpEnd}
@@ -21,15 +25,25 @@ use Rattle.ledger_run.specs.declared.dump.DumpEnd.TheVariants as ends
 use Rattle.ledger_run.specs.Output.{output, usage_text, refused_text, status_of}
 use Rattle.ledger_run.specs.Dump.{IsDumped}
 
--- the texts are `replay --dump`
-abbrev pub AskForDump : List Bytes → Type 0
-AskForDump texts = texts ≡ codes "replay" ∷ codes "--dump" ∷ []
+-- the values are a swarm's
+abbrev pub IsSwarm : Words → Type 0
+IsSwarm (Replay interval quiet dump) = ⊥
+IsSwarm (Swarm plan quiet dump) = Unit {0}
 
--- or the one word `replay`
-abbrev pub AskForRun : List Bytes → Type 0
-AskForRun texts = (texts ≡ codes "replay" ∷ []) ⊎ AskForDump texts
+-- the texts say a replay with this interval, quiet or not, with a dump or without
+abbrev pub AskFor : List Bytes → Asked → Type 0
+AskFor texts a = Says texts (Replay a.interval a.quiet a.dump)
 
--- the words are the command: `replay`, with or without `--dump`
+-- the texts say some replay
+pub record AskForRun (texts : List Bytes) : Type 0 where
+  pub asked : Asked
+  pub says : AskFor texts asked
+
+-- the words say this replay
+abbrev pub IsReplayOf : List (Bor (List ℕ)) → Asked → Type 0
+IsReplayOf words a = AskFor (map (λ w. w.now) words) a
+
+-- or some replay
 abbrev pub IsReplay : List (Bor (List ℕ)) → Type 0
 IsReplay words = AskForRun (map (λ w. w.now) words)
 
@@ -37,9 +51,9 @@ IsReplay words = AskForRun (map (λ w. w.now) words)
 abbrev pub IsOneOf : ℕ → List ℕ → Type 0
 IsOneOf n ns = list_any (λ m. m == n) ns ≡ true
 
--- what is printed of a core
-abbrev pub text_of : CoreView → Bytes
-text_of c = output c.lines c.journal (totals_of c.journal c.state)
+-- what is printed of a core, in a quiet run or another
+abbrev pub text_of : Bool → CoreView → Bytes
+text_of quiet c = output quiet c.lines c.journal (totals_of c.journal c.state)
 
 -- the bytes are refused, at some line for some cause
 abbrev pub IsRefusedAt : Half → Bytes → Type 0
@@ -69,35 +83,36 @@ pub record IsWhole (half : Half) (told : Bool) (c : CoreView) : Type 0 where
   pub kept : IsJournal half told c
   pub full : IsFull c.lines c.journal
 
--- The headline, of the core that a run leaves. `left` and `rest` are what the source had and has left, where it tells it.
-pub record IsRunOfInput (half : Half) (told : Bool) (left rest : Option Bytes) (c : CoreView) : Type 0 where
+-- The headline, of the core that a run leaves which these words asked for. `left` and `rest` are what the source had and has left, where it
+-- tells it.
+pub record IsRunOfInput (half : Half) (told : Bool) (words : List (Bor (List ℕ))) (left rest : Option Bytes) (c : CoreView) : Type 0 where
   -- the core's records and lines are the script that was read
   pub script : IfSome left (λ bytes. IsScript half (take most_read bytes) c.records c.lines)
   -- the source was read to its end
   pub read : IfSome left (λ _. rest ≡ Some [])
-  -- a rotation is due at the interval that stands where no word names one
-  pub interval : c.interval ≡ default_interval
+  -- a rotation is due at the interval that the words say
+  pub interval : (a : Asked) → IsReplayOf words a → c.interval ≡ a.interval
   -- the journal is a whole run
   pub whole : IsWhole half told c
 
--- How the dump ended that the words ask for, or don't.
-pub record HasDumped (Asked : Type 0) (status : ℕ) (dump : DumpEnd) (c : CoreView) : Type 0 where
-  -- none was asked for, exactly where the words have no `--dump`
-  pub not_asked : (dump ≡ ends.NotAsked) ↔ (Asked → ⊥)
+-- How the dump ended that was asked for, or wasn't.
+pub record HasDumped (asked : Bool) (status : ℕ) (dump : DumpEnd) (c : CoreView) : Type 0 where
+  -- there is none, exactly where none was asked for
+  pub not_asked : (dump ≡ ends.NotAsked) ↔ (IsTrue asked → ⊥)
   -- the store failed, exactly where a call for a stored record did
   pub faulted : (dump ≡ ends.Faulted) ↔ (0 < c.missed)
   -- it was cut only where the sink failed or memory was wanted
   pub cut : dump ≡ ends.Cut → IsOneOf status (SINK_FAILED ∷ NO_MEMORY ∷ [])
 
--- What a run has printed. `held` and `now` are what the sink held and holds, where it tells it.
-pub record HasPrinted (told : Bool) (Asked : Type 0) (held now : Option Bytes) (status : ℕ) (dump : DumpEnd) (c : CoreView) : Type 0 where
-  -- the text of that very journal, and behind it what was printed of the dump
+-- What a run has printed that was asked for so. `held` and `now` are what the sink held and holds, where it tells it.
+pub record HasPrinted (told : Bool) (a : Asked) (held now : Option Bytes) (status : ℕ) (dump : DumpEnd) (c : CoreView) : Type 0 where
+  -- the text of that very journal, of which a quiet run has the summary alone, and behind it what was printed of the dump
   pub whole : IsOneOf status (FINE ∷ STORE_FAILED ∷ CLASHED ∷ [])
-      → (more : Bytes) × IsDumped told c.state.nodes dump more × Wrote held now (text_of c ++ more)
+      → (more : Bytes) × IsDumped told c.state.nodes dump more × Wrote held now (text_of a.quiet c ++ more)
   -- or a front of it, where the sink failed or memory was wanted
-  pub part : (more : Bytes) × IsDumped told c.state.nodes dump more × WrotePart held now (text_of c ++ more)
+  pub part : (more : Bytes) × IsDumped told c.state.nodes dump more × WrotePart held now (text_of a.quiet c ++ more)
   -- how the dump ended
-  pub dumped : HasDumped Asked status dump c
+  pub dumped : HasDumped a.dump status dump c
 
 -- What is printed behind the summary, of a store that holds these.
 pub record PrintsMore (told : Bool) (nodes : Nodes) (held now : Option Bytes) (status : ℕ) (dump : DumpEnd) : Type 0 where

@@ -2,6 +2,7 @@
 //! prints its journal.
 #![tactic(auto)]
 
+mod asking;
 mod dump;
 #[cfg(test)]
 mod rows;
@@ -12,8 +13,9 @@ mod tests;
 
 ghost use Rattle.std.specs.Prelude.{◌≡◌, ◌↔◌, true, ◌∷◌, [], map, IfOk, IfSome, IsNone, string_bytes};
 ghost use Rattle.std.specs.Process.{exit_status};
+ghost use Rattle.ledger_run.specs.declared.asking.Asked.{Asked};
 ghost use Rattle.ledger_run.specs.declared.status.TheConstants.{USAGE, REFUSED, SOURCE_FAILED, STORE_FAILED, NO_MEMORY};
-ghost use Rattle.ledger_run.specs.Top.{IsReplay, AskForRun, IsOneOf, IsWhole, HasStatus};
+ghost use Rattle.ledger_run.specs.Top.{IsReplay, IsReplayOf, AskFor, AskForRun, IsOneOf, IsWhole, HasStatus};
 
 use actor_pool::OpenGate;
 use half_hash::{Half512, NodeHash};
@@ -74,6 +76,7 @@ fn run_with<R: Threads + Wait + Sync>(
     ensures usage { result.status ≡ USAGE → AskForRun (map string_bytes words.now) → ⊥ }
     ensures others { (AskForRun (map string_bytes words.now) → ⊥) → IsOneOf result.status (USAGE ∷ NO_MEMORY ∷ []) }
     // The core and the status are those of a run.
+    ensures interval { IfSome result.core (λ c. (a : Asked) → AskFor (map string_bytes words.now) a → c.interval ≡ a.interval) }
     ensures whole { IfSome result.core (IsWhole (⟦<Half512 as NodeHash>⟧.half) true) }
     ensures status { IfSome result.core (HasStatus (⟦<Half512 as NodeHash>⟧.half) true result.status) }
     ensures none { IsNone result.core → IsOneOf result.status (USAGE ∷ REFUSED ∷ SOURCE_FAILED ∷ STORE_FAILED ∷ NO_MEMORY ∷ []) }
@@ -102,6 +105,7 @@ fn run_on<R: Threads + Wait + Sync>(
     words: &[&str],
 ) -> Ended<Half512, MemShelf>
     ensures usage { (result.status ≡ USAGE) ↔ (IsReplay words.now → ⊥) }
+    ensures interval { IfSome result.core (λ c. (a : Asked) → IsReplayOf words.now a → c.interval ≡ a.interval) }
     ensures whole { IfSome result.core (IsWhole (⟦<Half512 as NodeHash>⟧.half) true) }
     ensures status { IfSome result.core (HasStatus (⟦<Half512 as NodeHash>⟧.half) true result.status) }
     ensures none { IsNone result.core → IsOneOf result.status (USAGE ∷ REFUSED ∷ SOURCE_FAILED ∷ STORE_FAILED ∷ NO_MEMORY ∷ []) }

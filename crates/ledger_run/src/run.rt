@@ -1,17 +1,18 @@
 //! The top call: reads a script, runs it, and prints its journal.
-ghost use Rattle.std.specs.Prelude.{None, ◌≡◌, ◌⊎◌, ◌↔◌, ◌≤◌, ◌∷◌, [], IfErr, OnOk, OnErr, IfSome, IsTrue, MatchOption, if◌then◌else◌, map};
-ghost use Rattle.std.specs.Prelude.{codes};
+ghost use Rattle.std.specs.Prelude.{None, ◌≡◌, ◌⊎◌, ◌≤◌, ◌∷◌, [], IfErr, OnOk, OnErr, IfSome, IsTrue, MatchOption, if◌then◌else◌, map};
 ghost use Rattle.std.specs.List.{list_any};
 ghost use Rattle.run_io.specs.Bytes.{Rose, Wrote, WrotePart};
 ghost use Rattle.rotating_store.specs.Stores.{Store};
+ghost use Rattle.ledger_run.specs.declared.asking.Asked.{Asked};
 ghost use Rattle.ledger_run.specs.declared.status.TheConstants.{REFUSED, NO_MEMORY};
-ghost use Rattle.ledger_run.specs.Output.{entry_line, refused_text, status_of, shows_clash as clash_shown};
+ghost use Rattle.ledger_run.specs.Output.{entry_line, entry_lines, refused_text, status_of, shows_clash as clash_shown};
 ghost use Rattle.ledger_run.specs.Output.{met_fault as fault_met, wanted_memory as memory_wanted};
-ghost use Rattle.ledger_run.specs.Top.{IsReplay, AskForDump, IsOneOf, WroteOrFailed, text_of, IsRunOfInput, HasPrinted, HasDumped};
+ghost use Rattle.ledger_run.specs.Top.{IsReplayOf, IsOneOf, WroteOrFailed, text_of, IsRunOfInput, HasPrinted, HasDumped};
 ghost use Rattle.ledger_run.specs.Top.{HasStatus, HasSaid, PrintsMore, IsCalm, EndsWell};
 ghost use Rattle.store_core.specs.Dumping.{Lists};
 ghost use Rattle.ledger_run.specs.Top.{IsUsage, IsRefusal, HasCause, HasNotOpened};
 
+use crate::asking::{Asked, replay_of};
 pub use crate::dump::DumpEnd;
 use crate::dump::{DumpFault, print_records};
 use crate::status::{
@@ -45,33 +46,6 @@ pub struct Ended<H: NodeHash, Sh: Shelf> {
 
 const USAGE_TEXT: &[u8; 33] = b"usage: ledger_run replay | swarm\n";
 
-/// Whether the words are the command: `replay`, with or without `--dump`.
-fn is_replay(words: &[&str]) -> bool
-    ensures { IsTrue result ↔ IsReplay words.now }
-{
-    is_bare(words) || asks_dump(words)
-}
-
-/// Whether the words are the one word `replay`.
-fn is_bare(words: &[&str]) -> bool
-    ensures { IsTrue result ↔ (map (λ w. w.now) words.now ≡ codes "replay" ∷ []) }
-{
-    match words {
-        [word] => *word == "replay",
-        _ => false,
-    }
-}
-
-/// Whether the words are `replay --dump`.
-fn asks_dump(words: &[&str]) -> bool
-    ensures { IsTrue result ↔ AskForDump (map (λ w. w.now) words.now) }
-{
-    match words {
-        [word, option] => *word == "replay" && *option == "--dump",
-        _ => false,
-    }
-}
-
 /// Prints the line of an entry.
 fn print_entry<H: NodeHash, Sh: Shelf, K: Sink>(
     alloc: Global,
@@ -94,20 +68,40 @@ fn print_entry<H: NodeHash, Sh: Shelf, K: Sink>(
     Ok(())
 }
 
-/// Prints the journal and the summary.
+/// Prints the lines of the journal's entries, but not in a quiet run.
+fn print_entries<H: NodeHash, Sh: Shelf, K: Sink>(
+    alloc: Global,
+    core: &Core<H, Sh>,
+    sink: &mut K,
+    quiet: bool,
+) -> Result<(), AllFault>
+    ensures wrote { OnOk result (Wrote (K.held sink.old) (K.held sink.new) (entry_lines quiet core.now.lines core.now.journal)) }
+    ensures part { OnErr result (WrotePart (K.held sink.old) (K.held sink.new) (entry_lines quiet core.now.lines core.now.journal)) }
+    ensures later { K.faults sink.old ≤ K.faults sink.new }
+    ensures cause { IfErr result (λ e. e ≡ AllFault.Fault → Rose (K.faults sink.old) (K.faults sink.new)) }
+{
+    if quiet {
+        return Ok(());
+    }
+    for entry in core.journal() {
+        print_entry(alloc, core, entry, sink)?;
+    }
+    Ok(())
+}
+
+/// Prints the journal, but not in a quiet run, and the summary.
 fn print<H: NodeHash, Sh: Shelf, K: Sink>(
     alloc: Global,
     core: &Core<H, Sh>,
     sink: &mut K,
+    quiet: bool,
 ) -> Result<(), AllFault>
-    ensures wrote { OnOk result (Wrote (K.held sink.old) (K.held sink.new) (text_of core.now)) }
-    ensures part { OnErr result (WrotePart (K.held sink.old) (K.held sink.new) (text_of core.now)) }
+    ensures wrote { OnOk result (Wrote (K.held sink.old) (K.held sink.new) (text_of quiet core.now)) }
+    ensures part { OnErr result (WrotePart (K.held sink.old) (K.held sink.new) (text_of quiet core.now)) }
     ensures later { K.faults sink.old ≤ K.faults sink.new }
     ensures cause { IfErr result (λ e. e ≡ AllFault.Fault → Rose (K.faults sink.old) (K.faults sink.new)) }
 {
-    for entry in core.journal() {
-        print_entry(alloc, core, entry, sink)?;
-    }
+    print_entries(alloc, core, sink, quiet)?;
     let Ok(end) = summary(alloc, &core.totals()) else {
         return Err(AllFault::Memory);
     };
@@ -115,22 +109,22 @@ fn print<H: NodeHash, Sh: Shelf, K: Sink>(
     Ok(())
 }
 
-/// Prints the journal and the summary, and the dump where one is asked for: the status, and how the dump ended.
+/// Prints the journal, the summary and the dump, as far as they are asked for: the status, and how the dump ended.
 fn print_all<H: NodeHash, Sh: Shelf, K: Sink>(
     alloc: Global,
     core: &mut Core<H, Sh>,
     sink: &mut K,
-    asked: bool,
+    asked: Asked,
 ) -> (u8, DumpEnd)
     requires { core.old.missed ≡ 0 }
     ensures lists { Lists Sh.B.tells core.old core.new }
-    ensures printed { HasPrinted Sh.B.tells (IsTrue asked) (K.held sink.old) (K.held sink.new) result.0 result.1 core.new }
+    ensures printed { HasPrinted Sh.B.tells asked (K.held sink.old) (K.held sink.new) result.0 result.1 core.new }
     ensures said { HasSaid result.0 core.new (K.faults sink.old) (K.faults sink.new) }
 {
-    match print(alloc, core, sink) {
-        Ok(()) => print_dump(alloc, core, sink, asked),
-        Err(AllFault::Fault) => (SINK_FAILED, unprinted(asked)),
-        Err(AllFault::Memory) => (NO_MEMORY, unprinted(asked)),
+    match print(alloc, core, sink, asked.quiet) {
+        Ok(()) => print_dump(alloc, core, sink, asked.dump),
+        Err(AllFault::Fault) => (SINK_FAILED, unprinted(asked.dump)),
+        Err(AllFault::Memory) => (NO_MEMORY, unprinted(asked.dump)),
     }
 }
 
@@ -144,7 +138,7 @@ fn print_dump<H: NodeHash, Sh: Shelf, K: Sink>(
     requires { core.old.missed ≡ 0 }
     ensures lists { Lists Sh.B.tells core.old core.new }
     ensures printed { PrintsMore Sh.B.tells core.old.state.nodes (K.held sink.old) (K.held sink.new) result.0 result.1 }
-    ensures dumped { HasDumped (IsTrue asked) result.0 result.1 core.new }
+    ensures dumped { HasDumped asked result.0 result.1 core.new }
     ensures said { HasSaid result.0 core.new (K.faults sink.old) (K.faults sink.new) }
 {
     if !asked {
@@ -289,7 +283,8 @@ fn not_opened<H: NodeHash, Sh: Shelf>(unopened: Unopened<Sh>) -> Ended<H, Sh>
     }
 }
 
-/// Reads a script, answers each of its lines, and prints the journal of what was answered, and with `--dump` all that is stored then.
+/// Reads a script, answers each of its lines, and prints the journal of what was answered, of which `--quiet` leaves the summary alone,
+/// and with `--dump` all that is stored then. With `--interval N` a rotation is due at N sequences, else at 256.
 ///
 /// The first that is met is answered: other words than the command's; want of memory; the source failed; the
 /// script is refused; the store can't be opened. After the run it is the sink's failing, or want of memory in printing; then a clash,
@@ -304,9 +299,10 @@ pub fn ledger_run<R: Threads + Wait + Sync, H: NodeHash, S: Source, K: Sink, Sh:
     shelf: Sh,
     gate: &G,
 ) -> Ended<H, Sh>
-    ensures run { IfSome result.core (IsRunOfInput H.half Sh.B.tells (S.left source.old) (S.left source.new)) }
+    ensures run { IfSome result.core (IsRunOfInput H.half Sh.B.tells words.now (S.left source.old) (S.left source.new)) }
     ensures printed { MatchOption result.core (result.dump ≡ DumpEnd.NotAsked)
-        (HasPrinted Sh.B.tells (AskForDump (map (λ w. w.now) words.now)) (K.held sink.old) (K.held sink.new) result.status result.dump) }
+        (λ c. (a : Asked) → IsReplayOf words.now a
+        → HasPrinted Sh.B.tells a (K.held sink.old) (K.held sink.new) result.status result.dump c) }
     ensures status { IfSome result.core (HasStatus H.half Sh.B.tells result.status) }
     ensures complete { (Rose (S.faults source.old) (S.faults source.new) → ⊥) → (Rose (K.faults sink.old) (K.faults sink.new) → ⊥)
         → IfSome result.core IsCalm → IfSome result.unopened (λ u. u ≡ Unopened.Memory)
@@ -322,10 +318,10 @@ pub fn ledger_run<R: Threads + Wait + Sync, H: NodeHash, S: Source, K: Sink, Sh:
         ⊎ ((t : Store) × (u ≡ Unopened.Store t) × Rose (Sh.faults shelf) t.faults))
         (λ u. u ≡ Unopened.Memory) (sink.new ≡ sink.old) }
 {
-    if !is_replay(words) {
+    let Some(asked) = replay_of(words) else {
         let _ = write_all(sink, USAGE_TEXT);
         return without_core(USAGE);
-    }
+    };
     let script = match read_script::<H, S>(alloc, source) {
         Ok(script) => script,
         Err(ScriptFault::Memory) => return without_core(NO_MEMORY),
@@ -334,12 +330,12 @@ pub fn ledger_run<R: Threads + Wait + Sync, H: NodeHash, S: Source, K: Sink, Sh:
             return without_core(refuse(alloc, line, cause, sink));
         }
     };
-    let core = match Core::open(alloc, hash, script, shelf) {
+    let core = match Core::open(alloc, hash, script, asked.interval, shelf) {
         Ok(core) => core,
         Err(unopened) => return not_opened(unopened),
     };
     let mut core = run_actors(rt, alloc, core, gate);
-    let (status, dump) = print_all(alloc, &mut core, sink, asks_dump(words));
+    let (status, dump) = print_all(alloc, &mut core, sink, asked);
     // For its contract.
     let _ = core.journal();
     Ended {

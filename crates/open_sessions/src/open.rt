@@ -1,5 +1,6 @@
 //! The table of open sessions.
-ghost use Rattle.std.specs.Prelude.{◌≡◌, [], None, Some, false, IsTrue, IfErr, IfOk, OnErr, OnOk, is_some, unwrap_or, length, MatchOption};
+ghost use Rattle.std.specs.Prelude.{◌≡◌, [], None, Some, false, IsTrue, IfErr, IfOk, OnErr, OnOk, is_some, unwrap_or, length, map};
+ghost use Rattle.std.specs.Prelude.{MatchOption};
 ghost use Rattle.std.specs.FinMap as finite;
 ghost use Rattle.std.specs.List.{list_any};
 ghost use Rattle.std.specs.Map.{values_of};
@@ -65,6 +66,18 @@ impl Open {
         ensures { result ≡ list_any (λ d. same_bytes target.now d.base) (values_of self.now) }
     {
         is_edited(&self.sessions, target)
+    }
+
+    /// The ledgers that the open sessions edit.
+    pub fn bases(&self, alloc: Global) -> Result<Vec<Hash32>, Memory>
+        ensures { IfOk result (λ bases. bases.items ≡ map (λ d. d.base) (values_of self.now)) }
+    {
+        let bases = self
+            .sessions
+            .values()
+            .map(|session| *session.base())
+            .collect(alloc)?;
+        Ok(bases)
     }
 
     /// Opens a session.

@@ -203,6 +203,23 @@ impl<Sh: Shelf> RotStore<Sh> {
         if !found.equals(h) {
             return Err(StoreFault::WrongHash { hash: *h, found });
         }
+        self.put_hashed::<H>(alloc, h, form)
+    }
+
+    /// The same of a form whose hash the caller knows, which isn't hashed again.
+    pub fn put_hashed<H: NodeHash>(
+        &mut self,
+        alloc: Global,
+        h: &Hash32,
+        form: &[u8],
+    ) -> Result<Put, StoreFault>
+        requires own { H.half form.now ≡ h.now }
+        ensures puts { IsTrue Sh.B.tells → Puts self.old h.now form.now result self.new }
+        ensures wrong { TellsWrongHash H.half h.now form.now result }
+        ensures rest { SamePast self.old self.new × (self.new.ready ≡ self.old.ready) × (self.new.noted ≡ self.old.noted) }
+        ensures later { (self.old.faults ≤ self.new.faults) × (self.old.gets ≤ self.new.gets) }
+        ensures cause { result ≡ Err StoreFault.Fault → Rose self.old.faults self.new.faults }
+    {
         if let Some(old) = get_either(&mut self.writable, &mut self.archive, alloc, h)? {
             return compare(alloc, h, old, form);
         }

@@ -238,6 +238,15 @@ flags_word words d size x says =
     let at = subst (λ (ws : List Bytes). FormSays form.Close ws x) (five_words words d d d d d size) says in
     (at.0.1.1.1.1.0, at.1.1.1.1.1.0)
 
+-- without words a rotation is begun, or ended
+pub begin_says : (words : List (Bor Bytes)) → length words ≡ 0 → FormSays form.Begin (texts words) command.Begin
+begin_says [] size = (tt, tt, refl)
+begin_says (a ∷ more) size = absurd (omega (arith, size))
+
+pub swap_says : (words : List (Bor Bytes)) → length words ≡ 0 → FormSays form.Swap (texts words) command.Swap
+swap_says [] size = (tt, tt, refl)
+swap_says (a ∷ more) size = absurd (omega (arith, size))
+
 -- a word is wrong in its place where the call has the cause
 pub call_wrong : (c : Cause) (call : List (Bor Bytes)) (d : Bor Bytes) (f : Form) (given : List Argument) (found : Result Bool Memory)
     → 1 ≤ length call → c ≢ cause.UnknownCommand → c ≢ cause.ArgumentCount → (get_or call 0 d).now ≡ word_in f

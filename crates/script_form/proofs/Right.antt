@@ -167,6 +167,8 @@ form_makes form.Tx (n ∷ t ∷ []) v says = absurd says.1.1
 form_makes form.Tx (n ∷ t ∷ b ∷ x ∷ more) v says = absurd says.1.1.1
 form_makes form.Close args v says = (_, refl)
 form_makes form.Abandon args v says = (_, refl)
+form_makes form.Begin args v says = (_, refl)
+form_makes form.Swap args v says = (_, refl)
 
 form_says : (f : Form) (args : List Bytes) → AreRight (arguments_in f) args → (c : Command) × FormSays f args c
 form_says f args right =

@@ -266,6 +266,8 @@ form_page form.Del v c is = ap is_page_command (sym is)
 form_page form.Tx v c is = ap is_page_command (sym is.2)
 form_page form.Close v c is = ap is_page_command (sym is)
 form_page form.Abandon v c is = ap is_page_command (sym is)
+form_page form.Begin v c is = ap is_page_command (sym is)
+form_page form.Swap v c is = ap is_page_command (sym is)
 
 call_page : (call : List Bytes) (c : Command) → CallSays call c → names_page call ≡ is_page_command c
 call_page [] c says = absurd says

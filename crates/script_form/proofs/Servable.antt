@@ -12,7 +12,7 @@ use Rattle.ledger_spec.specs.declared.Kind.{Kind}
 use Rattle.ledger_spec.specs.declared.Kind.TheVariants.{State, Tx, Set}
 use Rattle.shamap_node.specs.declared.parts.Item.{Item}
 use Rattle.shamap_node.specs.Items.{Keeps}
-use Rattle.script_form.specs.Servable.{IsServed, WaitsForEarlier, AreServable}
+use Rattle.script_form.specs.Servable.{WaitsForEarlier, AreServable}
 use Rattle.script_form.specs.Causes.{call_in}
 use Rattle.script_form.specs.declared.forms.Form.{Form}
 use Rattle.script_form.specs.declared.forms.Form.TheVariants as form
@@ -35,84 +35,55 @@ item_known key value k bytes item named says keeps = (
   subst (λ (x : Bytes). AreBytes x) (sym keeps.data_is) (blob_bytes value bytes says.digits),
 )
 
--- what is in range and served
-abbrev Fits : Command → Type 0
-Fits c = IsInRange c × IsServed c
-
--- so is what a form's words say
+-- what a form's words say is in range
 form_known : (f : Form) (words : List Bytes) (v : ArgumentsOf (arguments_in f)) (c : Command) → SayArguments (arguments_in f) words v
-    → length words ≡ length (arguments_in f) → Makes f v c → Fits c
-form_known form.Want (t ∷ n ∷ []) v c says size is =
-    subst (λ (x : Command). Fits x) (sym is) (says.0.nonzero, tt)
-form_known form.Peer (n ∷ t ∷ []) v c says size is =
-    subst (λ (x : Command). Fits x) (sym is) (says.1.0.nonzero, tt)
+    → length words ≡ length (arguments_in f) → Makes f v c → IsInRange c
+form_known form.Want (t ∷ n ∷ []) v c says size is = subst (λ (x : Command). IsInRange x) (sym is) says.0.nonzero
+form_known form.Peer (n ∷ t ∷ []) v c says size is = subst (λ (x : Command). IsInRange x) (sym is) says.1.0.nonzero
 form_known form.Base (n ∷ t ∷ h ∷ []) v c says size is =
-    subst (λ (x : Command). Fits x) (sym is) ((says.1.0.nonzero, blob_bytes h v.1.1.0 says.1.1.0, tt, tt), tt)
+    subst (λ (x : Command). IsInRange x) (sym is) (says.1.0.nonzero, blob_bytes h v.1.1.0 says.1.1.0, tt, tt)
 form_known form.BaseState (n ∷ t ∷ h ∷ s ∷ []) v c says size is =
-    subst (λ (x : Command). Fits x) (sym is) (
-      (
-        says.1.0.nonzero,
-        blob_bytes h v.1.1.0 says.1.1.0,
-        blob_bytes s v.1.1.1.0 says.1.1.1.0,
-        tt,
-      ),
-      tt,
-    )
+    subst (λ (x : Command). IsInRange x) (sym is)
+    (says.1.0.nonzero, blob_bytes h v.1.1.0 says.1.1.0, blob_bytes s v.1.1.1.0 says.1.1.1.0, tt)
 form_known form.BaseTx (n ∷ t ∷ h ∷ s ∷ x ∷ []) v c says size is =
-    subst (λ (x : Command). Fits x) (sym is) (
-      (says.1.0.nonzero, blob_bytes h v.1.1.0 says.1.1.0, blob_bytes s v.1.1.1.0 says.1.1.1.0, blob_bytes x v.1.1.1.1.0 says.1.1.1.1.0),
-      tt,
-    )
+    subst (λ (x : Command). IsInRange x) (sym is)
+    (says.1.0.nonzero, blob_bytes h v.1.1.0 says.1.1.0, blob_bytes s v.1.1.1.0 says.1.1.1.0, blob_bytes x v.1.1.1.1.0 says.1.1.1.1.0)
 form_known form.Node (n ∷ t ∷ k ∷ i ∷ b ∷ []) v c says size is =
-    subst (λ (x : Command). Fits x) (sym is) (
-      (
-        says.1.0.nonzero,
-        a_ledger_map k v.1.1.0 says.1.1.0,
-        blob_bytes b v.1.1.1.1.0
-            says.1.1.1.1.0,
-      ),
-      tt,
-    )
-form_known form.Check (t ∷ []) v c says size is =
-    subst (λ (x : Command). Fits x) (sym is) (says.0.nonzero, tt)
-form_known form.Tick (t ∷ []) v c says size is =
-    subst (λ (x : Command). Fits x) (sym is) (says.0.nonzero, tt)
-form_known form.View (n ∷ t ∷ []) v c says size is =
-    subst (λ (x : Command). Fits x) (sym is) (says.1.0.nonzero, tt)
-form_known form.Unview (n ∷ []) v c says size is =
-    subst (λ (x : Command). Fits x) (sym is) (tt, tt)
+    subst (λ (x : Command). IsInRange x) (sym is)
+    (says.1.0.nonzero, a_ledger_map k v.1.1.0 says.1.1.0, blob_bytes b v.1.1.1.1.0 says.1.1.1.1.0)
+form_known form.Check (t ∷ []) v c says size is = subst (λ (x : Command). IsInRange x) (sym is) says.0.nonzero
+form_known form.Tick (t ∷ []) v c says size is = subst (λ (x : Command). IsInRange x) (sym is) says.0.nonzero
+form_known form.View (n ∷ t ∷ []) v c says size is = subst (λ (x : Command). IsInRange x) (sym is) says.1.0.nonzero
+form_known form.Unview (n ∷ []) v c says size is = subst (λ (x : Command). IsInRange x) (sym is) tt
 form_known form.Get (n ∷ k ∷ t ∷ []) v c says size is =
     let key : IsTarget t v.1.1.0 = says.1.1.0 in
-    subst (λ (x : Command). Fits x) (sym is)
-    ((key.nonzero, hash_size t v.1.1.0 key.digits, hash_bytes t v.1.1.0 key.digits, a_ledger_map k v.1.0 says.1.0), tt)
+    subst (λ (x : Command). IsInRange x) (sym is)
+    (key.nonzero, hash_size t v.1.1.0 key.digits, hash_bytes t v.1.1.0 key.digits, a_ledger_map k v.1.0 says.1.0)
 form_known form.Page (n ∷ k ∷ t ∷ m ∷ []) v c says size is =
-    subst (λ (x : Command). Fits x) (sym is) ((a_ledger_map k v.1.0 says.1.0, says.1.1.1.0.least, says.1.1.1.0.number.within), tt)
-form_known form.Edit (n ∷ t ∷ []) v c says size is =
-    subst (λ (x : Command). Fits x) (sym is) (says.1.0.nonzero, tt)
+    subst (λ (x : Command). IsInRange x) (sym is) (a_ledger_map k v.1.0 says.1.0, says.1.1.1.0.least, says.1.1.1.0.number.within)
+form_known form.Edit (n ∷ t ∷ []) v c says size is = subst (λ (x : Command). IsInRange x) (sym is) says.1.0.nonzero
 form_known form.Put (n ∷ t ∷ b ∷ []) v c says size is =
-    subst (λ (x : Command). Fits x) (sym is.2) (item_known t b v.1.0 v.1.1.0 is.0 says.1.0 says.1.1.0 is.1, tt)
+    subst (λ (x : Command). IsInRange x) (sym is.2) (item_known t b v.1.0 v.1.1.0 is.0 says.1.0 says.1.1.0 is.1)
 form_known form.Del (n ∷ t ∷ []) v c says size is =
     let key : IsTarget t v.1.0 = says.1.0 in
-    subst (λ (x : Command). Fits x) (sym is) ((key.nonzero, hash_size t v.1.0 key.digits, hash_bytes t v.1.0 key.digits), tt)
+    subst (λ (x : Command). IsInRange x) (sym is) (key.nonzero, hash_size t v.1.0 key.digits, hash_bytes t v.1.0 key.digits)
 form_known form.Tx (n ∷ t ∷ b ∷ []) v c says size is =
-    subst (λ (x : Command). Fits x) (sym is.2) (item_known t b v.1.0 v.1.1.0 is.0 says.1.0 says.1.1.0 is.1, tt)
+    subst (λ (x : Command). IsInRange x) (sym is.2) (item_known t b v.1.0 v.1.1.0 is.0 says.1.0 says.1.1.0 is.1)
 form_known form.Close (n ∷ d ∷ t ∷ r ∷ f ∷ []) v c says size is =
     let drops : v.1.0 ≤ 18446744073709551615 = says.1.0.within in
     let time : v.1.1.0 ≤ 4294967295 = says.1.1.0.within in
     let resolution : v.1.1.1.0 ≤ 255 = says.1.1.1.0.within in
     let flags : v.1.1.1.1.0 ≤ 255 = says.1.1.1.1.0.within in
-    subst (λ (x : Command). Fits x) (sym is) (
-      record {
-        count = refl;
-        drops = omega (arith, drops);
-        close = omega (arith, time);
-        resolution = omega (arith, resolution);
-        flags = omega (arith, flags);
-      },
-      tt,
-    )
-form_known form.Abandon (n ∷ []) v c says size is =
-    subst (λ (x : Command). Fits x) (sym is) (tt, tt)
+    subst (λ (x : Command). IsInRange x) (sym is) (record {
+      count = refl;
+      drops = omega (arith, drops);
+      close = omega (arith, time);
+      resolution = omega (arith, resolution);
+      flags = omega (arith, flags);
+    })
+form_known form.Abandon (n ∷ []) v c says size is = subst (λ (x : Command). IsInRange x) (sym is) tt
+form_known form.Begin [] v c says size is = subst (λ (x : Command). IsInRange x) (sym is) tt
+form_known form.Swap [] v c says size is = subst (λ (x : Command). IsInRange x) (sym is) tt
 form_known form.Want words v c says size is = absurd (omega (arith, size))
 form_known form.Peer words v c says size is = absurd (omega (arith, size))
 form_known form.Base words v c says size is = absurd (omega (arith, size))
@@ -131,15 +102,16 @@ form_known form.Del words v c says size is = absurd (omega (arith, size))
 form_known form.Tx words v c says size is = absurd (omega (arith, size))
 form_known form.Close words v c says size is = absurd (omega (arith, size))
 form_known form.Abandon words v c says size is = absurd (omega (arith, size))
+form_known form.Begin words v c says size is = absurd (omega (arith, size))
+form_known form.Swap words v c says size is = absurd (omega (arith, size))
 
 -- what is known of a line that words say
 pub record Known (earlier : List ℕ) (l : Line) : Type 0 where
   pub actor : l.actor < 64
   pub in_range : IsInRange l.command
-  pub served : IsServed l.command
   pub waits : l.after ≢ 0 → Contains earlier l.after
 
-call_known : (call : List Bytes) (c : Command) → CallSays call c → IsInRange c × IsServed c
+call_known : (call : List Bytes) (c : Command) → CallSays call c → IsInRange c
 call_known [] c says = absurd says
 call_known (word ∷ args) c says =
     let said = says.2 in form_known says.0 args said.0 c said.1 (said_count says.0 args c said) said.2
@@ -147,11 +119,9 @@ call_known (word ∷ args) c says =
 pub known : (earlier : List ℕ) (words : List Bytes) (l : Line) → WordsSay earlier words l → Known earlier l
 known earlier [] l says = absurd says
 known earlier (actor ∷ words) l says =
-    let call = call_known (call_in words) l.command says.2 in
     record {
       actor = omega (arith, says.0.within);
-      in_range = call.0;
-      served = call.1;
+      in_range = call_known (call_in words) l.command says.2;
       waits = λ some. elim says.1 [ inl free ↦ absurd (some free.1) | inr named ↦ named.1.found ];
     }
 
@@ -166,7 +136,6 @@ nothing_servable = record {
   actors_known = λ k d lt. absurd (omega arith);
   numbers_rise = tt;
   in_range = λ k d lt. absurd (omega arith);
-  served = λ k d lt. absurd (omega arith);
   waiting = λ k d lt. absurd (omega arith);
   few = omega arith;
 }
@@ -178,7 +147,6 @@ servable_more lines l s some below few k = record {
   actors_known = All-push (λ x. x.actor < 64) lines l s.actors_known k.actor;
   numbers_rise = rises_more 0 lines l s.numbers_rise some below;
   in_range = All-push (λ x. IsInRange x.command) lines l s.in_range k.in_range;
-  served = All-push (λ x. IsServed x.command) lines l s.served k.served;
   waiting = All-push (WaitsForEarlier (lines ++ l ∷ [])) lines l
       (All-weaker (WaitsForEarlier lines) (WaitsForEarlier (lines ++ l ∷ [])) wider lines s.waiting) here;
   few = omega (arith, few, length-append lines (l ∷ []));

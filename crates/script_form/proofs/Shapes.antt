@@ -18,8 +18,8 @@ form_by first count =
     else if first == 110 then form.Node else if first == 99 then (if count == 1 then form.Check else form.Close)
     else if first == 116 then (if count == 1 then form.Tick else form.Tx) else if first == 118 then form.View
     else if first == 117 then form.Unview else if first == 103 then form.Get else if first == 101 then form.Edit
-    else if first == 100 then form.Del else if first == 97 then form.Abandon else if count == 3 then form.Base
-    else if count == 4 then form.BaseState else form.BaseTx
+    else if first == 100 then form.Del else if first == 97 then form.Abandon else if first == 115 then form.Swap
+    else if count == 0 then form.Begin else if count == 3 then form.Base else if count == 4 then form.BaseState else form.BaseTx
 
 by_form : (f : Form) → form_by (slice_index (word_in f) 0) (length (arguments_in f)) ≡ f
 by_form form.Want = refl
@@ -40,6 +40,8 @@ by_form form.Del = refl
 by_form form.Tx = refl
 by_form form.Close = refl
 by_form form.Abandon = refl
+by_form form.Begin = refl
+by_form form.Swap = refl
 
 -- there is one form of a word and a number of arguments
 pub one_form : (f g : Form) → word_in f ≡ word_in g → length (arguments_in f) ≡ length (arguments_in g) → f ≡ g
@@ -95,3 +97,5 @@ form_stands form.Del = (14, omega arith, λ d. refl)
 form_stands form.Tx = (15, omega arith, λ d. refl)
 form_stands form.Close = (16, omega arith, λ d. refl)
 form_stands form.Abandon = (17, omega arith, λ d. refl)
+form_stands form.Begin = (18, omega arith, λ d. refl)
+form_stands form.Swap = (19, omega arith, λ d. refl)

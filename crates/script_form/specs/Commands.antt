@@ -36,10 +36,12 @@ word_in form.Del = codes "del"
 word_in form.Tx = codes "tx"
 word_in form.Close = codes "close"
 word_in form.Abandon = codes "abandon"
+word_in form.Begin = codes "begin"
+word_in form.Swap = codes "swap"
 
 -- a form's arguments, in order: T and SEQ; P and T; P, T and HEADER, with STATE, with STATE and TX; P, T, KIND, ID and BLOB; T; T;
 -- V and T; V; V, KIND and KEY; V, KIND, KEY and N; S and T; S, KEY and DATA; S and KEY; S, KEY and DATA;
--- S, DROPS, TIME, RESOLUTION and FLAGS; S
+-- S, DROPS, TIME, RESOLUTION and FLAGS; S; none; none
 abbrev pub arguments_in : Form → List Argument
 arguments_in form.Want = argument.Target ∷ argument.Number 4294967295 ∷ []
 arguments_in form.Peer = argument.Number 65535 ∷ argument.Target ∷ []
@@ -60,6 +62,8 @@ arguments_in form.Tx = argument.Number 65535 ∷ argument.Target ∷ argument.Da
 arguments_in form.Close = argument.Number 65535 ∷ argument.Number 18446744073709551615 ∷ argument.Number 4294967295
     ∷ argument.Number 255 ∷ argument.Number 255 ∷ []
 arguments_in form.Abandon = argument.Number 65535 ∷ []
+arguments_in form.Begin = []
+arguments_in form.Swap = []
 
 -- what a word says in an argument's place: a number, a hash, a kind, a path, bytes
 abbrev pub ArgumentOf : Argument → Type 0
@@ -115,6 +119,8 @@ Makes form.Del v c = c ≡ command.Del v.0 v.1.0
 Makes form.Tx v c = (item : Item) × Keeps item v.1.0 v.1.1.0 × (c ≡ command.Tx v.0 item)
 Makes form.Close v c = c ≡ command.Close v.0 (v.1.0 ∷ v.1.1.0 ∷ v.1.1.1.0 ∷ v.1.1.1.1.0 ∷ [])
 Makes form.Abandon v c = c ≡ command.Abandon v.0
+Makes form.Begin v c = c ≡ command.Begin
+Makes form.Swap v c = c ≡ command.Swap
 
 -- the words behind a form's word say the command
 abbrev pub FormSays : Form → List Bytes → Command → Type 0

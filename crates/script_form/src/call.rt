@@ -50,6 +50,8 @@ fn said_by(alloc: Global, form: Form, arguments: &[&[u8]]) -> Result<Option<Comm
         Form::Tx => tx_of(alloc, arguments),
         Form::Close => Ok(close_of(arguments)),
         Form::Abandon => Ok(abandon_of(arguments)),
+        Form::Begin => Ok(Some(Command::Begin)),
+        Form::Swap => Ok(Some(Command::Swap)),
     }
 }
 

@@ -51,10 +51,12 @@ pub enum Form {
     Tx,
     Close,
     Abandon,
+    Begin,
+    Swap,
 }
 
 /// All forms.
-const FORMS: [Form; 18] = [
+const FORMS: [Form; 20] = [
     Form::Want,
     Form::Peer,
     Form::Base,
@@ -73,6 +75,8 @@ const FORMS: [Form; 18] = [
     Form::Tx,
     Form::Close,
     Form::Abandon,
+    Form::Begin,
+    Form::Swap,
 ];
 
 const WANT: [Argument; 2] = [Argument::Target, Argument::Number(4_294_967_295)];
@@ -139,6 +143,8 @@ const CLOSE: [Argument; 5] = [
 
 const ABANDON: [Argument; 1] = [Argument::Number(65_535)];
 
+const NONE: [Argument; 0] = [];
+
 impl Form {
     /// Whether this is the form's command word.
     fn has_word(self, word: &[u8]) -> bool
@@ -163,6 +169,8 @@ impl Form {
             Form::Tx => is_text(word, b"tx"),
             Form::Close => is_text(word, b"close"),
             Form::Abandon => is_text(word, b"abandon"),
+            Form::Begin => is_text(word, b"begin"),
+            Form::Swap => is_text(word, b"swap"),
         }
     }
 
@@ -189,6 +197,7 @@ impl Form {
             Form::Tx => &TX,
             Form::Close => &CLOSE,
             Form::Abandon => &ABANDON,
+            Form::Begin | Form::Swap => &NONE,
         }
     }
 }

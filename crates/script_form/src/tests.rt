@@ -10,7 +10,7 @@ use std::test::Fail;
 /// has; each line's number, actor and the line that it waits for; or the refused line and its cause. `T`
 /// is a hash, `Z` the zero hash, `I` the root's node ID, `_` 62 zeros, `%` 236 of them, `~` a newline, and
 /// `^` a byte that isn't printable.
-const READ: [(&str, &str); 41] = [
+const READ: [(&str, &str); 43] = [
     ("", ""),
     ("~  ~# x^x", "refused 3 1"),
     ("# T~~  0   check   T  ", "3 0 0;"),
@@ -55,6 +55,8 @@ const READ: [(&str, &str); 41] = [
         "0 edit 1 T~0 put 1 T 05~0 tx 1 T -~0 del 1 T~0 close 1 7 4294967295 255 255~0 abandon 1",
         "1 0 0;2 0 0;3 0 0;4 0 0;5 0 0;6 0 0;",
     ),
+    ("0 begin~0 swap", "1 0 0;2 0 0;"),
+    ("0 begin 1", "refused 1 6"),
     ("0 close 1 0 0 0", "refused 1 6"),
     ("0 close 1 18446744073709551616 0 0 0", "refused 1 7"),
     ("0 close 1 0 0 256 0", "refused 1 7"),

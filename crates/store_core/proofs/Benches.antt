@@ -1,6 +1,7 @@
 -- The machine's steps beside the open sessions.
-use Rattle.std.proofs.Common.{◌≡◌, ℕ, Bool, true, false, IsTrue, List, [], ◌∷◌, ◌++◌, ◌||◌, map, None, refl, sym, ap, ◌∙◌, subst}
-use Rattle.std.proofs.Common.{Result, Ok, Err, IfOk}
+use Rattle.std.proofs.Common.{◌≡◌, ℕ, Bool, true, false, IsTrue, List, [], ◌∷◌, ◌++◌, ◌||◌, map, Option, None, Some, refl, sym, ap, ◌∙◌}
+use Rattle.std.proofs.Common.{subst}
+use Rattle.std.proofs.Common.{Result, Ok, Err, IfOk, ⊎_elim}
 use Rattle.std.specs.Result.{OnErr}
 use Rattle.half_hash.specs.declared.bytes.Memory.{Memory}
 use Rattle.std.specs.List.{All, list_any}
@@ -8,7 +9,7 @@ use Rattle.std.specs.Map.{keys_of, values_of}
 use Rattle.std.proofs.lemmas.List.Folds.{list_any-append}
 use Rattle.std.proofs.lemmas.List.{append-nil}
 use Rattle.std.proofs.lemmas.Bool.{false≢true}
-use Rattle.ledger_spec.specs.Bytes.{Hash, Half, Lookup, same_bytes}
+use Rattle.ledger_spec.specs.Bytes.{Bytes, Hash, Half, Lookup, same_bytes}
 use Rattle.ledger_spec.specs.Maps.{ForActor, numbered_cmp, has_in, remove_in}
 use Rattle.ledger_spec.specs.Forms.{Held}
 use Rattle.ledger_spec.specs.Own.{AreStored}
@@ -19,12 +20,30 @@ use Rattle.ledger_machine.specs.declared.commands.Command.TheVariants as command
 use Rattle.ledger_machine.specs.declared.replies.Reply.{Reply}
 use Rattle.ledger_machine.specs.declared.replies.ViewReply.{ViewReply}
 use Rattle.ledger_machine.specs.declared.replies.ViewReply.TheVariants as view
-use Rattle.ledger_machine.specs.State.{State, Session, form_in, with_sessions}
-use Rattle.ledger_machine.specs.Scripts.{IsBeside, IsCovered}
-use Rattle.ledger_machine.specs.Views.{is_retained, after_view}
-use Rattle.ledger_machine.specs.Steps.{Step}
-use Rattle.ledger_laws.proofs.Beside.{step_beside}
-use Rattle.ledger_laws.proofs.Receipts.{step_grows}
+use Rattle.ledger_machine.specs.State.{State, Session, form_in, with_sessions, with_forms, stored_seq}
+use Rattle.ledger_machine.specs.Scripts.{IsBeside}
+use Rattle.ledger_machine.specs.Views.{is_retained, after_view, after_unview}
+use Rattle.ledger_machine.specs.Want.{want_reply, after_want}
+use Rattle.ledger_machine.specs.Peer.{after_peer}
+use Rattle.ledger_machine.specs.Check.{check_reply, after_check}
+use Rattle.ledger_machine.specs.Base.{after_base, after_node, node_forms}
+use Rattle.ledger_machine.specs.Ticks.{tick_reply, after_tick}
+use Rattle.ledger_machine.specs.Reading.{view_root}
+use Rattle.ledger_machine.specs.Steps.{IsAfter, Answered, Gets, Pages}
+use Rattle.ledger_machine.specs.Steps.{Does}
+use Rattle.ledger_machine.specs.declared.replies.WantReply.{WantReply}
+use Rattle.ledger_machine.specs.declared.replies.WantReply.TheVariants as want
+use Rattle.ledger_machine.specs.declared.replies.CheckReply.{CheckReply}
+use Rattle.ledger_machine.specs.declared.replies.CheckReply.TheVariants as check
+use Rattle.ledger_machine.specs.declared.replies.TickReply.{TickReply}
+use Rattle.ledger_machine.specs.declared.replies.TickReply.TheVariants as tick
+use Rattle.ledger_machine.specs.declared.replies.BaseReply.TheVariants as base
+use Rattle.ledger_machine.specs.declared.replies.NodeReply.TheVariants as node
+use Rattle.ledger_machine.specs.declared.replies.Reply.TheVariants as says
+use Rattle.ledger_spec.specs.declared.Kind.{Kind}
+use Rattle.ledger_spec.specs.Bases.{base_forms}
+use Rattle.ledger_laws.proofs.SoundForms.{grows_on, with_forms_grow}
+use Rattle.ledger_laws.proofs.Stored.{beside_grows}
 use Rattle.open_sessions.specs.Edited.{IsKept, session_in, sessions_in}
 use Rattle.open_sessions.specs.Rows.{AllKept}
 use Rattle.open_sessions.proofs.Editing.{kept_grows}
@@ -34,44 +53,36 @@ use Rattle.ledger_machine.specs.Sessions.{has_session, without_session}
 use Rattle.store_core.specs.Benches.{told_forms, with_open, KeepsDrafts}
 use Rattle.store_core.specs.Desks.{Desk, OnlyReads}
 
--- the laws cover the commands beside the sessions
-beside_covered : (c : Command) → IsBeside c → IsCovered c
-beside_covered (command.Want t seq) is = tt
-beside_covered (command.Peer p t) is = tt
-beside_covered (command.Base p t head state tx) is = tt
-beside_covered (command.Node p t kind path blob) is = tt
-beside_covered (command.Check t) is = tt
-beside_covered (command.Tick t) is = tt
-beside_covered (command.Unview v) is = tt
-beside_covered (command.Get v kind key) is = tt
-beside_covered (command.Page v kind key n) is = tt
-beside_covered _ is = absurd is
+-- what a command does, it does whatever sessions are open
+abbrev IsOneBeside : Half → State → State → ℕ → Command → Reply → List Held → Type 0
+IsOneBeside half s s' a c reply used =
+    (es : ForActor Session) → Does half s a c reply used s' → Does half (with_sessions s es) a c reply used (with_sessions s' es)
 
-module _ (half : Half) (law : StaysOverParent) (drafts : ForActor Draft) where
+module _ (half : Half) (stays : StaysOverParent) (drafts : ForActor Draft) where
   -- the drafts stay what they are as the store grows
   pub all_grow : (s s' : State) → Grows (form_in s) (form_in s') → AllKept half s drafts → AllKept half s' drafts
-  all_grow s s' up all = λ k d lt. (kept_grows half law (form_in s) (form_in s') _ up (all k d lt)).0
+  all_grow s s' up all = λ k d lt. (kept_grows half stays (form_in s) (form_in s') _ up (all k d lt)).0
 
   pub sessions_stay : (s s' : State) → Grows (form_in s) (form_in s') → AllKept half s drafts
       → sessions_in half (form_in s') drafts ≡ sessions_in half (form_in s) drafts
   sessions_stay s s' up all =
       over_same (session_in half (form_in s')) (session_in half (form_in s)) drafts
-      (λ k d lt. (kept_grows half law (form_in s) (form_in s') _ up (all k d lt)).1)
+      (λ k d lt. (kept_grows half stays (form_in s) (form_in s') _ up (all k d lt)).1)
 
-  -- a step of the machine is one with the sessions
+  -- what the machine does it does beside the sessions
   pub lifted : (tells : Bool) (s s' : State) (a : ℕ) (c : Command) (reply : Reply) (used : List Held) → IsTrue tells → IsBeside c
-      → s.turning ≡ None → AllKept half s drafts → Step half s a c reply used s'
-      → Step half (with_open half tells s drafts) a c reply used (with_open half tells s' drafts)
-  lifted true s s' a c reply used told is idle all step =
-      subst (λ (es : ForActor Session). Step half (with_open half true s drafts) a c reply used (with_sessions s' es))
-      (sym (sessions_stay s s' (step_grows half s s' a c reply used (beside_covered c is) step) all))
-      (step_beside half (sessions_in half (form_in s) drafts) s s' a c reply used is idle step)
-  lifted false s s' a c reply used told is idle all step = absurd (false≢true told)
+      → IsOneBeside half s s' a c reply used → AllKept half s drafts → Does half s a c reply used s'
+      → Does half (with_open half tells s drafts) a c reply used (with_open half tells s' drafts)
+  lifted true s s' a c reply used told is law all does =
+      subst (λ (es : ForActor Session). Does half (with_open half true s drafts) a c reply used (with_sessions s' es))
+      (sym (sessions_stay s s' (beside_grows half s s' a c reply used is does.outcome) all))
+      (law (sessions_in half (form_in s) drafts) does)
+  lifted false s s' a c reply used told is law all does = absurd (false≢true told)
 
   pub lifted_keeps : (tells : Bool) (s s' : State) (a : ℕ) (c : Command) (reply : Reply) (used : List Held) → IsBeside c
-      → (IsTrue tells → AllKept half s drafts) → (IsTrue tells → Step half s a c reply used s') → KeepsDrafts half tells s' drafts
-  lifted_keeps tells s s' a c reply used is all step told stored =
-      all_grow s s' (step_grows half s s' a c reply used (beside_covered c is) (step told)) (all told)
+      → (IsTrue tells → AllKept half s drafts) → (IsTrue tells → Does half s a c reply used s') → KeepsDrafts half tells s' drafts
+  lifted_keeps tells s s' a c reply used is all does told stored =
+      all_grow s s' (beside_grows half s s' a c reply used is (does told).outcome) (all told)
 
 -- a view changes no session
 pub viewed : (half : Half) (tells : Bool) (s : State) (drafts : ForActor Draft) (v : ℕ × ℕ) (t : Hash) (r : ViewReply)

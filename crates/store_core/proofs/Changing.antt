@@ -58,7 +58,17 @@ del_by half tells m n key old new x (Err e) told same c = tt
 pub reads_stays : (half : Half) (tells : Bool) (d d' : Desk) (old new : ForActor Draft) → OnlyReads tells d d'
     → Stays (record { state = with_open half tells d.state old; faults = d.faults })
     (record { state = with_open half tells d'.state new; faults = d'.faults })
-reads_stays half tells d d' old new read = record { later = read.later; listed = ap (λ (s : State). s.listed) read.tables }
+reads_stays half tells d d' old new read = record {
+  later = read.later;
+  listed = ap (λ (s : State). s.listed) read.tables;
+  epoch = ap (λ
+      (s : State). s.epoch) read.tables;
+}
+
+-- and tells nothing
+pub reads_told : (half : Half) (tells : Bool) (d d' : Desk) (old new : ForActor Draft) → OnlyReads tells d d'
+    → (with_open half tells d'.state new).shaded ≡ (with_open half tells d.state old).shaded
+reads_told half tells d d' old new read = ap (λ (s : State). s.shaded) read.tables
 
 module _ (half : Half) (tells : Bool) (s s' : State) (old new : ForActor Draft) (x : ℕ × ℕ) where
   -- where nothing was changed, the state is as before

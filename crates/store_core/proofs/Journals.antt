@@ -1,4 +1,5 @@
 -- How a journal grows, and what a core keeps meanwhile.
+use Rattle.std.proofs.Common.{IfSome, Option, None}
 use Rattle.std.proofs.Common.{◌≡◌, ℕ, zero, suc, Some, ◌+◌, ◌-◌, Result, Ok, ◌<◌, ◌≤◌, List, [], ◌∷◌, ◌++◌, map, length, take, drop}
 use Rattle.std.proofs.Common.{get_or, Bool, true, false, cond, refl, sym, ◌∙◌, ap, subst, arith, length-append, set, length-set, ◌≢◌}
 use Rattle.std.proofs.Common.{get_or-set_same, get_or-set_other}
@@ -18,9 +19,11 @@ use Rattle.ledger_machine.specs.State.{State}
 use Rattle.ledger_machine.specs.Steps.{Step}
 use Rattle.ledger_machine.specs.Runs.{Answers, IsRunOf, used_by, answered_by, Projects, opening_of}
 use Rattle.node_backend.specs.Counts.{held_sum}
-use Rattle.ledger_machine.specs.Scripts.{numbers_of, line_of, IsInRange, IsCovered}
-use Rattle.script_form.specs.Servable.{AreServable, IsServed}
+use Rattle.ledger_machine.specs.Scripts.{numbers_of, line_of, IsInRange}
+use Rattle.script_form.specs.Servable.{AreServable}
 use Rattle.ledger_machine.specs.Sound.{Sound}
+use Rattle.ledger_machine.specs.Rotation.{AreShaded}
+use Rattle.store_core.specs.Telling.{AreTold}
 use Rattle.ledger_laws.proofs.Openings.{records_are_sound}
 use Rattle.ledger_machine.specs.declared.commands.Command.TheVariants as command
 use Rattle.ledger_laws.proofs.RunLaws.{run_more}
@@ -134,26 +137,6 @@ answers half lines s s' line e from at next is number _ step =
       step = step;
     }
 
--- the laws cover the commands that are served
-pub served_acquires : (c : Command) → IsServed c → IsCovered c
-served_acquires (command.Want t seq) served = tt
-served_acquires (command.Peer p t) served = tt
-served_acquires (command.Base p t head state tx) served = tt
-served_acquires (command.Node p t kind path blob) served = tt
-served_acquires (command.Check t) served = tt
-served_acquires (command.Tick t) served = tt
-served_acquires (command.View v t) served = tt
-served_acquires (command.Unview v) served = tt
-served_acquires (command.Get v kind key) served = tt
-served_acquires (command.Page v kind key n) served = tt
-served_acquires (command.Edit x t) served = tt
-served_acquires (command.Put x item) served = tt
-served_acquires (command.Del x key) served = tt
-served_acquires (command.Tx x item) served = tt
-served_acquires (command.Close x fields) served = tt
-served_acquires (command.Abandon x) served = tt
-served_acquires _ served = absurd served
-
 module _ (half : Half) (records : List Record) (lines : List Line) (cursors : List ℕ) (journal : List Entry) (capacity interval : ℕ)
     (told : Bool)
     (opened now missed : ℕ) (s : State) (k : CoreKeeps half records lines cursors journal capacity interval told opened now missed s) where
@@ -188,15 +171,8 @@ module _ (half : Half) (records : List Record) (lines : List Line) (cursors : Li
       ap (map (λ (e : Entry). e.line)) (none_past (λ (e : Entry). e.actor) 64 a journal past k.known)
       ∙ sym (ap (map (λ (l : Line). l.number)) (none_past (λ (l : Line). l.actor) 64 a lines past k.servable.actors_known))
 
-  -- each line acquires a ledger
-  pub kept_acquires : (l : Line) → Contains lines l → IsCovered l.command
-  kept_acquires l among = served_acquires l.command (All-contains (λ x. IsServed x.command) lines l k.servable.served among)
-
   pub kept_ranges : (l : Line) → Contains lines l → IsInRange l.command
   kept_ranges l among = All-contains (λ x. IsInRange x.command) lines l k.servable.in_range among
-
-  pub kept_served : (at : ℕ) → at < length lines → (line : Line) → line ≡ get_or lines at line → IsServed line.command
-  kept_served at lt line is = let P : Line → Type 0 = λ l. IsServed l.command in subst P (sym is) (k.servable.served at line lt)
 
   pub kept_in_range : (at : ℕ) → at < length lines → (line : Line) → line ≡ get_or lines at line → IsInRange line.command
   kept_in_range at lt line is = let P : Line → Type 0 = λ l. IsInRange l.command in subst P (sym is) (k.servable.in_range at line lt)
@@ -251,7 +227,9 @@ module _ (half : Half) (records : List Record) (lines : List Line) (cursors : Li
   kept_moved a at lt within none = record {
     run = k.run;
     sound = k.sound;
+    roots = k.roots;
     listed_few = k.listed_few;
+    young = k.young;
     cursor_count = length-set cursors a at ∙ k.cursor_count;
     behind = λ b l. elim (b == a) as (λ t. (b == a) ≡ t → slice_index (set cursors a at) b ≤ length lines) [
       | true ↦ λ t.
@@ -317,12 +295,15 @@ module _ (half : Half) (records : List Record) (lines : List Line) (cursors : Li
 
     pub kept_step : (e : Entry) (s' : State) (c now' : ℕ) → e.line ≡ line.number → e.actor ≡ a
         → (line.after ≢ 0 → is_answered journal line.after ≡ true) → (IsTrue told → Step half s e.actor line.command e.reply (used_by e) s')
-        → (IsTrue told → Sound half s') → length s'.listed ≤ suc (length s.listed) → capacity ≤ c → now ≤ now'
+        → (IsTrue told → Sound half s') → (IsTrue told → AreTold s') → length s'.listed ≤ suc (length s.listed)
+        → s'.epoch ≤ suc s.epoch → capacity ≤ c → now ≤ now'
         → (e.reply ≡ says.Fault → Rose now now')
         → CoreKeeps half records lines (set cursors a (at + 1)) (journal ++ e ∷ []) c interval told opened now' missed s'
-    kept_step e s' c now' number actor free step sound few more later cause = record {
+    kept_step e s' c now' number actor free step sound roots few ages more later cause = record {
       sound = sound;
+      roots = roots;
       listed_few = omega (arith, few, k.listed_few, length-append journal (e ∷ []));
+      young = omega (arith, ages, k.young, length-append journal (e ∷ []));
       run = λ t. run_more half lines (opening_of records interval) s s' journal e (k.run t)
           (record {
             place = at;
@@ -367,13 +348,15 @@ module _ (half : Half) (records : List Record) (lines : List Line) (cursors : Li
         one e l (suc i) d in_it = absurd (omega arith)
 
   -- a section that answers no line
-  pub kept_listed : (s' : State) (now' missed' : ℕ) → (IsTrue told → s' ≡ s) → s'.listed ≡ s.listed
+  pub kept_listed : (s' : State) (now' missed' : ℕ) → (IsTrue told → s' ≡ s) → s'.listed ≡ s.listed → s'.epoch ≡ s.epoch
       → RoseBy (faults_in journal + missed') opened now'
       → CoreKeeps half records lines cursors journal capacity interval told opened now' missed' s'
-  kept_listed s' now' missed' same unlisted bound = record {
+  kept_listed s' now' missed' same unlisted age bound = record {
     run = λ t. subst (λ (x : State). IsRunOf half records lines interval journal x) (sym (same t)) (k.run t);
     sound = λ t. subst (Sound half) (sym (same t)) (k.sound t);
+    roots = λ t. subst AreTold (sym (same t)) (k.roots t);
     listed_few = omega (arith, k.listed_few, ap length unlisted);
+    young = omega (arith, k.young, age);
     cursor_count = k.cursor_count;
     behind = k.behind;
     done = k.done;
@@ -455,15 +438,18 @@ numbers_none a lines n e = ap (λ (k : ℕ). numbers_of a (take k lines)) e
 pub kept_open : (half : Half) (records : List Record) (lines : List Line) (cursors : List ℕ) (journal : List Entry) (capacity interval : ℕ)
     (told : Bool) (opened now : ℕ) (s : State)
     → journal ≡ [] → length cursors ≡ 64 → ((a : ℕ) → a < 64 → slice_index cursors a ≡ 0) → AreServable lines → AreRecords half records
-    → length lines ≤ capacity → opened ≡ now → s.listed ≡ [] → (IsTrue told → s ≡ opening_of records interval)
+    → length lines ≤ capacity → opened ≡ now → s.listed ≡ [] → s.turning ≡ None → s.epoch ≡ 0
+    → (IsTrue told → s ≡ opening_of records interval)
     → CoreKeeps half records lines cursors journal capacity interval told opened now 0 s
 kept_open half records lines cursors journal capacity interval told opened now s none size start_at servable recorded room same unlisted
-    start =
+    idle age start =
     let P : List Entry → Type 0 = λ j. CoreKeeps half records lines cursors j capacity interval told opened now 0 s in
     subst P (sym none) (record {
       run = start;
       sound = λ t. subst (Sound half) (sym (start t)) (records_are_sound half records interval recorded);
+      roots = λ t. subst (λ (o : Option ℕ). IfSome o (λ v. AreShaded s)) (sym idle) tt;
       listed_few = omega (arith, ap length unlisted);
+      young = omega (arith, age);
       cursor_count = size;
       behind = λ a l. omega (arith, start_at a l);
       done = λ a l. sym (numbers_none a lines (slice_index cursors a) (start_at a l));

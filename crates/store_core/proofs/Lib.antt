@@ -22,3 +22,9 @@ pub mod Keeping
 pub mod KeepingAll
 pub mod Sealing
 pub mod Publishing
+pub mod Roots
+pub mod Turns
+pub mod Retold
+pub mod Beginning
+pub mod Rotations
+pub mod Besides

@@ -1,5 +1,6 @@
 -- How the listed ledgers grow.
-use Rattle.std.proofs.Common.{◌≡◌, ◌≤◌, ℕ, suc, List, [], ◌∷◌, length, refl, arith}
+use Rattle.std.specs.List.{filter}
+use Rattle.std.proofs.Common.{Bool, true, false, cond, nat_le, ◌≡◌, ◌≤◌, ℕ, suc, List, [], ◌∷◌, length, refl, arith}
 use Rattle.std.specs.Ordering.{match_ordering}
 use Rattle.std.specs.declared.cmp.Ordering.TheVariants.{Less, Equal, Greater}
 use Rattle.ledger_spec.specs.Bytes.{Hash}
@@ -13,6 +14,9 @@ use Rattle.acquire_core.specs.declared.replies.CheckReply.{CheckReply as Checked
 use Rattle.acquire_core.specs.declared.replies.CheckReply.TheVariants as checked
 use Rattle.ledger_machine.specs.State.{State}
 use Rattle.ledger_machine.specs.Want.{after_want}
+use Rattle.ledger_machine.specs.declared.replies.BeginReply.{BeginReply}
+use Rattle.ledger_machine.specs.declared.replies.BeginReply.TheVariants as begins
+use Rattle.ledger_machine.specs.Rotation.{after_begin}
 use Rattle.store_core.specs.Wanting.{settled}
 
 -- a new entry makes a table longer by one, or takes the place of another
@@ -33,6 +37,20 @@ ListsFew s s' = length s'.listed ≤ suc (length s.listed)
 pub want_listed : (s : State) (t : Hash) (seq : ℕ) (r : WantReply) → (after_want s t seq r).listed ≡ s.listed
 want_listed s t seq want.Opened = refl
 want_listed s t seq _ = refl
+
+-- what passes a test is no more
+filter_few : {X : Type 0} (p : X → Bool) (xs : List X) → length (filter p xs) ≤ length xs
+filter_few p [] = omega arith
+filter_few p (x ∷ xs) = elim (p x) as (λ b. length (cond b (x ∷ filter p xs) (filter p xs)) ≤ suc (length xs)) [
+  | true ↦ omega (arith, filter_few p xs)
+  | false ↦ omega (arith, filter_few p xs)
+]
+
+-- a rotation that begins lists none
+pub begin_few : (s : State) (r : BeginReply) → ListsFew s (after_begin s r)
+begin_few s (begins.Begun v floor) = omega (arith, filter_few (λ (e : Hash × ℕ). nat_le floor e.1) s.listed)
+begin_few s begins.NotDue = omega arith
+begin_few s begins.Busy = omega arith
 
 -- only a complete ledger is listed
 pub settled_few : (s : State) (t : Hash) (seq : ℕ) (r : Checked) → ListsFew s (settled s t seq r)

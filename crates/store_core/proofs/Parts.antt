@@ -1,4 +1,4 @@
--- What an acquisition takes of a peer is a step of the machine.
+-- What an acquisition takes of a peer is what the machine does.
 use Rattle.std.proofs.Common.{◌≡◌, ℕ, List, [], Option, None, Some, Bool, true, false, if◌then◌else◌, Result, Ok, Err, Contains, IsTrue}
 use Rattle.std.proofs.Common.{refl, sym, ap, ◌∙◌, subst}
 use Rattle.std.proofs.lemmas.List.Elements.{Contains-append_left}
@@ -35,12 +35,13 @@ use Rattle.ledger_machine.specs.declared.replies.Reply.TheVariants as says
 use Rattle.ledger_machine.specs.State.{State, form_in, with_forms, with_peers}
 use Rattle.ledger_machine.specs.Scripts.{AreBytes, AreOffered}
 use Rattle.ledger_machine.specs.Base.{base_said, base_reply, node_said, node_reply, if_present}
-use Rattle.ledger_machine.specs.Steps.{Step, Refused, own_forms}
+use Rattle.ledger_machine.specs.Steps.{Refused, own_forms}
+use Rattle.ledger_machine.specs.Steps.{Does}
 use Rattle.ledger_laws.proofs.SoundOffers.{parts_fit}
 use Rattle.store_core.specs.Desks.{over}
 use Rattle.store_core.specs.Refusals.{search_refusal}
 use Rattle.store_core.specs.Wanting.{base_answer, node_answer}
-use Rattle.store_core.proofs.States.{set_same, same_shaded, idle_carries, refused_nothing}
+use Rattle.store_core.proofs.States.{set_same, same_shaded, refused_nothing}
 use Rattle.store_core.proofs.Tables.{IsOver, stored_over}
 
 -- a base reply's parts, and a node, as the machine names them
@@ -127,8 +128,7 @@ module _ (half : Half) (st st' : Store) (s : State) (t : Hash) (p : ℕ) (a a' :
       → HasForms half forms st st' → Refused half s actor c after
   all_refused actor c forms e each has = record { forms = forms; own = each; same = same_shaded after _ (stayed forms e has) }
 
-  module _ (header : Bytes) (state tx : Option Bytes) (sized : IsHalf half) (offers : AreOffered t header state tx) (actor : ℕ)
-      (idle : s.turning ≡ None) where
+  module _ (header : Bytes) (state tx : Option Bytes) (sized : IsHalf half) (offers : AreOffered t header state tx) (actor : ℕ) where
     abbrev outcome : Result Judged Clash
     outcome = base_outcome half (form_in s) t header state tx
 
@@ -158,11 +158,11 @@ module _ (half : Half) (st st' : Store) (s : State) (t : Hash) (p : ℕ) (a a' :
         (own_form forms form present i, (parts_fit half sized (form_in s) t header state tx form offers i).nonzero)
 
     -- a base reply is taken
-    pub step_base : (r : Result Taken OfferFault) → acquire.TakesBase a p r a'
+    pub does_base : (r : Result Taken OfferFault) → acquire.TakesBase a p r a'
         → Answers half (acquire.base_reply half (forms_in st) a p header state tx)
         (acquire.base_stores half (forms_in st) a p header state tx) st r st'
-        → Step half s actor asks (base_answer r) [] after
-    step_base (Ok (taken.Parts h x y)) takes answers =
+        → Does half s actor asks (base_answer r) [] after
+    does_base (Ok (taken.Parts h x y)) takes answers =
         let j : Judged = record { header = h; state = x; tx = y } in
         let judged : outcome ≡ Ok j = parts_ok outcome h x y (sym (reply_is true takes.asked) ∙ answers.0) in
         record {
@@ -172,9 +172,8 @@ module _ (half : Half) (st st' : Store) (s : State) (t : Hash) (p : ℕ) (a a' :
                 (subst (λ fs. HasForms half fs st st') (stores_are true takes.asked) answers.1));
           };
           uses = refl;
-          carries = idle_carries s after _ idle;
         }
-    step_base (Ok taken.Unasked) takes answers =
+    does_base (Ok taken.Unasked) takes answers =
         record {
           outcome = record {
             says = sym (row_is false takes.asked);
@@ -182,10 +181,9 @@ module _ (half : Half) (st st' : Store) (s : State) (t : Hash) (p : ℕ) (a a' :
                 (subst (λ fs. HasForms half fs st st') (stores_are false takes.asked) answers.1));
           };
           uses = refl;
-          carries = idle_carries s after _ idle;
         }
-    step_base (Ok taken.NotOpen) takes answers = absurd takes.asked
-    step_base (Err (fault.Clash h old new)) takes answers =
+    does_base (Ok taken.NotOpen) takes answers = absurd takes.asked
+    does_base (Err (fault.Clash h old new)) takes answers =
         let c : Clash = record { hash = h; old = old; new = new } in
         let judged : outcome ≡ Err c = parts_err outcome c (sym (reply_is true takes.asked) ∙ answers.0) in
         record {
@@ -195,9 +193,8 @@ module _ (half : Half) (st st' : Store) (s : State) (t : Hash) (p : ℕ) (a a' :
                 (subst (λ fs. HasForms half fs st st') (stores_are true takes.asked) answers.1),
           );
           uses = refl;
-          carries = idle_carries s after _ idle;
         }
-    step_base (Err fault.Fault) takes answers =
+    does_base (Err fault.Fault) takes answers =
         record {
           outcome = (
             tt,
@@ -205,9 +202,8 @@ module _ (half : Half) (st st' : Store) (s : State) (t : Hash) (p : ℕ) (a a' :
                 (subst (λ fs. HasFront half fs st st') (stores_are true takes.asked) answers),
           );
           uses = refl;
-          carries = idle_carries s after _ idle;
         }
-    step_base (Err fault.Memory) takes answers =
+    does_base (Err fault.Memory) takes answers =
         record {
           outcome = (
             tt,
@@ -215,11 +211,9 @@ module _ (half : Half) (st st' : Store) (s : State) (t : Hash) (p : ℕ) (a a' :
                 (subst (λ fs. HasFront half fs st st') (stores_are true takes.asked) answers),
           );
           uses = refl;
-          carries = idle_carries s after _ idle;
         }
 
-  module _ (kind : Kind) (path : List ℕ) (blob : Bytes) (sized : IsHalf half) (all : AreBytes blob) (actor : ℕ)
-      (idle : s.turning ≡ None) where
+  module _ (kind : Kind) (path : List ℕ) (blob : Bytes) (sized : IsHalf half) (all : AreBytes blob) (actor : ℕ) where
     abbrev node_judged : Result Offered Clash
     node_judged = node_outcome half (form_in s) t kind path blob
 
@@ -247,11 +241,11 @@ module _ (half : Half) (st st' : Store) (s : State) (t : Hash) (p : ℕ) (a a' :
         (own_form node_stored form present i, (node_fits half sized (form_in s) t kind path blob form all i).nonzero)
 
     -- a node is taken
-    pub step_node : (r : Result TakenNode OfferFault) → acquire.TakesNode a p r a'
+    pub does_node : (r : Result TakenNode OfferFault) → acquire.TakesNode a p r a'
         → Answers half (acquire.node_reply half (forms_in st) a p kind path blob)
         (acquire.node_stores half (forms_in st) a p kind path blob) st r st'
-        → Step half s actor sends (node_answer r) [] after
-    step_node (Ok (taken_node.One o)) takes answers =
+        → Does half s actor sends (node_answer r) [] after
+    does_node (Ok (taken_node.One o)) takes answers =
         let judged : node_judged ≡ Ok o = one_ok node_judged o (sym (node_reply_is true takes.asked) ∙ answers.0) in
         record {
           outcome = record {
@@ -260,9 +254,8 @@ module _ (half : Half) (st st' : Store) (s : State) (t : Hash) (p : ℕ) (a a' :
                 (subst (λ fs. HasForms half fs st st') (node_stores_are true takes.asked) answers.1));
           };
           uses = refl;
-          carries = idle_carries s after _ idle;
         }
-    step_node (Ok taken_node.Unasked) takes answers =
+    does_node (Ok taken_node.Unasked) takes answers =
         record {
           outcome = record {
             says = sym (node_row_is false takes.asked);
@@ -270,10 +263,9 @@ module _ (half : Half) (st st' : Store) (s : State) (t : Hash) (p : ℕ) (a a' :
                 (subst (λ fs. HasForms half fs st st') (node_stores_are false takes.asked) answers.1));
           };
           uses = refl;
-          carries = idle_carries s after _ idle;
         }
-    step_node (Ok taken_node.NotOpen) takes answers = absurd takes.asked
-    step_node (Err (fault.Clash h old new)) takes answers =
+    does_node (Ok taken_node.NotOpen) takes answers = absurd takes.asked
+    does_node (Err (fault.Clash h old new)) takes answers =
         let c : Clash = record { hash = h; old = old; new = new } in
         let judged : node_judged ≡ Err c = one_err node_judged c (sym (node_reply_is true takes.asked) ∙ answers.0) in
         record {
@@ -283,9 +275,8 @@ module _ (half : Half) (st st' : Store) (s : State) (t : Hash) (p : ℕ) (a a' :
                 (subst (λ fs. HasForms half fs st st') (node_stores_are true takes.asked) answers.1),
           );
           uses = refl;
-          carries = idle_carries s after _ idle;
         }
-    step_node (Err fault.Fault) takes answers =
+    does_node (Err fault.Fault) takes answers =
         record {
           outcome = (
             tt,
@@ -293,9 +284,8 @@ module _ (half : Half) (st st' : Store) (s : State) (t : Hash) (p : ℕ) (a a' :
                 (subst (λ fs. HasFront half fs st st') (node_stores_are true takes.asked) answers),
           );
           uses = refl;
-          carries = idle_carries s after _ idle;
         }
-    step_node (Err fault.Memory) takes answers =
+    does_node (Err fault.Memory) takes answers =
         record {
           outcome = (
             tt,
@@ -303,13 +293,12 @@ module _ (half : Half) (st st' : Store) (s : State) (t : Hash) (p : ℕ) (a a' :
                 (subst (λ fs. HasFront half fs st st') (node_stores_are true takes.asked) answers),
           );
           uses = refl;
-          carries = idle_carries s after _ idle;
         }
 
 -- a search without an answer
-pub step_unsearched : (half : Half) (s s' : State) (actor : ℕ) (t : Hash) (e : SearchFault) → s.turning ≡ None → s' ≡ s
-    → Step half s actor (command.Check t) (search_refusal e) [] s'
-step_unsearched half s s' actor t search.Fault idle same =
-    record { outcome = (tt, refused_nothing half s s' actor (command.Check t) same); uses = refl; carries = idle_carries s s' _ idle }
-step_unsearched half s s' actor t search.Memory idle same =
-    record { outcome = (tt, refused_nothing half s s' actor (command.Check t) same); uses = refl; carries = idle_carries s s' _ idle }
+pub does_unsearched : (half : Half) (s s' : State) (actor : ℕ) (t : Hash) (e : SearchFault) → s' ≡ s
+    → Does half s actor (command.Check t) (search_refusal e) [] s'
+does_unsearched half s s' actor t search.Fault same =
+    record { outcome = (tt, refused_nothing half s s' actor (command.Check t) same); uses = refl }
+does_unsearched half s s' actor t search.Memory same =
+    record { outcome = (tt, refused_nothing half s s' actor (command.Check t) same); uses = refl }

@@ -40,14 +40,9 @@ use Rattle.open_sessions.specs.Edited.{IsKept, items_in, session_in}
 use Rattle.open_sessions.proofs.Closing.{picks_same, header_same, forms_same}
 use Rattle.open_sessions.proofs.Tables.{over_get}
 use Rattle.store_core.specs.Benches.{told_forms, with_open, KeepsDrafts}
-use Rattle.store_core.specs.Closing.{AreNamed, IsMade, IsUnmade, fields_of, unsealed_by}
+use Rattle.store_core.specs.Closing.{IsMade, IsUnmade, fields_of, unsealed_by}
 
--- forms that are given under their own hashes are so named, and are those forms
-named_all : (half : Half) (forms : List Bytes) → AreNamed half (map (named half) forms)
-named_all half [] k d lt = absurd (omega arith)
-named_all half (form ∷ forms) zero d lt = refl
-named_all half (form ∷ forms) (suc k) d lt = named_all half forms k d (omega (arith, lt))
-
+-- forms that are given under their hashes are those forms
 named_forms : (half : Half) (forms : List Bytes) → map (λ f. f.form) (map (named half) forms) ≡ forms
 named_forms half [] = refl
 named_forms half (form ∷ forms) = ap (λ t. form ∷ t) (named_forms half forms)
@@ -254,14 +249,6 @@ module _ (half : Half) (ms : State) (drafts : ForActor Draft) (x : ℕ × ℕ) (
           → draft.Closes half stored d f accounts txs c
       pub zero : (stored : Lookup) (accounts txs : Items) → AreOwn half stored → Edits half stored d accounts txs
           → draft.NamesFirst half stored d f accounts txs (Ok c)
-
-    pub made_named : (tells : Bool) (f : Fields) (c : Closed) → Asked half tells ms drafts x d given → Gives f c → IsTrue tells
-        → AreNamed half c.forms.items
-    made_named true f c a g told =
-        subst (AreNamed half) (sym (g.closes (form_in ms) accounts txs (λ h form held. ((a.sound refl).forms h form held).own)
-        (kept_of a).edits).forms)
-        (named_all half (draft.new_forms half d c.header))
-    made_named false f c a g told = absurd (false≢true told)
 
     pub made_whole : (tells : Bool) (next floor : ℕ) (f : Fields) (c : Closed) → Asked half tells ms drafts x d given
         → next ≡ d.parent.seq + 1 → floor ≡ ms.floor → floor ≤ next → f ≡ fields_of given → Gives f c → IsTrue tells

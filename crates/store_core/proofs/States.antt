@@ -1,6 +1,6 @@
 -- Changes of states, and the steps that they are.
 use Rattle.std.proofs.Common.{◌≡◌, ◌<◌, IsTrue, Contains, ℕ, List, [], ◌∷◌, Option, Some, None}
-use Rattle.std.proofs.Common.{Result, Ok, Err, Bool, true, false, cond, refl, sym, ◌∙◌, ap, subst, arith}
+use Rattle.std.proofs.Common.{Result, Ok, Err, Bool, true, false, cond, is_some, if◌then◌else◌, refl, sym, ◌∙◌, ap, subst, arith}
 use Rattle.std.specs.Map.{lookup, set_value}
 use Rattle.std.specs.Result.{OnErr}
 use Rattle.ledger_spec.specs.Bytes.{Bytes, Hash, Half, is_nonzero}
@@ -12,13 +12,15 @@ use Rattle.ledger_machine.specs.declared.replies.WantReply.{WantReply}
 use Rattle.ledger_machine.specs.declared.replies.PeerReply.{PeerReply}
 use Rattle.ledger_machine.specs.declared.replies.CheckReply.{CheckReply}
 use Rattle.ledger_machine.specs.declared.replies.Reply.TheVariants as says
-use Rattle.ledger_machine.specs.State.{State, stored_seq}
+use Rattle.std.specs.FinMap as finite
+use Rattle.std.specs.FinSet as set
+use Rattle.ledger_machine.specs.State.{State, form_in, with_form, stored_seq}
 use Rattle.store_core.specs.Desks.{Desk}
 use Rattle.ledger_machine.specs.Want.{want_reply, after_want}
 use Rattle.ledger_machine.specs.Peer.{peer_reply, after_peer}
 use Rattle.ledger_machine.specs.Check.{check_reply, after_check}
-use Rattle.ledger_machine.specs.Rotation.{WhileTurning}
-use Rattle.ledger_machine.specs.Steps.{Step, Refused, IsAfter, own_forms, MayBeRefused}
+use Rattle.ledger_machine.specs.Steps.{Refused, IsAfter, own_forms, MayBeRefused}
+use Rattle.ledger_machine.specs.Steps.{Does}
 
 some_injective : {X : Type 0} {x y : X} → Some x ≡ Some y → x ≡ y
 some_injective {X} {x} {y} e = ap (λ (o : Option X). elim o [ Some z ↦ z | None ↦ x ]) e
@@ -48,40 +50,44 @@ on_err (Err e) p = p
 pub same_shaded : (s' t : State) → s' ≡ t → IsAfter t s'
 same_shaded s' t e = subst (λ x. x ≡ record t { shaded = x.shaded }) (sym e) refl
 
--- steps without a rotation
-pub idle_carries : (s s' : State) (P : Type 0) → s.turning ≡ None → WhileTurning s.turning s'.turning P
-idle_carries s s' P idle = rw idle tt
+pub after_on : (s t u : State) → IsAfter s t → IsAfter t u → IsAfter s u
+after_on s t u a b = b ∙ ap (λ (x : State). record x { shaded = u.shaded }) a
 
-pub step_want : (half : Half) (s s' : State) (actor : ℕ) (t : Hash) (seq : ℕ) (r : WantReply) → s.turning ≡ None → r ≡ want_reply s t seq
+pub form_after : (half : Half) (s t : State) (form : Bytes) → IsAfter s t → IsAfter (with_form half s form) (with_form half t form)
+form_after half s t form a =
+    subst (λ (x : State). IsAfter (with_form half s form) (with_form half x form)) (sym a) (at (is_some (form_in s (half form))))
+  where
+    more : State → State
+    more x = record x { nodes = finite.insert s.nodes (half form) form; born = set.insert s.born (half form) }
+
+    at : (b : Bool) → IsAfter (if b then s else more s)
+        (if b then record s { shaded = t.shaded } else more (record s { shaded = t.shaded }))
+    at true = refl
+    at false = refl
+
+-- what commands do, by their replies
+pub does_want : (half : Half) (s s' : State) (actor : ℕ) (t : Hash) (seq : ℕ) (r : WantReply) → r ≡ want_reply s t seq
     → s' ≡ after_want s t seq r
-    → Step half s actor (command.Want t seq) (says.Want r) [] s'
-step_want half s s' actor t seq r idle e after =
+    → Does half s actor (command.Want t seq) (says.Want r) [] s'
+does_want half s s' actor t seq r e after =
     record {
       outcome = record { says = ap says.Want e; after = same_shaded s' _ (after ∙ ap (after_want s t seq) e) };
-      uses =
-          refl;
-      carries = idle_carries s s' _ idle;
+      uses = refl;
     }
 
-pub step_peer : (half : Half) (s s' : State) (actor p : ℕ) (t : Hash) (r : PeerReply) → s.turning ≡ None → r ≡ peer_reply s p t
+pub does_peer : (half : Half) (s s' : State) (actor p : ℕ) (t : Hash) (r : PeerReply) → r ≡ peer_reply s p t
     → s' ≡ after_peer s p t
-    → Step half s actor (command.Peer p t) (says.Peer r) [] s'
-step_peer half s s' actor p t r idle e after =
-    record {
-      outcome = record { says = ap says.Peer e; after = same_shaded s' _ after };
-      uses =
-          refl;
-      carries = idle_carries s s' _ idle;
-    }
+    → Does half s actor (command.Peer p t) (says.Peer r) [] s'
+does_peer half s s' actor p t r e after =
+    record { outcome = record { says = ap says.Peer e; after = same_shaded s' _ after }; uses = refl }
 
-pub step_check : (half : Half) (s s' : State) (actor : ℕ) (t : Hash) (r : CheckReply) → s.turning ≡ None → r ≡ check_reply half s t
+pub does_check : (half : Half) (s s' : State) (actor : ℕ) (t : Hash) (r : CheckReply) → r ≡ check_reply half s t
     → s' ≡ after_check s t (stored_seq s t) r
-    → Step half s actor (command.Check t) (says.Check r) [] s'
-step_check half s s' actor t r idle e after =
+    → Does half s actor (command.Check t) (says.Check r) [] s'
+does_check half s s' actor t r e after =
     record {
       outcome = record { says = ap says.Check e; after = same_shaded s' _ (after ∙ ap (after_check s t (stored_seq s t)) e) };
       uses = refl;
-      carries = idle_carries s s' _ idle;
     }
 
 nothing_own : (half : Half) (s : State) (actor : ℕ) (c : Command) (form : Bytes) → Contains [] form
@@ -91,7 +97,6 @@ nothing_own half s actor c form h = absurd (let below : h.0 < 0 = h.1 in omega (
 pub refused_nothing : (half : Half) (s s' : State) (actor : ℕ) (c : Command) → s' ≡ s → Refused half s actor c s'
 refused_nothing half s s' actor c e = record { forms = []; own = nothing_own half s actor c; same = same_shaded s' s e }
 
-pub step_memory : (half : Half) (s s' : State) (actor : ℕ) (c : Command) → MayBeRefused c → s.turning ≡ None → s' ≡ s
-    → Step half s actor c says.Memory [] s'
-step_memory half s s' actor c may idle e =
-    record { outcome = (may, refused_nothing half s s' actor c e); uses = refl; carries = idle_carries s s' _ idle }
+pub does_memory : (half : Half) (s s' : State) (actor : ℕ) (c : Command) → MayBeRefused c → s' ≡ s
+    → Does half s actor c says.Memory [] s'
+does_memory half s s' actor c may e = record { outcome = (may, refused_nothing half s s' actor c e); uses = refl }

@@ -33,8 +33,8 @@ use Rattle.path_proof.specs.Paths.{held_nodes}
 use Rattle.ledger_spec.specs.Forms.{Held}
 use Rattle.ledger_machine.specs.declared.commands.Command.TheVariants as command
 use Rattle.ledger_machine.specs.declared.replies.Reply.TheVariants as says
-use Rattle.ledger_machine.specs.Steps.{Step}
-use Rattle.store_core.proofs.States.{refused_nothing, idle_carries}
+use Rattle.ledger_machine.specs.Steps.{Does}
+use Rattle.store_core.proofs.States.{refused_nothing}
 use Rattle.store_core.proofs.Tables.{IsOver, same_over}
 
 -- the root of an open view's map
@@ -106,25 +106,22 @@ retained_by s t none =
     (sym none)
 
 -- what is got of a view is a step of the machine
-pub step_got : (half : Half) (s s' : State) (actor view : ℕ) (kind : Kind) (key : Hash) (got : Got) → s.turning ≡ None
+pub does_got : (half : Half) (s s' : State) (actor view : ℕ) (kind : Kind) (key : Hash) (got : Got)
     → IsGot half s kind key (view_root s kind (actor, view)) s' got
-    → Step half s actor (command.Get view kind key) (says.Get got.reply) (held_nodes got.used.items) s'
-step_got half s s' actor view kind key got idle is = record {
+    → Does half s actor (command.Get view kind key) (says.Get got.reply) (held_nodes got.used.items) s'
+does_got half s s' actor view kind key got is = record {
   outcome = is.gets;
   uses = is.uses;
-  carries = idle_carries s s' _ idle;
 }
 
 -- and so is a refusal, which leaves the state
-pub step_ungot : (half : Half) (s s' : State) (actor view : ℕ) (kind : Kind) (key : Hash) (why : BackFault) (used : List Held)
-    → s.turning ≡ None → s' ≡ s → used ≡ [] → Step half s actor (command.Get view kind key) (read_refusal why) used s'
-step_ungot half s s' actor view kind key back.Fault used idle same none = record {
+pub does_ungot : (half : Half) (s s' : State) (actor view : ℕ) (kind : Kind) (key : Hash) (why : BackFault) (used : List Held)
+    → s' ≡ s → used ≡ [] → Does half s actor (command.Get view kind key) (read_refusal why) used s'
+does_ungot half s s' actor view kind key back.Fault used same none = record {
   outcome = (tt, refused_nothing half s s' actor (command.Get view kind key) same);
   uses = none;
-  carries = idle_carries s s' _ idle;
 }
-step_ungot half s s' actor view kind key back.Memory used idle same none = record {
+does_ungot half s s' actor view kind key back.Memory used same none = record {
   outcome = (tt, refused_nothing half s s' actor (command.Get view kind key) same);
   uses = none;
-  carries = idle_carries s s' _ idle;
 }

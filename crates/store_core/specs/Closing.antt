@@ -1,13 +1,12 @@
 -- What a close does to the store.
 use Rattle.std.specs.Prelude.{◌≡◌, ◌≢◌, ◌⊎◌, ◌==◌, ◌++◌, ℕ, Bool, false, nat_lt, IsTrue, List, map, length, None, Some, Result, Ok, Err}
-use Rattle.std.specs.List.{All, Contains, find}
+use Rattle.std.specs.List.{Contains, find}
 use Rattle.ledger_spec.specs.Bytes.{Bytes, Half, is_zero}
 use Rattle.ledger_spec.specs.Forms.{header_prefix}
 use Rattle.ledger_spec.specs.Header.{seq_of}
 use Rattle.ledger_spec.specs.Maps.{numbered_cmp, get_in}
 use Rattle.cow_map.specs.declared.fault.MapFault.{MapFault}
 use Rattle.cow_map.specs.declared.fault.MapFault.TheVariants as maps
-use Rattle.cow_map.specs.declared.seal.FormOf.{FormOf}
 use Rattle.edit_session.specs.declared.close.Closed.{Closed}
 use Rattle.edit_session.specs.declared.close.Fields.{Fields}
 use Rattle.ledger_machine.specs.declared.replies.CloseReply.TheVariants as close
@@ -21,25 +20,27 @@ use Rattle.rotating_store.specs.declared.store.StoreFault.{StoreFault}
 use Rattle.rotating_store.specs.declared.store.StoreFault.TheVariants as causes
 use Rattle.ledger_machine.specs.Closing.{clash_under, first_clash, new_header, closing_forms, close_reply}
 use Rattle.ledger_machine.specs.State.{State, Session, form_in, with_form, with_forms}
+use Rattle.ledger_machine.specs.Steps.{IsAfter}
 
--- the form is stored, unless another one is there, which is told; after a fault, or for want of memory, it may be stored
+-- But for what a rotation was told: the form is stored, unless another one is there, which is named; after a fault, or for want of memory,
+-- it may be stored.
 abbrev pub MayKeep : {X : Type 0} → Half → State → Bytes → Result X OfferFault → State → Type 0
-MayKeep half s form (Ok x) s' = (clash_under (half form) form (form_in s (half form)) ≡ None) × (s' ≡ with_form half s form)
+MayKeep half s form (Ok x) s' = (clash_under (half form) form (form_in s (half form)) ≡ None) × IsAfter (with_form half s form) s'
 MayKeep half s form (Err (faults.Clash h old new)) s' =
-    (clash_under (half form) form (form_in s (half form)) ≡ Some (record { hash = h; old = old; new = new })) × (s' ≡ s)
-MayKeep half s form (Err faults.Fault) s' = (s' ≡ s) ⊎ (s' ≡ with_form half s form)
-MayKeep half s form (Err faults.Memory) s' = (s' ≡ s) ⊎ (s' ≡ with_form half s form)
+    (clash_under (half form) form (form_in s (half form)) ≡ Some (record { hash = h; old = old; new = new })) × IsAfter s s'
+MayKeep half s form (Err faults.Fault) s' = IsAfter s s' ⊎ IsAfter (with_form half s form) s'
+MayKeep half s form (Err faults.Memory) s' = IsAfter s s' ⊎ IsAfter (with_form half s form) s'
 
 -- some of the forms are stored, from the first on
 pub record KeptSome (half : Half) (s : State) (forms : List Bytes) (s' : State) : Type 0 where
   pub kept : List Bytes
   pub rest : List Bytes
   pub whole : forms ≡ kept ++ rest
-  pub state : s' ≡ with_forms half s kept
+  pub state : IsAfter (with_forms half s kept) s'
 
--- all are stored, or the first clash is told, or the store failed: then some are
+-- all are stored, or the first clash is named, or the store failed: then some are
 abbrev pub MayKeepAll : {X : Type 0} → Half → State → List Bytes → Result X OfferFault → State → Type 0
-MayKeepAll half s forms (Ok x) s' = (first_clash half s forms ≡ None) × (s' ≡ with_forms half s forms)
+MayKeepAll half s forms (Ok x) s' = (first_clash half s forms ≡ None) × IsAfter (with_forms half s forms) s'
 MayKeepAll half s forms (Err (faults.Clash h old new)) s' =
     (first_clash half s forms ≡ Some (record { hash = h; old = old; new = new })) × KeptSome half s forms s'
 MayKeepAll half s forms (Err faults.Fault) s' = KeptSome half s forms s'
@@ -64,10 +65,6 @@ fields_of given = record {
   resolution = resolution_in given;
   flags = flags_in given;
 }
-
--- each form is given with its own hash
-abbrev pub AreNamed : Half → List FormOf → Type 0
-AreNamed half forms = All (λ f. f.hash ≡ half f.form) forms
 
 -- The ledger that an open session closes into, where it may be stored: its account state isn't empty, its sequence not below the floor, and
 -- no form of it has the zero hash. The forms that were made of it are some of all, and storing them comes to what storing all does.

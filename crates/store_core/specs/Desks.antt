@@ -1,9 +1,13 @@
 -- What the commands act on: the state over a store, and the store's count of faults.
-use Rattle.std.specs.Prelude.{◌≡◌, ◌≤◌, ℕ, suc, Bool, IsTrue, length}
-use Rattle.ledger_spec.specs.Bytes.{Half}
+use Rattle.std.specs.Prelude.{◌≡◌, ◌≤◌, ℕ, suc, Bool, IsTrue, [], length}
+use Rattle.ledger_spec.specs.Bytes.{Hash, Half}
+use Rattle.ledger_spec.specs.Maps.{ForHash, ForActor}
+use Rattle.ledger_spec.specs.Acquiring.{Acquiring}
+use Rattle.ledger_spec.specs.Retaining.{Retention}
 use Rattle.ledger_spec.specs.Own.{AreStored}
 use Rattle.ledger_machine.specs.State.{State, form_in}
 use Rattle.rotating_store.specs.Stores.{Store, nodes_of, born_of}
+use Rattle.online_rotate.specs.Rotators.{Turning}
 
 -- a state, and how often the devices of its store failed
 pub record Desk : Type 0 where
@@ -14,19 +18,38 @@ pub record Desk : Type 0 where
 abbrev pub over : Store → State → State
 over st s = record s { nodes = nodes_of st; born = born_of st; epoch = st.epoch }
 
+-- the state over a store, with these acquisitions and views, by a book and a rotator; no session is open
+abbrev pub state_of : Store → ForHash Acquiring → ForActor Hash → Retention → Turning → State
+state_of st wanted views b r = record {
+  nodes = nodes_of st;
+  born = born_of st;
+  epoch = st.epoch;
+  listed = b.listed;
+  wanted = wanted;
+  views = views;
+  sessions = [];
+  floor = b.floor;
+  last = b.last;
+  interval = b.interval;
+  turning = b.turning;
+  shaded = r.shaded;
+}
+
 -- where the store tells what it holds, all of it are forms under their own hashes
 abbrev pub IsFiled : Half → Bool → State → Type 0
 IsFiled half tells s = IsTrue tells → AreStored half (form_in s)
 
--- a section that lists nothing: the store's count of faults never falls
+-- a section that lists nothing: the store's count of faults never falls, and the epoch stays
 pub record Stays (d d' : Desk) : Type 0 where
   pub later : d.faults ≤ d'.faults
   pub listed : d'.state.listed ≡ d.state.listed
+  pub epoch : d'.state.epoch ≡ d.state.epoch
 
--- and one that lists a ledger at most
+-- and one that lists a ledger at most, and ends an epoch at most
 pub record Grows (d d' : Desk) : Type 0 where
   pub later : d.faults ≤ d'.faults
   pub few : length d'.state.listed ≤ suc (length d.state.listed)
+  pub ages : d'.state.epoch ≤ suc d.state.epoch
 
 -- one that only reads: the state is as before, but that a store that doesn't tell what it holds may hold anything
 pub record OnlyReads (told : Bool) (d d' : Desk) : Type 0 where

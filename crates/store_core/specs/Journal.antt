@@ -19,6 +19,7 @@ use Rattle.ledger_machine.specs.Complete.{IsAllStored, AreExact}
 use Rattle.ledger_machine.specs.Collisions.{brought_by, ShowsIn}
 use Rattle.run_io.specs.Bytes.{Rose}
 use Rattle.script_form.specs.Servable.{AreServable}
+use Rattle.store_core.specs.Telling.{AreTold}
 
 -- what contracts see of a core: its script's records and lines, the interval, the store's count of faults at opening and now, how many
 -- calls for a stored record failed, the journal, and the state
@@ -53,15 +54,18 @@ faults_in (e ∷ es) = fault_count e.reply + faults_in es
 abbrev pub RoseBy : ℕ → ℕ → ℕ → Type 0
 RoseBy n before now = (before + n ≤ now) ⊎ (2 ^ 64 - 1 ≤ now)
 
--- What a core keeps: where its store tells what it holds, its journal is a run that led to a sound state; no more ledgers are
--- listed than it has entries; each actor's cursor stands behind the lines that it has answered, and no entry before that of the line
+-- What a core keeps: where its store tells what it holds, its journal is a run that led to a sound state, in which each root was told to
+-- the rotation under way; no more ledgers are listed, and no more epochs have ended, than it has entries; each actor's cursor stands
+-- behind the lines that it has answered, and no entry before that of the line
 -- that it waits for; the journal has room for an entry of each line; and each `fault`, and each call for a stored record that failed, has
 -- a rise of the store's count of its own.
 pub record CoreKeeps (half : Half) (records : List Record) (lines : List Line) (cursors : List ℕ) (journal : List Entry)
     (capacity interval : ℕ) (told : Bool) (opened now missed : ℕ) (state : State) : Type 0 where
   pub run : IsTrue told → IsRunOf half records lines interval journal state
   pub sound : IsTrue told → Sound half state
+  pub roots : IsTrue told → AreTold state
   pub listed_few : length state.listed ≤ length journal
+  pub young : state.epoch ≤ length journal
   pub cursor_count : length cursors ≡ actors
   pub behind : (a : ℕ) → a < actors → slice_index cursors a ≤ length lines
   pub done : (a : ℕ) → a < actors → answered_by a journal ≡ numbers_of a (take (slice_index cursors a) lines)

@@ -7,3 +7,4 @@ pub mod Totals
 pub mod Reads
 pub mod Benches
 pub mod Closing
+pub mod Telling

@@ -1,5 +1,5 @@
 -- The open acquisitions, and the machine's names for what they answer.
-use Rattle.std.specs.Prelude.{◌≡◌, ◌<◌, ℕ, Option, None, Some, Result, Ok, Err}
+use Rattle.std.specs.Prelude.{◌≡◌, ◌<◌, ℕ, List, [], ◌∷◌, Option, None, Some, Result, Ok, Err}
 use Rattle.std.specs.Option.{option_map_or}
 use Rattle.std.specs.List.{All}
 use Rattle.ledger_spec.specs.Bytes.{Hash}
@@ -94,3 +94,8 @@ settled s t seq checked.ZeroState = ended s t
 settled s t seq (checked.BelowFloor floor) = ended s t
 settled s t seq (checked.Malformed place fault) = ended s t
 settled s t seq _ = s
+
+-- what the rotation under way is told then: a ledger that is listed
+abbrev pub told_at : Hash → Checked → List Hash
+told_at t checked.Complete = t ∷ []
+told_at t _ = []

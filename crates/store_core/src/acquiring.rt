@@ -1,5 +1,6 @@
 //! The commands that acquire a ledger from peers. Each is answered by the acquisition that is open under the target.
-ghost use Rattle.std.specs.Prelude.{◌≡◌, [], ℕ, IsTrue, OnOk, OnErr, IfOk, IfErr};
+ghost use Rattle.std.specs.Prelude.{◌≡◌, ◌≤◌, ◌∷◌, [], ℕ, IsTrue, IsSome, OnOk, OnErr, IfOk, IfErr};
+ghost use Rattle.std.specs.List.{Contains};
 ghost use Rattle.run_io.specs.Bytes.{Rose};
 ghost use Rattle.std.specs.Option.{option_copied};
 ghost use Rattle.ledger_spec.specs.Bytes.{is_nonzero};
@@ -12,9 +13,12 @@ ghost use Rattle.ledger_machine.specs.Want.{want_reply, after_want};
 ghost use Rattle.ledger_machine.specs.Peer.{peer_reply, after_peer};
 ghost use Rattle.ledger_machine.specs.Check.{check_reply, after_check};
 ghost use Rattle.ledger_machine.specs.Ticks.{tick_reply, after_tick};
-ghost use Rattle.ledger_machine.specs.Steps.{Step};
+ghost use Rattle.ledger_machine.specs.Rotation.{Tells};
+ghost use Rattle.ledger_machine.specs.Steps.{IsAfter};
+ghost use Rattle.ledger_machine.specs.Steps.{Does};
 ghost use Rattle.store_core.specs.Desks.{IsFiled, Stays, Grows};
-ghost use Rattle.store_core.specs.Wanting.{judged_by, found_seq as seq_found, settled};
+ghost use Rattle.store_core.specs.Telling.{Hears, TellsRoot};
+ghost use Rattle.store_core.specs.Wanting.{judged_by, found_seq as seq_found, settled, told_at};
 
 use crate::machine::Machine;
 use crate::told::{base_answer, check_told, node_answer, peer_told};
@@ -42,33 +46,63 @@ impl<H: NodeHash, Sh: Shelf> Machine<H, Sh> {
     ) -> Result<WantReply, Memory>
         requires { IsTrue (is_nonzero target.now) }
         ensures reply { IfOk result (λ r. r ≡ want_reply self.old.state target.now seq) }
-        ensures after { IfOk result (λ r. self.new.state ≡ after_want self.old.state target.now seq r) }
-        ensures err { OnErr result (self.new ≡ self.old) }
-        ensures faults { self.new.faults ≡ self.old.faults }
+        ensures after { IfOk result (λ r. IsAfter (after_want self.old.state target.now seq r) self.new.state) }
+        ensures err { OnErr result (IsAfter self.old.state self.new.state) }
+        ensures tells { IfOk result (λ r. Tells self.old.state self.new.state []) }
+        ensures may_tell { OnErr result (Tells self.old.state self.new.state (target.now ∷ [])) }
+        ensures names { IfOk result (λ r. TellsRoot self.old.state (Command.Want target.now seq) (Reply.Want r) self.new.state) }
+        ensures stays { Stays self.old self.new }
     {
-        if self.listed.contains_key(target) {
+        if self.book.is_listed(target) {
             return Ok(WantReply::Listed);
         }
         if self.wanted.contains_key(target) {
             return Ok(WantReply::Open);
         }
-        if seq != 0 && seq < self.floor {
-            return Ok(WantReply::BelowFloor(self.floor));
+        let floor = self.book.floor();
+        if seq != 0 && seq < floor {
+            return Ok(WantReply::BelowFloor(floor));
         }
         if self.wanted.len() == MOST_WANTED {
             return Ok(WantReply::TooMany);
         }
+        self.open(alloc, target, seq)?;
+        Ok(WantReply::Opened)
+    }
+
+    // Opens an acquisition, whose target is a new root: the rotation under way is told of it first.
+    fn open(&mut self, alloc: Global, target: &Hash32, seq: u32) -> Result<(), Memory>
+        requires { IsTrue (is_nonzero target.now) }
+        ensures ok { OnOk result (IsAfter (after_want self.old.state target.now seq WantReply.Opened) self.new.state) }
+        ensures err { OnErr result (IsAfter self.old.state self.new.state) }
+        ensures hears { Hears self.old.state.shaded (target.now ∷ []) self.new.state.shaded }
+        ensures told { OnOk result (IsSome self.old.state.turning → Contains self.new.state.shaded target.now) }
+        ensures stays { Stays self.old self.new }
+    {
+        self.tell(target)?;
+        self.begin_search(alloc, target, seq)
+    }
+
+    // The same, once the rotation was told.
+    fn begin_search(&mut self, alloc: Global, target: &Hash32, seq: u32) -> Result<(), Memory>
+        requires { IsTrue (is_nonzero target.now) }
+        ensures ok { OnOk result (self.new.state ≡ after_want self.old.state target.now seq WantReply.Opened) }
+        ensures err { OnErr result (self.new ≡ self.old) }
+        ensures told { self.new.state.shaded ≡ self.old.state.shaded }
+        ensures stays { Stays self.old self.new }
+    {
         self.wanted
             .insert(*target, Acquire::new(alloc, *target, seq))?;
-        Ok(WantReply::Opened)
+        Ok(())
     }
 
     /// Adds a peer to an acquisition.
     pub(crate) fn peer(&mut self, peer: u16, target: &Hash32) -> Result<PeerReply, Memory>
         ensures reply { IfOk result (λ r. r ≡ peer_reply self.old.state peer target.now) }
         ensures after { IfOk result (λ _. self.new.state ≡ after_peer self.old.state peer target.now) }
+        ensures told { self.new.state.shaded ≡ self.old.state.shaded }
         ensures err { OnErr result (self.new ≡ self.old) }
-        ensures faults { self.new.faults ≡ self.old.faults }
+        ensures stays { Stays self.old self.new }
     {
         let Some(acquire) = self.wanted.get_mut(target) else {
             return Ok(PeerReply::NotOpen);
@@ -77,7 +111,8 @@ impl<H: NodeHash, Sh: Shelf> Machine<H, Sh> {
         Ok(peer_told(reply))
     }
 
-    /// Takes a base reply of a peer: a header, and the roots of its maps where they are given.
+    /// Takes a base reply of a peer: a header, and the roots of its maps where they are given. What is written then is reached from the
+    /// target, so a rotation under way, which was told of that, keeps it.
     pub(crate) fn base(
         &mut self,
         alloc: Global,
@@ -89,13 +124,13 @@ impl<H: NodeHash, Sh: Shelf> Machine<H, Sh> {
     ) -> Reply
         requires filed { IsFiled H.half Sh.B.tells self.old.state }
         requires offered { AreOffered target.now header.now state.now tx.now }
-        ensures step { IsTrue Sh.B.tells → (actor : ℕ)
-            → Step H.half self.old.state actor (Command.Base peer target.now header.now state.now tx.now) result [] self.new.state }
+        ensures does { IsTrue Sh.B.tells → (actor : ℕ)
+            → Does H.half self.old.state actor (Command.Base peer target.now header.now state.now tx.now) result [] self.new.state }
         ensures stays { Stays self.old self.new }
+        ensures told { self.new.state.shaded ≡ self.old.state.shaded }
         ensures fault { result ≡ Reply.Fault → Rose self.old.faults self.new.faults }
     {
         known_half::<H>();
-        self.known();
         let Some(acquire) = self.wanted.get_mut(target) else {
             return Reply::Base(BaseReply::NotOpen);
         };
@@ -104,7 +139,7 @@ impl<H: NodeHash, Sh: Shelf> Machine<H, Sh> {
         base_answer(taken)
     }
 
-    /// Takes a node of a peer.
+    /// Takes a node of a peer. It is reached from the target, so a rotation under way, which was told of that, keeps it.
     pub(crate) fn node(
         &mut self,
         alloc: Global,
@@ -116,13 +151,13 @@ impl<H: NodeHash, Sh: Shelf> Machine<H, Sh> {
     ) -> Reply
         requires filed { IsFiled H.half Sh.B.tells self.old.state }
         requires bytes { AreBytes blob.now }
-        ensures step { IsTrue Sh.B.tells → (actor : ℕ)
-            → Step H.half self.old.state actor (Command.Node peer target.now kind id.now blob.now) result [] self.new.state }
+        ensures does { IsTrue Sh.B.tells → (actor : ℕ)
+            → Does H.half self.old.state actor (Command.Node peer target.now kind id.now blob.now) result [] self.new.state }
         ensures stays { Stays self.old self.new }
+        ensures told { self.new.state.shaded ≡ self.old.state.shaded }
         ensures fault { result ≡ Reply.Fault → Rose self.old.faults self.new.faults }
     {
         known_half::<H>();
-        self.known();
         let Some(acquire) = self.wanted.get_mut(target) else {
             return Reply::Node(NodeReply::NotOpen);
         };
@@ -139,8 +174,9 @@ impl<H: NodeHash, Sh: Shelf> Machine<H, Sh> {
         requires { IsFiled H.half Sh.B.tells self.old.state }
         ensures reply { IsTrue Sh.B.tells → IfOk result (λ r. r ≡ check_reply H.half self.old.state target.now) }
         ensures after { IsTrue Sh.B.tells
-            → IfOk result (λ r. self.new.state ≡ after_check self.old.state target.now (stored_seq self.old.state target.now) r) }
-        ensures err { IsTrue Sh.B.tells → OnErr result (self.new.state ≡ self.old.state) }
+            → IfOk result (λ r. IsAfter (after_check self.old.state target.now (stored_seq self.old.state target.now) r) self.new.state) }
+        ensures err { IsTrue Sh.B.tells → OnErr result (IsAfter self.old.state self.new.state) }
+        ensures tells { Tells self.old.state self.new.state [] }
         ensures grows { Grows self.old self.new }
         ensures fault { IfErr result (λ e. e ≡ SearchFault.Fault → Rose self.old.faults self.new.faults) }
     {
@@ -159,9 +195,10 @@ impl<H: NodeHash, Sh: Shelf> Machine<H, Sh> {
         ensures after { IfOk result (λ _. self.new.state ≡ with_wanted self.old.state target.now
             (λ a. after_verdict a (found_verdict a self.old.state.floor found.now))) }
         ensures err { OnErr result (self.new ≡ self.old) }
-        ensures faults { self.new.faults ≡ self.old.faults }
+        ensures told { self.new.state.shaded ≡ self.old.state.shaded }
+        ensures stays { Stays self.old self.new }
     {
-        let floor = self.floor;
+        let floor = self.book.floor();
         let Some(acquire) = self.wanted.get_mut(target) else {
             return Ok(Checked::NotOpen);
         };
@@ -170,11 +207,13 @@ impl<H: NodeHash, Sh: Shelf> Machine<H, Sh> {
 
     // Ends what the answer ends: a complete ledger is listed, and one that isn't acceptable is wanted no more.
     fn settle(&mut self, target: &Hash32, seq: u32, reply: &Checked) -> Result<(), Memory>
-        ensures ok { OnOk result (self.new.state ≡ settled self.old.state target.now seq reply.now) }
+        ensures ok { OnOk result (IsAfter (settled self.old.state target.now seq reply.now) self.new.state) }
 
         // only to list a ledger takes memory
-        ensures err { OnErr result ((reply.now ≡ Checked.Complete) × (self.new ≡ self.old)) }
+        ensures err { OnErr result ((reply.now ≡ Checked.Complete) × IsAfter self.old.state self.new.state) }
+        ensures hears { Hears self.old.state.shaded (told_at target.now reply.now) self.new.state.shaded }
         ensures faults { self.new.faults ≡ self.old.faults }
+        ensures epoch { self.new.state.epoch ≡ self.old.state.epoch }
     {
         match reply {
             Checked::Complete => self.list(target, seq)?,
@@ -187,13 +226,32 @@ impl<H: NodeHash, Sh: Shelf> Machine<H, Sh> {
         Ok(())
     }
 
-    // Lists a ledger with a sequence, and ends its acquisition.
+    // Lists a ledger with a sequence, which the rotation under way is told of first, and ends its acquisition.
     fn list(&mut self, target: &Hash32, seq: u32) -> Result<(), Memory>
+        ensures ok { OnOk result (IsAfter (after_check self.old.state target.now seq CheckReply.Complete) self.new.state) }
+        ensures err { OnErr result (IsAfter self.old.state self.new.state) }
+        ensures hears { Hears self.old.state.shaded (target.now ∷ []) self.new.state.shaded }
+        ensures faults { self.new.faults ≡ self.old.faults }
+        ensures epoch { self.new.state.epoch ≡ self.old.state.epoch }
+    {
+        // a complete ledger isn't below the floor; only a backend that doesn't tell what it holds may show one without a header
+        if seq < self.floor() {
+            return Err(Memory);
+        }
+        self.tell(target)?;
+        self.enlist(target, seq)
+    }
+
+    // The same, once the rotation was told.
+    fn enlist(&mut self, target: &Hash32, seq: u32) -> Result<(), Memory>
+        requires { self.old.state.floor ≤ seq }
         ensures ok { OnOk result (self.new.state ≡ after_check self.old.state target.now seq CheckReply.Complete) }
         ensures err { OnErr result (self.new ≡ self.old) }
+        ensures told { self.new.state.shaded ≡ self.old.state.shaded }
         ensures faults { self.new.faults ≡ self.old.faults }
+        ensures epoch { self.new.state.epoch ≡ self.old.state.epoch }
     {
-        self.enlist(target, seq)?;
+        self.book.list(target, seq)?;
         self.wanted.remove(target);
         Ok(())
     }
@@ -201,7 +259,9 @@ impl<H: NodeHash, Sh: Shelf> Machine<H, Sh> {
     // Ends an acquisition.
     fn end(&mut self, target: &Hash32)
         ensures after { self.new.state ≡ ended self.old.state target.now }
+        ensures told { self.new.state.shaded ≡ self.old.state.shaded }
         ensures faults { self.new.faults ≡ self.old.faults }
+        ensures epoch { self.new.state.epoch ≡ self.old.state.epoch }
     {
         self.wanted.remove(target);
     }
@@ -210,7 +270,8 @@ impl<H: NodeHash, Sh: Shelf> Machine<H, Sh> {
     pub(crate) fn tick(&mut self, target: &Hash32) -> TickReply
         ensures reply { result ≡ tick_reply self.old.state target.now }
         ensures after { self.new.state ≡ after_tick self.old.state target.now result }
-        ensures faults { self.new.faults ≡ self.old.faults }
+        ensures told { self.new.state.shaded ≡ self.old.state.shaded }
+        ensures stays { Stays self.old self.new }
     {
         let Some(acquire) = self.wanted.get_mut(target) else {
             return TickReply::NotOpen;

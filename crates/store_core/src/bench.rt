@@ -1,21 +1,25 @@
 //! The machine with the open edit sessions beside it: each command is the machine's, the sessions', or one of both.
-ghost use Rattle.std.specs.Prelude.{◌≡◌, [], IsTrue, IfOk, IfErr, IfSome, OnErr, None, length, map};
+ghost use Rattle.std.specs.Prelude.{◌≡◌, ◌<◌, ◌-◌, ◌^◌, [], IsTrue, IfOk, IfErr, IfSome, OnErr, length, map};
 ghost use Rattle.std.specs.FinMap as finite;
 ghost use Rattle.std.specs.Option.{option_copied};
 ghost use Rattle.run_io.specs.Bytes.{Rose};
 ghost use Rattle.shamap_node.specs.Nodes.{held};
-ghost use Rattle.ledger_machine.specs.Scripts.{IsBeside, IsCovered, IsInRange};
+ghost use Rattle.ledger_machine.specs.Scripts.{IsBeside, IsInRange};
+ghost use Rattle.ledger_machine.specs.Rotation.{Tells};
 ghost use Rattle.ledger_machine.specs.Sound.{Sound};
 ghost use Rattle.ledger_machine.specs.State.{opening};
-ghost use Rattle.ledger_machine.specs.Steps.{Step};
+ghost use Rattle.ledger_machine.specs.Steps.{Step, own_hashes};
+ghost use Rattle.ledger_machine.specs.Steps.{Does};
 ghost use Rattle.ledger_machine.specs.Views.{is_retained as state_retains, view_reply, after_view};
 ghost use Rattle.store_core.specs.Benches.{IsOfSessions};
-ghost use Rattle.store_core.specs.Desks.{IsFiled, Grows, OnlyReads, over};
+ghost use Rattle.store_core.specs.Desks.{IsFiled, Stays, Grows, OnlyReads, over};
 ghost use Rattle.store_core.specs.Dumping.{IsNextRecord, Follows};
+ghost use Rattle.store_core.specs.Telling.{TellsRoot, AreTold, Carried};
 
 use crate::machine::{Machine, unread};
 use edit_session::a_session_stays_over_its_ledger;
 use half_hash::{Hash32, Memory, NodeHash};
+use ledger_laws::{a_row_is_one_beside_any_sessions, a_step_carries_what_was_told};
 use ledger_machine::{Command, Record, Reply, ViewReply};
 use node_backend::{BackFault, Shelf};
 use open_sessions::Open;
@@ -32,7 +36,6 @@ pub(crate) struct Bench<H: NodeHash, Sh: Shelf> {
 }
 
 impl<H: NodeHash, Sh: Shelf> Model for Bench<H, Sh> {
-    ghost use Rattle.std.specs.Prelude.{◌≡◌, None};
     ghost use Rattle.std.specs.Coded.{codes};
     ghost use Rattle.ledger_spec.specs.Maps.{map_code, set_code};
     ghost use Rattle.store_core.specs.Desks.{Desk};
@@ -53,6 +56,8 @@ impl<H: NodeHash, Sh: Shelf> Model for Bench<H, Sh> {
 impl<H: NodeHash, Sh: Shelf> Bench<H, Sh> {
     /// The opening state over a store, without sessions.
     pub(crate) fn new(alloc: Global, hash: H, interval: u32, store: RotStore<Sh>) -> Bench<H, Sh>
+        requires apart { 0 < interval }
+        requires new { IsTrue Sh.B.tells → store.archive ≡ finite.empty }
         ensures state { result.state ≡ over store (opening finite.empty interval) }
         ensures faults { result.faults ≡ store.faults }
     {
@@ -117,15 +122,33 @@ impl<H: NodeHash, Sh: Shelf> Bench<H, Sh> {
         actor: u8,
         command: &Command,
     ) -> (Reply, Vec<Arc<Node>>)
-        requires covered { IsCovered command.now }
         requires in_range { IsInRange command.now }
         requires sound { IsTrue Sh.B.tells → Sound H.half self.old.state }
+        requires told { IsTrue Sh.B.tells → AreTold self.old.state }
+        requires room { self.old.state.epoch < 2 ^ 64 - 1 }
         ensures step { IsTrue Sh.B.tells
             → Step H.half self.old.state actor command.now result.0 (map (λ a. held a.value) result.1.items) self.new.state }
+        ensures told { IsTrue Sh.B.tells → AreTold self.new.state }
         ensures grows { Grows self.old self.new }
         ensures fault { result.0 ≡ Reply.Fault → Rose self.old.faults self.new.faults }
     {
-        self.known();
+        a_step_carries_what_was_told();
+        self.serve(alloc, actor, command)
+    }
+
+    // What a command does, and what it carries of the rotation under way.
+    fn serve(&mut self, alloc: Global, actor: u8, command: &Command) -> (Reply, Vec<Arc<Node>>)
+        requires in_range { IsInRange command.now }
+        requires sound { IsTrue Sh.B.tells → Sound H.half self.old.state }
+        requires told { IsTrue Sh.B.tells → AreTold self.old.state }
+        requires room { self.old.state.epoch < 2 ^ 64 - 1 }
+        ensures does { IsTrue Sh.B.tells
+            → Does H.half self.old.state actor command.now result.0 (map (λ a. held a.value) result.1.items) self.new.state }
+        ensures carries { IsTrue Sh.B.tells
+            → AreTold self.new.state × Carried H.half self.old.state actor command.now result.0 self.new.state }
+        ensures grows { Grows self.old self.new }
+        ensures fault { result.0 ≡ Reply.Fault → Rose self.old.faults self.new.faults }
+    {
         match command {
             Command::View { .. }
             | Command::Edit { .. }
@@ -134,21 +157,41 @@ impl<H: NodeHash, Sh: Shelf> Bench<H, Sh> {
             | Command::Tx { .. }
             | Command::Close { .. }
             | Command::Abandon { .. } => (self.work(alloc, actor, command), Vec::new(alloc)),
+            Command::Begin | Command::Swap => {
+                (self.rotate(alloc, actor, command), Vec::new(alloc))
+            }
             _ => self.beside(alloc, actor, command),
         }
     }
 
-    // One step of a command that names a session or sees which are open. It reads no nodes.
+    // What a command does that names a session or sees which are open, and what it carries of the rotation under way.
     fn work(&mut self, alloc: Global, actor: u8, command: &Command) -> Reply
-        requires covered { IsCovered command.now }
         requires open { IsOfSessions command.now }
         requires in_range { IsInRange command.now }
         requires sound { IsTrue Sh.B.tells → Sound H.half self.old.state }
-        ensures step { IsTrue Sh.B.tells → Step H.half self.old.state actor command.now result [] self.new.state }
+        requires told { IsTrue Sh.B.tells → AreTold self.old.state }
+        ensures does { IsTrue Sh.B.tells → Does H.half self.old.state actor command.now result [] self.new.state }
+        ensures carries { IsTrue Sh.B.tells
+            → AreTold self.new.state × Carried H.half self.old.state actor command.now result self.new.state }
         ensures grows { Grows self.old self.new }
         ensures fault { result ≡ Reply.Fault → Rose self.old.faults self.new.faults }
     {
-        self.known();
+        self.change(alloc, actor, command)
+    }
+
+    // The same by the commands. It reads no nodes.
+    #[tactic(auto, using(crate::proofs::Turns::quiet))]
+    fn change(&mut self, alloc: Global, actor: u8, command: &Command) -> Reply
+        requires open { IsOfSessions command.now }
+        requires in_range { IsInRange command.now }
+        requires sound { IsTrue Sh.B.tells → Sound H.half self.old.state }
+        ensures does { IsTrue Sh.B.tells → Does H.half self.old.state actor command.now result [] self.new.state }
+        ensures tells { IsTrue Sh.B.tells
+            → Tells self.old.state self.new.state (own_hashes H.half self.old.state actor command.now result) }
+        ensures names { IsTrue Sh.B.tells → TellsRoot self.old.state command.now result self.new.state }
+        ensures grows { Grows self.old self.new }
+        ensures fault { result ≡ Reply.Fault → Rose self.old.faults self.new.faults }
+    {
         match command {
             Command::View { view, target } => match self.view(actor, *view, target) {
                 Ok(reply) => Reply::View(reply),
@@ -176,34 +219,33 @@ impl<H: NodeHash, Sh: Shelf> Bench<H, Sh> {
         }
     }
 
-    // What stands at its opening value.
-    pub(crate) fn known(&self)
-        ensures turning { self.now.state.turning ≡ None }
-    {
-        self.machine.known();
-    }
-
-    // One step of a command that names no session and sees none.
+    // What a command does that names no session and sees none, and what it carries of the rotation under way.
     fn beside(&mut self, alloc: Global, actor: u8, command: &Command) -> (Reply, Vec<Arc<Node>>)
         requires beside { IsBeside command.now }
         requires in_range { IsInRange command.now }
         requires filed { IsFiled H.half Sh.B.tells self.old.state }
-        ensures step { IsTrue Sh.B.tells
-            → Step H.half self.old.state actor command.now result.0 (map (λ a. held a.value) result.1.items) self.new.state }
+        requires told { IsTrue Sh.B.tells → AreTold self.old.state }
+        ensures does { IsTrue Sh.B.tells
+            → Does H.half self.old.state actor command.now result.0 (map (λ a. held a.value) result.1.items) self.new.state }
+        ensures carries { IsTrue Sh.B.tells
+            → AreTold self.new.state × Carried H.half self.old.state actor command.now result.0 self.new.state }
         ensures grows { Grows self.old self.new }
         ensures fault { result.0 ≡ Reply.Fault → Rose self.old.faults self.new.faults }
     {
         a_session_stays_over_its_ledger();
+        a_row_is_one_beside_any_sessions();
+        let answered = self.machine.answer(alloc, actor, command);
         self.machine.known();
-        self.machine.answer(alloc, actor, command)
+        answered
     }
 
     // Opens a view of a retained ledger.
     fn view(&mut self, actor: u8, view: u16, target: &Hash32) -> Result<ViewReply, Memory>
         ensures reply { IfOk result (λ r. r ≡ view_reply self.old.state (actor, view) target.now) }
         ensures after { IfOk result (λ r. self.new.state ≡ after_view self.old.state (actor, view) target.now r) }
+        ensures told { self.new.state.shaded ≡ self.old.state.shaded }
         ensures err { OnErr result (self.new ≡ self.old) }
-        ensures faults { self.new.faults ≡ self.old.faults }
+        ensures stays { Stays self.old self.new }
     {
         let retained = self.is_retained(target);
         self.machine.view(actor, view, target, retained)

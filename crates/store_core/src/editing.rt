@@ -34,6 +34,7 @@ impl<H: NodeHash, Sh: Shelf> Bench<H, Sh> {
         ensures after { IsTrue Sh.B.tells
             → IfOk result (λ r. self.new.state ≡ after_edit H.half self.old.state (actor, session) target.now r) }
         ensures err { IsTrue Sh.B.tells → OnErr result (self.new.state ≡ self.old.state) }
+        ensures told { self.new.state.shaded ≡ self.old.state.shaded }
         ensures stays { Stays self.old self.new }
         ensures fault { IfErr result (λ e. e ≡ BackFault.Fault → Rose self.old.faults self.new.faults) }
     {
@@ -73,6 +74,7 @@ impl<H: NodeHash, Sh: Shelf> Bench<H, Sh> {
         ensures reply { IfOk result (λ r. r ≡ edit_by header.seq (length self.old.state.sessions)) }
         ensures after { IsTrue Sh.B.tells → IfOk result (λ r. self.new.state ≡ after_edit H.half self.old.state id target.now r) }
         ensures err { OnErr result (self.new ≡ self.old) }
+        ensures told { self.new.state.shaded ≡ self.old.state.shaded }
         ensures stays { Stays self.old self.new }
     {
         known_half::<H>();
@@ -100,6 +102,7 @@ impl<H: NodeHash, Sh: Shelf> Bench<H, Sh> {
         ensures after { IsTrue Sh.B.tells
             → IfOk result (λ _. self.new.state ≡ after_put self.old.state (actor, session) item.now.key item.now.value) }
         ensures err { IsTrue Sh.B.tells → OnErr result (self.new.state ≡ self.old.state) }
+        ensures told { self.new.state.shaded ≡ self.old.state.shaded }
         ensures stays { Stays self.old self.new }
         ensures fault { IfErr result (λ e. e ≡ BackFault.Fault → Rose self.old.faults self.new.faults) }
     {
@@ -120,6 +123,7 @@ impl<H: NodeHash, Sh: Shelf> Bench<H, Sh> {
         ensures after { IsTrue Sh.B.tells
             → IfOk result (λ _. self.new.state ≡ after_del self.old.state (actor, session) key.now) }
         ensures err { IsTrue Sh.B.tells → OnErr result (self.new.state ≡ self.old.state) }
+        ensures told { self.new.state.shaded ≡ self.old.state.shaded }
         ensures stays { Stays self.old self.new }
         ensures fault { IfErr result (λ e. e ≡ BackFault.Fault → Rose self.old.faults self.new.faults) }
     {
@@ -142,6 +146,7 @@ impl<H: NodeHash, Sh: Shelf> Bench<H, Sh> {
         ensures after { IsTrue Sh.B.tells
             → IfOk result (λ _. self.new.state ≡ after_tx self.old.state (actor, session) item.now.key item.now.value) }
         ensures err { OnErr result (self.new ≡ self.old) }
+        ensures told { self.new.state.shaded ≡ self.old.state.shaded }
         ensures stays { Stays self.old self.new }
     {
         self.machine
@@ -152,7 +157,8 @@ impl<H: NodeHash, Sh: Shelf> Bench<H, Sh> {
     pub(crate) fn abandon(&mut self, actor: u8, session: u16) -> bool
         ensures reply { result ≡ has_session self.old.state (actor, session) }
         ensures after { self.new.state ≡ without_session self.old.state (actor, session) }
-        ensures faults { self.new.faults ≡ self.old.faults }
+        ensures told { self.new.state.shaded ≡ self.old.state.shaded }
+        ensures stays { Stays self.old self.new }
     {
         self.sessions.end((actor, session))
     }

@@ -10,6 +10,7 @@ mod laws;
 mod machine;
 mod pages;
 mod records;
+mod rotating;
 mod store;
 mod told;
 mod views;

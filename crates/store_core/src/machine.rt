@@ -1,16 +1,19 @@
 //! The state that the commands act on, over tables in memory.
-ghost use Rattle.std.specs.Prelude.{◌≡◌, [], IsTrue, IfOk, IfErr, IfSome, None, length, map};
+ghost use Rattle.std.specs.Prelude.{◌≡◌, ◌<◌, [], IsTrue, IfOk, IfErr, IfSome, length, map};
 ghost use Rattle.std.specs.FinMap as finite;
 ghost use Rattle.std.specs.Option.{option_copied};
 ghost use Rattle.run_io.specs.Bytes.{Rose};
 ghost use Rattle.shamap_node.specs.Nodes.{held};
 ghost use Rattle.ledger_machine.specs.Scripts.{IsBeside, IsInRange};
+ghost use Rattle.ledger_machine.specs.Rotation.{Tells};
 ghost use Rattle.ledger_machine.specs.State.{opening};
-ghost use Rattle.ledger_machine.specs.Steps.{Step};
+ghost use Rattle.ledger_machine.specs.Steps.{own_hashes};
+ghost use Rattle.ledger_machine.specs.Steps.{Does};
 ghost use Rattle.store_core.specs.Desks.{IsFiled, Grows, OnlyReads, over};
 ghost use Rattle.store_core.specs.Dumping.{IsNextRecord, Follows};
 ghost use Rattle.store_core.specs.Reads.{ReadsNothing};
 ghost use Rattle.store_core.specs.Refusals.{read_refusal};
+ghost use Rattle.store_core.specs.Telling.{TellsRoot};
 
 use crate::records::next_record;
 use crate::told::unsearched;
@@ -18,6 +21,8 @@ use acquire_core::Acquire;
 use half_hash::{Hash32, NodeHash};
 use ledger_machine::{Command, Record, Reply};
 use node_backend::{BackFault, Shelf};
+use online_rotate::Rotator;
+use retain_book::Book;
 use rotating_store::RotStore;
 use shamap_node::Node;
 use std::alloc::Global;
@@ -30,19 +35,16 @@ pub(crate) struct Machine<H: NodeHash, Sh: Shelf> {
     pub(crate) hash: H,
     pub(crate) store: RotStore<Sh>,
     pub(crate) wanted: BTreeMap<Hash32, Acquire>,
-    pub(crate) listed: BTreeMap<Hash32, u32>,
     pub(crate) views: BTreeMap<(u8, u16), Hash32>,
-    pub(crate) floor: u32,
-    pub(crate) last: Option<u32>,
-    pub(crate) interval: u32,
+    pub(crate) book: Book,
+    pub(crate) rotator: Rotator,
 }
 
 impl<H: NodeHash, Sh: Shelf> Model for Machine<H, Sh> {
-    ghost use Rattle.std.specs.Prelude.{[], None};
     ghost use Rattle.std.specs.Coded.{codes};
     ghost use Rattle.ledger_spec.specs.Maps.{map_code, set_code};
-    ghost use Rattle.rotating_store.specs.Stores.{nodes_of, born_of};
-    ghost use Rattle.store_core.specs.Desks.{Desk};
+    ghost use Rattle.store_core.specs.Desks.{Desk, state_of};
+    ghost use Rattle.store_core.specs.Telling.{KeepsTurning};
     ghost use Rattle.store_core.specs.Wanting.{AreOpen};
 
     ghost Value = { Desk };
@@ -50,29 +52,18 @@ impl<H: NodeHash, Sh: Shelf> Model for Machine<H, Sh> {
     ghost coded = { Prim.hlevel (codes, map_code, set_code) };
 
     ghost view = { λ m. record {
-      state = record {
-        nodes = nodes_of m.store;
-        born = born_of m.store;
-        epoch = m.store.epoch;
-        listed = m.listed.entries;
-        wanted = m.wanted.entries;
-        views = m.views.entries;
-        sessions = [];
-        floor = m.floor;
-        last = m.last;
-        interval = m.interval;
-        turning = None;
-        shaded = [];
-      };
+      state = state_of m.store m.wanted.entries m.views.entries m.book m.rotator;
       faults = m.store.faults;
     } };
 
-    ghost invariant = { λ m. AreOpen m.wanted.entries };
+    ghost invariant = { λ m. AreOpen m.wanted.entries × KeepsTurning Sh.B.tells m.book m.rotator m.store };
 }
 
 impl<H: NodeHash, Sh: Shelf> Machine<H, Sh> {
     /// The opening state over a store: the tables are empty, and what the store holds is there.
     pub(crate) fn new(alloc: Global, hash: H, interval: u32, store: RotStore<Sh>) -> Machine<H, Sh>
+        requires apart { 0 < interval }
+        requires new { IsTrue Sh.B.tells → store.archive ≡ finite.empty }
         ensures state { result.state ≡ over store (opening finite.empty interval) }
         ensures faults { result.faults ≡ store.faults }
     {
@@ -80,39 +71,36 @@ impl<H: NodeHash, Sh: Shelf> Machine<H, Sh> {
             hash,
             store,
             wanted: BTreeMap::new(alloc),
-            listed: BTreeMap::new(alloc),
             views: BTreeMap::new(alloc),
-            floor: 0,
-            last: None,
-            interval,
+            book: Book::new(alloc, interval),
+            rotator: Rotator::new(alloc),
         }
     }
 
-    /// What stands at its opening value.
+    /// For proofs: the machine has no sessions.
     pub(crate) fn known(&self)
-        ensures turning { self.now.state.turning ≡ None }
-        ensures sessions { self.now.state.sessions ≡ [] }
+        ensures { self.now.state.sessions ≡ [] }
     {
-        let _ = &self.floor;
+        let _ = &self.rotator;
     }
 
     /// How many ledgers are listed.
     pub(crate) fn listed(&self) -> usize
         ensures { result ≡ length self.now.state.listed }
     {
-        self.listed.len()
+        self.book.count()
     }
 
     pub(crate) fn floor(&self) -> u32
         ensures { result ≡ self.now.state.floor }
     {
-        self.floor
+        self.book.floor()
     }
 
     pub(crate) fn last(&self) -> Option<u32>
         ensures { result ≡ self.now.state.last }
     {
-        self.last
+        self.book.last()
     }
 
     pub(crate) fn epoch(&self) -> u64
@@ -144,7 +132,7 @@ impl<H: NodeHash, Sh: Shelf> Machine<H, Sh> {
         Ok(next)
     }
 
-    /// One step of a command that names no session and sees none: the reply, and the nodes that it used.
+    /// What a command does that names no session and sees none: the reply, and the nodes that it used.
     pub(crate) fn answer(
         &mut self,
         alloc: Global,
@@ -154,12 +142,13 @@ impl<H: NodeHash, Sh: Shelf> Machine<H, Sh> {
         requires beside { IsBeside command.now }
         requires in_range { IsInRange command.now }
         requires filed { IsFiled H.half Sh.B.tells self.old.state }
-        ensures step { IsTrue Sh.B.tells
-            → Step H.half self.old.state actor command.now result.0 (map (λ a. held a.value) result.1.items) self.new.state }
+        ensures does { IsTrue Sh.B.tells
+            → Does H.half self.old.state actor command.now result.0 (map (λ a. held a.value) result.1.items) self.new.state }
+        ensures tells { Tells self.old.state self.new.state (own_hashes H.half self.old.state actor command.now result.0) }
+        ensures names { TellsRoot self.old.state command.now result.0 self.new.state }
         ensures grows { Grows self.old self.new }
         ensures fault { result.0 ≡ Reply.Fault → Rose self.old.faults self.new.faults }
     {
-        self.known();
         match command {
             Command::Get { view, kind, key } => match self.get(alloc, actor, *view, *kind, key) {
                 Ok(got) => (Reply::Get(got.reply), got.used),
@@ -178,17 +167,18 @@ impl<H: NodeHash, Sh: Shelf> Machine<H, Sh> {
         }
     }
 
-    /// One step of a command that reads nothing.
+    /// The same of a command that reads nothing.
     fn act(&mut self, alloc: Global, actor: u8, command: &Command) -> Reply
         requires beside { IsBeside command.now }
         requires reads_nothing { ReadsNothing command.now }
         requires in_range { IsInRange command.now }
         requires filed { IsFiled H.half Sh.B.tells self.old.state }
-        ensures step { IsTrue Sh.B.tells → Step H.half self.old.state actor command.now result [] self.new.state }
+        ensures does { IsTrue Sh.B.tells → Does H.half self.old.state actor command.now result [] self.new.state }
+        ensures tells { Tells self.old.state self.new.state (own_hashes H.half self.old.state actor command.now result) }
+        ensures names { TellsRoot self.old.state command.now result self.new.state }
         ensures grows { Grows self.old self.new }
         ensures fault { result ≡ Reply.Fault → Rose self.old.faults self.new.faults }
     {
-        self.known();
         match command {
             Command::Want { target, seq } => match self.want(alloc, target, *seq) {
                 Ok(reply) => Reply::Want(reply),

@@ -2,7 +2,6 @@
 ghost use Rattle.std.specs.Prelude.{◌≡◌, ◌≢◌, ◌↔◌, ◌<◌, ◌≤◌, ◌^◌, [], ℕ, true, IsTrue, IfOk, length, count_by, IfErr, IfSome, MatchOption};
 ghost use Rattle.std.specs.Prelude.{drop, take};
 ghost use Rattle.std.specs.Option.{option_copied};
-ghost use Rattle.ledger_machine.specs.State.{default_interval};
 ghost use Rattle.ledger_machine.specs.Scripts.{Rises, line_of, numbers_of};
 ghost use Rattle.ledger_machine.specs.Runs.{IsDone, IsBlocked, is_answered as answered, opening_of};
 ghost use Rattle.ledger_machine.specs.Records.{AreRecords};
@@ -25,9 +24,6 @@ use std::marker::Model;
 
 /// How many actors there are, numbered from 0.
 const ACTORS: usize = 64;
-
-/// How many sequences a ledger must be behind before a rotation is due.
-const INTERVAL: u32 = 256;
 
 /// Why a stored record isn't given.
 #[derive(Clone, Copy, Debug, PartialEq, Eq)]
@@ -89,19 +85,22 @@ impl<H: NodeHash, Sh: Shelf> Model for Core<H, Sh> {
 }
 
 impl<H: NodeHash, Sh: Shelf> Core<H, Sh> {
-    /// A core that has answered nothing, over a store of the shelf that holds the script's records, all of them born in epoch 0. The
-    /// journal's slots are reserved here, so that recording an entry takes no memory.
+    /// A core that has answered nothing, over a store of the shelf that holds the script's records, all of them born in epoch 0. A rotation
+    /// is due where the greatest listed sequence is `interval` or more above the last rotation's. The journal's slots are reserved here, so
+    /// that recording an entry takes no memory.
     pub fn open(
         alloc: Global,
         hash: H,
         script: Script,
+        interval: u32,
         shelf: Sh,
     ) -> Result<Core<H, Sh>, Unopened<Sh>>
+        requires apart { 0 < interval }
         requires lines { AreServable script.lines.items }
         requires records { AreRecords H.half script.records.items }
-        ensures script { IfOk result (λ c. IsNew script.records.items script.lines.items default_interval c) }
+        ensures script { IfOk result (λ c. IsNew script.records.items script.lines.items interval c) }
         ensures counts { IfOk result (λ c. (c.opened ≡ c.faults) × (Sh.faults shelf ≤ c.opened)) }
-        ensures state { IsTrue Sh.B.tells → IfOk result (λ c. c.state ≡ opening_of script.records.items default_interval) }
+        ensures state { IsTrue Sh.B.tells → IfOk result (λ c. c.state ≡ opening_of script.records.items interval) }
         // A shelf or a store is handed back only where its count of faults is greater than that of the shelf.
         ensures shelf { (s : Sh) → result ≡ Err (Unopened.Shelf s) → Rose (Sh.faults shelf) (Sh.faults s) }
         ensures store { (s : Store) → result ≡ Err (Unopened.Store s) → Rose (Sh.faults shelf) s.faults }
@@ -121,12 +120,12 @@ impl<H: NodeHash, Sh: Shelf> Core<H, Sh> {
         };
         Ok(Core {
             script,
-            interval: INTERVAL,
+            interval,
             opened,
             missed: 0,
             cursors,
             journal,
-            bench: Bench::new(alloc, hash, INTERVAL, store),
+            bench: Bench::new(alloc, hash, interval, store),
         })
     }
 

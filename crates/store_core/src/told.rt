@@ -2,13 +2,17 @@
 ghost use Rattle.std.specs.Prelude.{◌≡◌};
 ghost use Rattle.store_core.specs.Refusals.{refusal_of, search_refusal};
 ghost use Rattle.store_core.specs.Wanting as told;
+ghost use Rattle.store_core.specs.Telling as turns;
 
 use acquire_core::{
     BaseReply as Taken, CheckReply as Checked, NodeReply as TakenNode, PeerReply as Joined,
 };
-use ledger_machine::{BaseReply, CheckReply, NodeReply, PeerReply, Reply};
+use ledger_machine::{BaseReply, BeginReply, CheckReply, NodeReply, PeerReply, Reply, SwapReply};
 use missing_walk::SearchFault;
+use node_backend::BackFault;
 use node_offer::OfferFault;
+use online_rotate::Begun;
+use rotating_store::StoreFault;
 
 /// What became of a peer that joins.
 pub(crate) fn peer_told(reply: Joined) -> PeerReply
@@ -99,5 +103,36 @@ pub(crate) fn unsearched(fault: SearchFault) -> Reply
     match fault {
         SearchFault::Fault => Reply::Fault,
         SearchFault::Memory => Reply::Memory,
+    }
+}
+
+/// What a begin comes to.
+pub(crate) fn begin_told(begun: Begun) -> BeginReply
+    ensures { result ≡ turns.begin_told begun }
+{
+    match begun {
+        Begun::Begun { seq, floor } => BeginReply::Begun { seq, floor },
+        Begun::NotDue => BeginReply::NotDue,
+        Begun::Busy => BeginReply::Busy,
+    }
+}
+
+/// What the end of a rotation comes to.
+pub(crate) fn swap_told(ended: Result<u64, StoreFault>) -> Result<SwapReply, BackFault>
+    ensures { result ≡ turns.swap_told ended }
+{
+    match ended {
+        Ok(epoch) => Ok(SwapReply::Swapped(epoch)),
+        Err(fault) => Err(unended(fault)),
+    }
+}
+
+// Why a rotation goes on.
+fn unended(fault: StoreFault) -> BackFault
+    ensures { result ≡ turns.unended fault }
+{
+    match fault {
+        StoreFault::Fault => BackFault::Fault,
+        _ => BackFault::Memory,
     }
 }

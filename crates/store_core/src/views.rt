@@ -8,7 +8,7 @@ ghost use Rattle.run_io.specs.Bytes.{Rose};
 ghost use Rattle.ledger_machine.specs.Views.{is_retained as state_retains, after_view, unview_reply, after_unview};
 ghost use Rattle.ledger_machine.specs.Reading.{IsRead, view_root};
 ghost use Rattle.store_core.specs.Benches.{view_by};
-ghost use Rattle.store_core.specs.Desks.{IsFiled, OnlyReads};
+ghost use Rattle.store_core.specs.Desks.{IsFiled, Stays, OnlyReads};
 ghost use Rattle.path_proof.specs.Paths.{held_nodes};
 ghost use Rattle.store_core.specs.Reads.{IsFollowed, IsGot, Says};
 
@@ -45,8 +45,9 @@ impl<H: NodeHash, Sh: Shelf> Machine<H, Sh> {
     ) -> Result<ViewReply, Memory>
         ensures reply { IfOk result (λ r. r ≡ view_by retained self.old.state (actor, view)) }
         ensures after { IfOk result (λ r. self.new.state ≡ after_view self.old.state (actor, view) target.now r) }
+        ensures told { self.new.state.shaded ≡ self.old.state.shaded }
         ensures err { OnErr result (self.new ≡ self.old) }
-        ensures faults { self.new.faults ≡ self.old.faults }
+        ensures stays { Stays self.old self.new }
     {
         let id = (actor, view);
         if self.views.contains_key(&id) {
@@ -66,14 +67,15 @@ impl<H: NodeHash, Sh: Shelf> Machine<H, Sh> {
     pub(crate) fn is_retained(&self, target: &Hash32) -> bool
         ensures { result ≡ state_retains self.now.state target.now }
     {
-        self.listed.contains_key(target) || is_pinned(&self.views, target)
+        self.book.is_listed(target) || is_pinned(&self.views, target)
     }
 
     /// Ends a view; whether it was open.
     pub(crate) fn unview(&mut self, actor: u8, view: u16) -> bool
         ensures reply { result ≡ unview_reply self.old.state (actor, view) }
         ensures after { self.new.state ≡ after_unview self.old.state (actor, view) }
-        ensures faults { self.new.faults ≡ self.old.faults }
+        ensures told { self.new.state.shaded ≡ self.old.state.shaded }
+        ensures stays { Stays self.old self.new }
     {
         self.views.remove(&(actor, view)).is_some()
     }

@@ -38,28 +38,31 @@ inner_form-returns-in_err-hash-clause-seals g t c stored left path kids stand =
     rw (p.1, p.2) (
       front_faults g.H.NodeHash.half c.args.kind c.args.arena.now c.args.links.now c.args.forms.now.items stored left Hash Bytes
           c.loop-b.forms.items c.seal_link.new.forms.items c.loop-b.bytes.items c.in_err-hash.field-0.0 c.loop-b.b low
-          (c.loop-b.invariant stored left path kids stand) step.0,
+          (c.loop-b.invariant.0 stored left path kids stand) step.0,
       tt,
     )
 
 -- one branch more adds its forms behind those of the branches before, and its hash behind theirs
 pub inner_form-loop-b-preserved : goal.inner_form-loop-b-preserved
-inner_form-loop-b-preserved g t c stored left path kids stand =
-    let low : c.loop-b.b < length c.args.links.now = omega (arith, c.known-2.ensures, c.loop-b-test.true) in
-    let step = (subst (λ l. Seals g.H.NodeHash.half c.args.kind c.args.arena.now l c.loop-b.forms.items c.seal_link.new.forms.items
-    (Ok c.in_ok-hash.hash)) c.get.ensures c.in_ok-hash.ensures.seals)
-    stored left (path ++ c.loop-b.b ∷ []) (kids c.loop-b.b) (stand c.loop-b.b c.loop-b-test.true) in
-    front_more g.H.NodeHash.half c.args.kind c.args.arena.now c.args.links.now c.args.forms.now.items stored left c.loop-b.forms.items
-    c.seal_link.new.forms.items c.loop-b.bytes.items c.extend_from_slice.new.self.items c.in_ok-hash.hash c.loop-b.b low
-    (c.loop-b.invariant stored left path kids stand) step
-    (c.in_ok-extend_from_slice.ensures.items ∙ ap (λ (h : List ℕ). c.loop-b.bytes.items ++ h) c.hash.view_is)
+inner_form-loop-b-preserved g t c = (
+  (λ stored left path kids stand.
+      let low : c.loop-b.b < length c.args.links.now = omega (arith, c.known-2.ensures, c.loop-b-test.true) in
+      let step = (subst (λ l. Seals g.H.NodeHash.half c.args.kind c.args.arena.now l c.loop-b.forms.items c.seal_link.new.forms.items
+      (Ok c.in_ok-hash.hash)) c.get.ensures c.in_ok-hash.ensures.seals)
+      stored left (path ++ c.loop-b.b ∷ []) (kids c.loop-b.b) (stand c.loop-b.b c.loop-b-test.true) in
+      front_more g.H.NodeHash.half c.args.kind c.args.arena.now c.args.links.now c.args.forms.now.items stored left c.loop-b.forms.items
+      c.seal_link.new.forms.items c.loop-b.bytes.items c.extend_from_slice.new.self.items c.in_ok-hash.hash c.loop-b.b low
+      (c.loop-b.invariant.0 stored left path kids stand) step
+      (c.in_ok-extend_from_slice.ensures.items ∙ ap (λ (h : List ℕ). c.loop-b.bytes.items ++ h) c.hash.view_is)),
+  (λ named. c.in_ok-hash.ensures.named (c.loop-b.invariant.1 named)),
+)
 
 -- no branch is left, so all forms below were added, and the bytes are the prefix and all sixteen hashes
 pub inner_form-returns-clause-seals : goal.inner_form-returns-clause-seals
 inner_form-returns-clause-seals g t c stored left path kids stand =
     let all : length c.args.links.now ≤ c.loop-b.b = omega (arith, c.known-2.ensures, c.loop-b-test.false) in
     let done = front_all g.H.NodeHash.half c.args.kind c.args.arena.now c.args.links.now c.args.forms.now.items stored left
-    c.loop-b.forms.items c.loop-b.bytes.items c.loop-b.b all (c.loop-b.invariant stored left path kids stand) in
+    c.loop-b.forms.items c.loop-b.bytes.items c.loop-b.b all (c.loop-b.invariant.0 stored left path kids stand) in
     (done.0, c.new.ensures ∙ done.1)
 
 -- a leaf makes one form, its own, and the link stands for the hash of that

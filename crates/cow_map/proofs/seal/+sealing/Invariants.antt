@@ -3,7 +3,7 @@ use Rattle.ledger_spec.specs.Bytes.{Lookup}
 use Rattle.ledger_spec.specs.Tree.{Entry}
 use Rattle.cow_map.specs.declared.link.Link.{Link}
 use Rattle.cow_map.specs.declared.link.Link.TheVariants.{Empty, Unloaded, Own}
-use Rattle.cow_map.specs.Sealing.{Stand, SealsFront}
+use Rattle.cow_map.specs.Sealing.{Stand, SealsFront, AreNamed}
 use Rattle.cow_map.proofs.seal.+sealing.Given as goal
 
 abbrev pub place : Link → ℕ
@@ -19,6 +19,7 @@ decreases-inner_form g l = 2 * l.at + 1
 
 abbrev pub invariant-inner_form-loop-b : goal.invariant-inner_form-loop-b
 invariant-inner_form-loop-b g l =
-    (stored : Lookup) (left : ℕ) (path : List ℕ) (kids : ℕ → List Entry)
+    ((stored : Lookup) (left : ℕ) (path : List ℕ) (kids : ℕ → List Entry)
     → Stand g.H.NodeHash.half stored l.kind l.arena left path l.links kids
-    → SealsFront g.H.NodeHash.half l.kind l.arena l.links l.initial.forms.items l.forms.items l.bytes.items l.b stored left
+    → SealsFront g.H.NodeHash.half l.kind l.arena l.links l.initial.forms.items l.forms.items l.bytes.items l.b stored left)
+    × (AreNamed g.H.NodeHash.half l.initial.forms.items → AreNamed g.H.NodeHash.half l.forms.items)

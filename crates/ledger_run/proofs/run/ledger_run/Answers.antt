@@ -1,12 +1,14 @@
 -- what the core keeps, told of its status
 use Rattle.ledger_run.proofs.Opening.{opened_by}
-use Rattle.ledger_run.proofs.Ending.{printed_asked}
-use Rattle.std.proofs.Common.{Err, refl, is_some, sym, ◌∙◌, ap}
+use Rattle.std.proofs.Common.{Err, refl, is_some, sym, ◌∙◌, ap, subst}
+use Rattle.ledger_run.specs.declared.asking.Asked.{Asked}
+use Rattle.ledger_run.specs.Top.{HasPrinted}
 use Rattle.ledger_run.proofs.Refusals.{run_refusal, script_as, full_as}
 use Rattle.ledger_run.proofs.Statuses.{status_from, ends_from}
 use Rattle.ledger_run.proofs.run.ledger_run.Goals as goal
 
--- running and printing keep the script's records and lines, so the full journal is a run of the script that was read
+-- running and printing keep the script's records and lines, so the full journal is a run of the script that was read; the interval is the
+-- one that the core was opened with, which is the only one that the words say
 pub returns-clause-run : goal.returns-clause-run
 returns-clause-run g c =
     let same = c.run_actors-core.ensures.same in
@@ -16,7 +18,9 @@ returns-clause-run g c =
     record {
       script = script_as g.H.NodeHash.half (g.S.Source.left c.args.source.now) _ _ _ _ (sym records) (sym lines) c.in-Ok.ensures.script;
       read = c.in-Ok.ensures.ended;
-      interval = listed.interval ∙ same.interval ∙ c.in-Ok-open.ensures.script.interval;
+      interval = λ a says.
+          listed.interval ∙ same.interval ∙ c.in-Ok-open.ensures.script.interval
+          ∙ sym (ap (λ (x : Asked). x.interval) (c.in-Some.ensures.only a says));
       whole = record {
         kept = c.journal.ensures.kept;
         full = full_as _ _ _ _ (sym listed.lines)
@@ -24,10 +28,11 @@ returns-clause-run g c =
       };
     }
 
+-- the run that the words ask for is the only one
 pub returns-clause-printed : goal.returns-clause-printed
-returns-clause-printed g c =
-    printed_asked g.Sh.B.Backend.tells _ _ (g.K.Sink.held c.args.sink.now) (g.K.Sink.held c.print_all-status.new.sink)
-    c.print_all-status.result.0 c.print_all-status.result.1 c.print_all-status.new.core c.asks_dump.ensures
+returns-clause-printed g c a says =
+    subst (λ (x : Asked). HasPrinted g.Sh.B.Backend.tells x (g.K.Sink.held c.args.sink.now) (g.K.Sink.held c.print_all-status.new.sink)
+    c.print_all-status.result.0 c.print_all-status.result.1 c.print_all-status.new.core) (sym (c.in-Some.ensures.only a says))
     c.print_all-status.ensures.printed
 
 pub returns-clause-status : goal.returns-clause-status

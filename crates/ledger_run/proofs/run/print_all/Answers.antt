@@ -1,11 +1,11 @@
-use Rattle.std.proofs.Common.{refl, IsTrue}
+use Rattle.std.proofs.Common.{refl}
 use Rattle.ledger_run.proofs.Ending.{printed_behind, printed_part, not_sink, not_memory, said_later}
 use Rattle.ledger_run.proofs.run.print_all.Goals as goal
 
 -- the journal and the summary are printed whole, and what there is of a dump stands behind them
 pub returns-in-Ok-clause-printed : goal.returns-in-Ok-clause-printed
 returns-in-Ok-clause-printed g c =
-    printed_behind g.Sh.B.Backend.tells (IsTrue c.args.asked) c.args.core.now c.print_dump.new.core (g.K.Sink.held c.args.sink.now)
+    printed_behind g.Sh.B.Backend.tells c.args.asked c.args.core.now c.print_dump.new.core (g.K.Sink.held c.args.sink.now)
     (g.K.Sink.held c.print.new.sink)
     (g.K.Sink.held c.print_dump.new.sink) c.print_dump.result.0 c.print_dump.result.1 c.print_dump.ensures.lists c.in-Ok.ensures.wrote
     c.print_dump.ensures.printed c.print_dump.ensures.dumped

@@ -1,6 +1,7 @@
-use Rattle.std.proofs.Common.{Ok}
+use Rattle.std.proofs.Common.{Ok, Some}
 use Rattle.script_form.specs.declared.forms.Form.TheVariants as form
-use Rattle.script_form.proofs.Calls.{read_as, base_read, texts}
+use Rattle.ledger_machine.specs.declared.commands.Command.TheVariants as command
+use Rattle.script_form.proofs.Calls.{read_as, base_read, begin_says, swap_says, texts}
 use Rattle.script_form.proofs.call.said_by.Goals as goal
 
 pub returns-in-Want : goal.returns-in-Want
@@ -59,3 +60,11 @@ returns-in-Put c = read_as c.args.form form.Put _ _ c.in-Put.is c.put_of.ensures
 
 pub returns-in-Tx : goal.returns-in-Tx
 returns-in-Tx c = read_as c.args.form form.Tx _ _ c.in-Tx.is c.tx_of.ensures
+
+pub returns-in-Begin : goal.returns-in-Begin
+returns-in-Begin c = read_as c.args.form form.Begin (texts c.args.arguments.now) (Ok (Some command.Begin)) c.in-Begin.is
+    (begin_says c.args.arguments.now (rw c.in-Begin.is at c.requires))
+
+pub returns-in-Swap : goal.returns-in-Swap
+returns-in-Swap c = read_as c.args.form form.Swap (texts c.args.arguments.now) (Ok (Some command.Swap)) c.in-Swap.is
+    (swap_says c.args.arguments.now (rw c.in-Swap.is at c.requires))

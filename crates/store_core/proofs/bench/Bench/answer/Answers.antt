@@ -1,5 +1,7 @@
+-- what a command does, with what it carries, is a step
 use Rattle.store_core.proofs.bench.Bench.answer.Goals as goal
 
--- a sound state has only forms under their own hashes
-pub beside-requires-clause-filed : goal.beside-requires-clause-filed
-beside-requires-clause-filed g c κs within = λ told. (c.requires.sound told).forms
+pub returns-clause-step : goal.returns-clause-step
+returns-clause-step g c told =
+    c.a_step_carries_what_was_told.ensures g.H.NodeHash.half _ _ c.args.actor c.args.command.now _ _ (c.serve.ensures.does told)
+    (c.serve.ensures.carries told).1

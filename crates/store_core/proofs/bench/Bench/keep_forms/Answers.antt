@@ -9,8 +9,8 @@ invariant_of-self g c =
     let filed : IsFiled g.H.NodeHash.half g.Sh.B.Backend.tells c.self.inside.machine.state =
     subst (λ (d : Desk). IsFiled g.H.NodeHash.half g.Sh.B.Backend.tells d.state) (sym c.self.view_is) c.requires.filed in
     kept_keeps g.H.NodeHash.half c.a_session_stays_over_its_ledger.ensures c.self.inside.sessions g.Sh.B.Backend.tells
-    c.self.inside.machine.state c.keep_all.new.self.state _ c.keep_all.result (λ told. c.self.invariant told (filed told))
-    c.keep_all.ensures.keeps
+    c.self.inside.machine.state c.keep_ledger.new.self.state _ c.keep_ledger.result (λ told. c.self.invariant told (filed told))
+    c.keep_ledger.ensures.keeps
 
 pub returns-clause-keeps : goal.returns-clause-keeps
 returns-clause-keeps g c told =
@@ -18,5 +18,5 @@ returns-clause-keeps g c told =
     subst (λ (d : Desk). IsFiled g.H.NodeHash.half g.Sh.B.Backend.tells d.state) (sym c.self.view_is) c.requires.filed in
     rw (← c.self.view_is)
     (kept_open g.H.NodeHash.half c.a_session_stays_over_its_ledger.ensures c.self.inside.sessions g.Sh.B.Backend.tells
-    c.self.inside.machine.state c.keep_all.new.self.state _ c.keep_all.result told (c.self.invariant told (filed told))
-    (c.keep_all.ensures.keeps told))
+    c.self.inside.machine.state c.keep_ledger.new.self.state _ c.keep_ledger.result told (c.self.invariant told (filed told))
+    (c.keep_ledger.ensures.keeps told))

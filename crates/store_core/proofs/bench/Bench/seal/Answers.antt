@@ -2,7 +2,7 @@
 use Rattle.std.proofs.Common.{IsTrue, sym, subst}
 use Rattle.ledger_machine.specs.Sound.{Sound}
 use Rattle.store_core.specs.Desks.{Desk}
-use Rattle.store_core.proofs.Sealing.{unmade_none, unmade_empty, unmade_low, unmade_fault, made_named, made_whole}
+use Rattle.store_core.proofs.Sealing.{unmade_none, unmade_empty, unmade_low, unmade_fault, made_whole}
 use Rattle.store_core.proofs.bench.Bench.seal.Goals as goal
 
 pub returns-in_default-clause-unmade : goal.returns-in_default-clause-unmade
@@ -45,17 +45,6 @@ returns-in-Err-clause-unmade g c =
       sound = subst (λ (d : Desk). IsTrue g.Sh.B.Backend.tells → Sound g.H.NodeHash.half d.state) (sym c.self.view_is) c.requires.sound;
       are = c.requires.in_range;
     }) c.next_seq.ensures c.floor-floor.ensures c.if-next_seq-floor.false c.fields.ensures c.in-Err.ensures.zero)
-
-pub returns-in-Ok-clause-named : goal.returns-in-Ok-clause-named
-returns-in-Ok-clause-named g c told =
-    made_named g.H.NodeHash.half c.self.inside.machine.state c.self.inside.sessions c.args.id c.in-Some.session.now c.args.given.now
-    c.known_half.ensures c.what_is_left_is_whole.ensures c.if-is_empty.ensures
-    g.Sh.B.Backend.tells c.fields.result c.in-Ok.made (record {
-      is = c.in-Some.ensures;
-      keeps = c.self.invariant;
-      sound = subst (λ (d : Desk). IsTrue g.Sh.B.Backend.tells → Sound g.H.NodeHash.half d.state) (sym c.self.view_is) c.requires.sound;
-      are = c.requires.in_range;
-    }) (record { follows = c.in-Ok.ensures.follows; closes = c.in-Ok.ensures.closes; zero = c.in-Ok.ensures.zero }) told
 
 pub returns-in-Ok-clause-made : goal.returns-in-Ok-clause-made
 returns-in-Ok-clause-made g c told =

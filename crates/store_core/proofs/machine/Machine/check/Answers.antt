@@ -1,5 +1,8 @@
 -- what the search found decides as the machine's row does
-use Rattle.std.proofs.Common.{refl, sym, ap, ◌∙◌, length, arith}
+use Rattle.std.proofs.Common.{◌≡◌, List, refl, sym, ap, ◌∙◌, subst, length, arith}
+use Rattle.ledger_spec.specs.Bytes.{Hash}
+use Rattle.store_core.specs.Telling.{Hears}
+use Rattle.store_core.proofs.Retold.{settled_tells, unsettled_tells}
 use Rattle.ledger_spec.specs.Maps.{hash_cmp, get_in}
 use Rattle.ledger_spec.specs.Acquiring.{after_verdict}
 use Rattle.missing_walk.specs.Sees.{Finds}
@@ -8,7 +11,8 @@ use Rattle.acquire_core.specs.Replies.{found_verdict}
 use Rattle.ledger_machine.specs.State.{State, form_in, with_wanted, stored_seq}
 use Rattle.ledger_machine.specs.Check.{after_check}
 use Rattle.store_core.specs.Desks.{Desk, over}
-use Rattle.store_core.specs.Wanting.{judged_by, check_told}
+use Rattle.ledger_machine.specs.Steps.{IsAfter}
+use Rattle.store_core.specs.Wanting.{judged_by, check_told, settled, told_at}
 use Rattle.store_core.proofs.States.{on_err}
 use Rattle.store_core.proofs.Tables.{IsOver, same_over, filed_over}
 use Rattle.store_core.proofs.Founds.{check_found, check_settled, check_unsettled, finds_own, found_seq_is}
@@ -47,10 +51,11 @@ returns-clause-after g c told =
     ∙ ap (λ (x : State). with_wanted x t (λ a. after_verdict a (found_verdict a x.floor f)))
     (ap (λ (d : Desk). over c.whole.new.store d.state) c.self.view_is
     ∙ same_over st c.whole.new.store s is (c.whole.ensures.read.same told)) in
-    check_settled s t s.floor f c.judge.new.self.state c.settle.new.self.state c.found_seq.result c.in_ok-reply.reply reply asked
-    c.in_ok-settle.ensures.ok
+    let given : State = settled c.judge.new.self.state t c.found_seq.result c.in_ok-reply.reply in
+    let is = check_settled s t s.floor f c.judge.new.self.state given c.found_seq.result c.in_ok-reply.reply reply asked refl
     ∙ ap (λ n. after_check s t n (check_told c.in_ok-reply.reply)) (c.found_seq.ensures ∙ found_seq_is half s t f finds)
-    ∙ ap (after_check s t (stored_seq s t)) (sym c.check_told.ensures)
+    ∙ ap (after_check s t (stored_seq s t)) (sym c.check_told.ensures) in
+    subst (λ (x : State). IsAfter x c.settle.new.self.state) is c.in_ok-settle.ensures.ok
 
 -- only to list a complete ledger wants memory, and its acquisition stayed as it was
 pub returns-in_err-settle-clause-err : goal.returns-in_err-settle-clause-err
@@ -66,8 +71,9 @@ returns-in_err-settle-clause-err g c told =
     ∙ ap (λ (x : State). with_wanted x t (λ a. after_verdict a (found_verdict a x.floor f)))
     (ap (λ (d : Desk). over c.whole.new.store d.state) c.self.view_is
     ∙ same_over st c.whole.new.store s is (c.whole.ensures.read.same told)) in
-    on_err c.from_residual-in_err-settle.result (ap (λ (d : Desk). d.state) c.in_err-settle.ensures.err.1
-    ∙ check_unsettled s t s.floor f c.judge.new.self.state c.in_ok-reply.reply reply asked c.in_err-settle.ensures.err.0)
+    let is = check_unsettled s t s.floor f c.judge.new.self.state c.in_ok-reply.reply reply asked c.in_err-settle.ensures.err.0 in
+    on_err c.from_residual-in_err-settle.result
+    (subst (λ (x : State). IsAfter x c.settle.new.self.state) is c.in_err-settle.ensures.err.1)
 
 -- a reply lists one ledger at most, and neither the search nor the judgement takes a fault back
 pub returns-clause-grows : goal.returns-clause-grows
@@ -76,7 +82,7 @@ returns-clause-grows g c = record {
     arith,
     c.whole.ensures.read.later.faults,
     ap (λ (d : Desk). d.faults) c.self.view_is,
-    c.judge.ensures.faults,
+    c.judge.ensures.stays.later,
     c.settle.ensures.faults,
   );
   few = omega (
@@ -86,4 +92,38 @@ returns-clause-grows g c = record {
     ap (λ (x : State). length x.listed) c.in_ok-reply.ensures.after,
     ap (λ (d : Desk). length d.state.listed) c.self.view_is,
   );
+  ages = omega (
+    arith,
+    c.settle.ensures.epoch,
+    c.judge.ensures.stays.epoch,
+    c.whole.ensures.read.later.past.0,
+    ap (λ (d : Desk). d.state.epoch) c.self.view_is,
+  );
 }
+
+-- the rotation was told of the ledger that is listed, which was open
+pub returns-clause-tells : goal.returns-clause-tells
+returns-clause-tells g c =
+    settled_tells c.args.self.now.state c.judge.new.self.state c.settle.new.self.state c.args.target.now c.found_seq.result
+    c.in_ok-reply.reply
+    (subst (λ (hs : List Hash). Hears hs (told_at c.args.target.now c.in_ok-reply.reply) c.settle.new.self.state.shaded)
+    (c.judge.ensures.told ∙ ap (λ (d : Desk). d.state.shaded) c.self.view_is) c.settle.ensures.hears) c.in_ok-settle.ensures.ok
+
+pub returns-in_err-settle-clause-tells : goal.returns-in_err-settle-clause-tells
+returns-in_err-settle-clause-tells g c =
+    let s0 : State = over c.whole.new.store c.args.self.now.state in
+    let same : c.judge.new.self.state ≡ s0 =
+    check_unsettled s0 c.args.target.now s0.floor c.in_ok-found.found c.judge.new.self.state c.in_ok-reply.reply
+    (c.in_ok-reply.ensures.reply
+    ∙ ap (λ (d : Desk). judged_by (get_in hash_cmp d.state.wanted c.args.target.now) d.state.floor c.in_ok-found.found) c.self.view_is)
+    (c.in_ok-reply.ensures.after
+    ∙ ap (λ (d : Desk). with_wanted (over c.whole.new.store d.state) c.args.target.now
+    (λ a. after_verdict a (found_verdict a d.state.floor c.in_ok-found.found))) c.self.view_is)
+    c.in_err-settle.ensures.err.0 in
+    unsettled_tells c.args.self.now.state s0 c.settle.new.self.state c.args.target.now c.in_ok-reply.reply s0.floor c.in_ok-found.found
+    (c.in_ok-reply.ensures.reply
+    ∙ ap (λ (d : Desk). judged_by (get_in hash_cmp d.state.wanted c.args.target.now) d.state.floor c.in_ok-found.found) c.self.view_is)
+    c.in_err-settle.ensures.err.0
+    (subst (λ (hs : List Hash). Hears hs (told_at c.args.target.now c.in_ok-reply.reply) c.settle.new.self.state.shaded)
+    (c.judge.ensures.told ∙ ap (λ (d : Desk). d.state.shaded) c.self.view_is) c.settle.ensures.hears)
+    (subst (λ (x : State). IsAfter x c.settle.new.self.state) same c.in_err-settle.ensures.err.1)

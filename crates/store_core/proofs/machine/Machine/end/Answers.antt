@@ -5,5 +5,7 @@ use Rattle.store_core.proofs.machine.Machine.end.Goals as goal
 
 -- the other acquisitions stay open
 pub invariant_of-self : goal.invariant_of-self
-invariant_of-self g c =
-    subst AreOpen (sym c.remove.ensures.entries) (remove_open c.args.target.now c.self.inside.wanted.entries c.self.invariant)
+invariant_of-self g c = (
+  subst AreOpen (sym c.remove.ensures.entries) (remove_open c.args.target.now c.self.inside.wanted.entries c.self.invariant.0),
+  c.self.invariant.1,
+)

@@ -1,16 +1,12 @@
--- the store's put, over the state
-use Rattle.std.proofs.Common.{refl}
-use Rattle.ledger_spec.specs.Bytes.{Bytes}
-use Rattle.rotating_store.specs.Puts.{Puts, TellsWrongHash}
-use Rattle.store_core.proofs.Keeping.{keeps_by}
+-- the rotation was told, and then the form was written
+use Rattle.store_core.proofs.Keeping.{told_keeps}
+use Rattle.store_core.proofs.Retold.{hears_same}
 use Rattle.store_core.proofs.machine.Machine.keep.Goals as goal
 
 pub returns-clause-keeps : goal.returns-clause-keeps
 returns-clause-keeps g c told =
-    let half = g.H.NodeHash.half in
-    let form : Bytes = c.args.form.now.form in
-    let puts : Puts c.self.inside.store (half form) form c.put-put.result c.put-put.new.self =
-    rw (← c.requires told, ← c.bytes.ensures) (c.put-put.ensures.puts told) in
-    let wrong : TellsWrongHash half (half form) form c.put-put.result = rw (← c.requires told, ← c.bytes.ensures) c.put-put.ensures.wrong in
-    rw c.kept.ensures (rw (← c.self.view_is) (keeps_by half c.self.inside.store c.put-put.new.self _
-    (record { nodes = refl; born = refl; epoch = refl }) form c.put-put.result puts wrong))
+    told_keeps g.H.NodeHash.half c.args.self.now.state c.tell.new.self.state c.tell.ensures.after c.args.form.now.form c.write.result
+    c.write.new.self.state (c.write.ensures.keeps told)
+
+pub returns-clause-hears : goal.returns-clause-hears
+returns-clause-hears g c = hears_same _ _ _ _ c.tell.ensures.hears c.write.ensures.told

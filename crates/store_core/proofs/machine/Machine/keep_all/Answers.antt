@@ -1,7 +1,8 @@
 -- each form is stored behind those before it, or its clash is the first of all
 use Rattle.std.proofs.Common.{◌<◌, length, map, drop, ◌+◌, ◌∙◌, arith, subst, List}
 use Rattle.ledger_spec.specs.Bytes.{Bytes}
-use Rattle.store_core.proofs.KeepingAll.{AreKept, next_form, one_kept, failed_kept}
+use Rattle.store_core.proofs.KeepingAll.{AreKept, next_form, form_among, one_kept, failed_kept}
+use Rattle.store_core.proofs.Turns.{hears_on}
 use Rattle.store_core.proofs.machine.Machine.keep_all.Goals as goal
 
 pub loop-form-preserved : goal.loop-form-preserved
@@ -14,9 +15,12 @@ loop-form-preserved g c =
           (subst (λ (fs : List Bytes). AreKept half c.args.self.now.state (map (λ f. f.form) c.args.forms.now) fs c.loop-form.self.state)
           (next_form c.args.forms.now c.loop-form.form-index c.form-item.result lt c.form-item.is) (c.loop-form.invariant.kept told))
           (rw c.in-Ok.is at (c.keep.ensures.keeps told));
+      hears = hears_on _ (map (λ f. f.hash) c.args.forms.now) _ _ c.form-item.result.hash c.loop-form.invariant.hears c.keep.ensures.hears
+          (form_among c.args.forms.now c.loop-form.form-index c.form-item.result lt c.form-item.is);
       stays = record {
         later = omega (arith, c.loop-form.invariant.stays.later, c.keep.ensures.stays.later);
         listed = c.keep.ensures.stays.listed ∙ c.loop-form.invariant.stays.listed;
+        epoch = c.keep.ensures.stays.epoch ∙ c.loop-form.invariant.stays.epoch;
       };
     }
 
@@ -29,3 +33,9 @@ returns-in-Err-clause-keeps g c told =
     (subst (λ (fs : List Bytes). AreKept half c.args.self.now.state (map (λ f. f.form) c.args.forms.now) fs c.loop-form.self.state)
     (next_form c.args.forms.now c.loop-form.form-index c.form-item.result lt c.form-item.is) (c.loop-form.invariant.kept told))
     (rw c.in-Err.is at (c.keep.ensures.keeps told))
+
+pub returns-in-Err-clause-hears : goal.returns-in-Err-clause-hears
+returns-in-Err-clause-hears g c =
+    let lt : c.loop-form.form-index < length c.args.forms.now = omega (arith, c.loop-form-test.true) in
+    hears_on _ (map (λ f. f.hash) c.args.forms.now) _ _ c.form-item.result.hash c.loop-form.invariant.hears c.keep.ensures.hears
+    (form_among c.args.forms.now c.loop-form.form-index c.form-item.result lt c.form-item.is)

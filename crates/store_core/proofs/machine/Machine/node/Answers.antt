@@ -6,30 +6,43 @@ use Rattle.ledger_spec.specs.Own.{AreStored}
 use Rattle.ledger_machine.specs.State.{State}
 use Rattle.ledger_machine.specs.declared.commands.Command.{Command}
 use Rattle.ledger_machine.specs.declared.commands.Command.TheVariants as command
-use Rattle.ledger_machine.specs.Steps.{Step}
+use Rattle.ledger_machine.specs.Steps.{Does}
 use Rattle.acquire_core.specs.Answers.{forms_in}
+use Rattle.acquire_core.specs.Replies as acquire
 use Rattle.rotating_store.specs.Stores.{Store}
 use Rattle.store_core.specs.Desks.{over}
 use Rattle.store_core.specs.Wanting.{AreOpen, node_answer}
 use Rattle.store_core.proofs.Opens.{set_open, found_open, noded_open, taken_desk}
-use Rattle.store_core.proofs.Parts.{step_node, same_blob}
+use Rattle.store_core.proofs.Parts.{does_node, same_blob}
 use Rattle.store_core.proofs.Tables.{IsOver, filed_over}
+use Rattle.store_core.proofs.Turns.{keeps_forms, answers_forms}
 use Rattle.store_core.proofs.machine.Machine.node.Goals as goal
 
 -- a charge is no tick and changes no target
 pub invariant_of-self-2 : goal.invariant_of-self-2
 invariant_of-self-2 g c =
+    let half = g.H.NodeHash.half in
     let t = c.args.target.now in
     let wanted : ForHash Acquiring = c.self.inside.wanted.entries in
-    let a : Acquiring = c.in-Some.acquire.now in
-    subst AreOpen (sym (c.get_mut.follows.holds c.node-taken.new.self).0)
-    (set_open t wanted c.node-taken.new.self c.self.invariant
-    (noded_open t a c.node-taken.new.self c.args.peer c.node-taken.result c.node-taken.ensures.after
-    (found_open t wanted a c.self.invariant (sym c.in-Some.ensures.value))))
+    let a : Acquiring = c.in-Some.acquire.now in (
+      subst AreOpen (sym (c.get_mut.follows.holds c.node-taken.new.self).0)
+          (set_open t wanted c.node-taken.new.self c.self.invariant.0
+          (noded_open t a c.node-taken.new.self c.args.peer c.node-taken.result c.node-taken.ensures.after
+          (found_open t wanted a c.self.invariant.0 (sym c.in-Some.ensures.value)))),
+      keeps_forms g.Sh.B.Backend.tells _ _ c.self.inside.store c.self.invariant.1 half c.node-taken.new.store
+          (λ told.
+          let st : Store = c.self.inside.store in
+          let is : IsOver st c.args.self.now.state = rw (← c.self.view_is) (record { nodes = refl; born = refl; epoch = refl }) in
+          answers_forms half (acquire.node_reply half (forms_in st) a c.args.peer c.args.kind c.args.id.now c.args.blob.now)
+          (acquire.node_stores half (forms_in st) a c.args.peer c.args.kind c.args.id.now c.args.blob.now) st c.node-taken.result
+          c.node-taken.new.store
+          (same_blob half st c.node-taken.new.store a c.args.peer c.args.kind c.args.id.now c.node-taken.result c.args.blob.now _
+          c.bytes.ensures (c.node-taken.ensures.answer told (filed_over half st c.args.self.now.state is (c.requires.filed told))))),
+    )
 
 -- what the acquisition answers over the store is what the machine's row answers over the state
-pub returns-clause-step : goal.returns-clause-step
-returns-clause-step g c told actor =
+pub returns-clause-does : goal.returns-clause-does
+returns-clause-does g c told actor =
     let half = g.H.NodeHash.half in
     let s : State = c.args.self.now.state in
     let t = c.args.target.now in
@@ -41,13 +54,13 @@ returns-clause-step g c told actor =
     let after : State = record (over st' s) { wanted = set_in hash_cmp s.wanted t a' } in
     let is : IsOver st s = rw (← c.self.view_is) (record { nodes = refl; born = refl; epoch = refl }) in
     let at : get_in hash_cmp s.wanted t ≡ Some a = rw (← c.self.view_is) (sym c.in-Some.ensures.value) in
-    let own : a.target ≡ t = (found_open t c.self.inside.wanted.entries a c.self.invariant (sym c.in-Some.ensures.value)).own in
+    let own : a.target ≡ t = (found_open t c.self.inside.wanted.entries a c.self.invariant.0 (sym c.in-Some.ensures.value)).own in
     let all : AreStored half (forms_in st) = filed_over half st s is (c.requires.filed told) in
     let answers = same_blob half st st' a c.args.peer c.args.kind c.args.id.now c.node-taken.result c.args.blob.now _ c.bytes.ensures
     (c.node-taken.ensures.answer told all) in
-    let step : Step half s actor asks (node_answer c.node-taken.result) [] after =
-    step_node half st st' s t c.args.peer a a' is at own c.args.kind c.args.id.now c.args.blob.now c.known_half.ensures
-    c.requires.bytes actor c.known.ensures.turning c.node-taken.result c.node-taken.ensures.after answers in
+    let does : Does half s actor asks (node_answer c.node-taken.result) [] after =
+    does_node half st st' s t c.args.peer a a' is at own c.args.kind c.args.id.now c.args.blob.now c.known_half.ensures
+    c.requires.bytes actor c.node-taken.result c.node-taken.ensures.after answers in
     let same = taken_desk t _ _ c.self.view_is _ st' a' (c.get_mut.follows.holds c.node-taken.new.self).0 in
     rw c.node_answer.ensures
-    (subst (λ (x : State). Step half s actor asks (node_answer c.node-taken.result) [] x) (sym same) step)
+    (subst (λ (x : State). Does half s actor asks (node_answer c.node-taken.result) [] x) (sym same) does)

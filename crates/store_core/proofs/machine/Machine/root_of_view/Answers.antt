@@ -5,6 +5,7 @@ use Rattle.ledger_machine.specs.State.{State}
 use Rattle.own_forms.proofs.Reading.{stored_notes}
 use Rattle.store_core.specs.Desks.{Desk}
 use Rattle.store_core.proofs.Tables.{IsOver, filed_over}
+use Rattle.store_core.proofs.Turns.{keeps_was_read}
 use Rattle.store_core.proofs.Viewing.{root_found, no_root, only_reads}
 use Rattle.store_core.proofs.machine.Machine.root_of_view.Goals as goal
 
@@ -32,3 +33,10 @@ returns-in-Some-clause-reads g c =
     let is : IsOver c.self.inside.store d.state = rw (← c.self.view_is) (record { nodes = refl; born = refl; epoch = refl }) in
     only_reads _ _ _ _ c.self.inside.store c.root_in.new.store c.self.view_is is (ap (λ (x : Desk). x.faults) c.self.view_is)
     c.root_in.ensures.read
+
+pub invariant_of-self : goal.invariant_of-self
+invariant_of-self g c = (
+  c.self.invariant.0,
+  keeps_was_read g.Sh.B.Backend.tells c.self.inside.book c.self.inside.rotator c.self.inside.store c.self.invariant.1
+      g.H.NodeHash.half c.root_in.new.store c.root_in.ensures.read,
+)

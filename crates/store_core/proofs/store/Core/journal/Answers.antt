@@ -3,7 +3,7 @@ use Rattle.ledger_laws.proofs.Completeness.{retained_stored, run_exact}
 use Rattle.ledger_laws.proofs.Collisions.{entry_shown}
 use Rattle.ledger_laws.proofs.Receipts.{all_stay}
 use Rattle.ledger_laws.proofs.EveryMaps.{reads_exact}
-use Rattle.store_core.proofs.Journals.{kept_few, kept_projects, kept_acquires, kept_ranges}
+use Rattle.store_core.proofs.Journals.{kept_few, kept_projects, kept_ranges}
 use Rattle.store_core.proofs.store.Core.journal.Goals as goal
 
 pub returns-clause-few : goal.returns-clause-few
@@ -13,16 +13,15 @@ returns-clause-few g c = rw (← c.self.view_is) (kept_few _ _ _ _ _ _ _ _ _ _ _
 pub returns-clause-kept : goal.returns-clause-kept
 returns-clause-kept g c =
     let k = c.self.invariant in
-    let acquires = kept_acquires _ _ _ _ _ _ _ _ _ _ _ _ k in
     rw (← c.self.view_is) (record {
       machine = λ told. record {
         run = k.run told;
         checks = λ run. run_exact g.H.NodeHash.half _ _ _ _ run;
-        received = λ run. all_stay g.H.NodeHash.half _ acquires _ _ _ run;
+        received = λ run. all_stay g.H.NodeHash.half _ _ _ _ run;
         reads = λ run. reads_exact g.H.NodeHash.half c.known_half.ensures _ (kept_ranges _ _ _ _ _ _ _ _ _ _ _ _ k) _ _ _ run;
         sound = k.sound told;
         present = λ t i. retained_stored g.H.NodeHash.half _ t (k.sound told) i;
-        clashes = λ run e among. entry_shown g.H.NodeHash.half _ _ _ _ _ e k.recorded acquires run among;
+        clashes = λ run e among. entry_shown g.H.NodeHash.half _ _ _ _ _ e k.recorded run among;
       };
       projects = kept_projects _ _ _ _ _ _ _ _ _ _ _ _ k;
       known = k.known;

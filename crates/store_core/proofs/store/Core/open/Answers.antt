@@ -12,7 +12,7 @@ pub returns-clause-state : goal.returns-clause-state
 returns-clause-state g c told =
     let stored = c.in-Ok.ensures.stored told in
     c.new.ensures.state
-    ∙ over_open c.put_records.new.store 256 (with_records map.empty c.args.script.records.items)
+    ∙ over_open c.put_records.new.store c.args.interval (with_records map.empty c.args.script.records.items)
     (stored.0 ∙ ap (with_records map.empty) c.deref.ensures.value) stored.1
     (c.put_records.ensures.later.past.0 ∙ c.in_ok-store.ensures.state.0)
 
@@ -20,7 +20,9 @@ returns-clause-state g c told =
 pub invariant_of-result : goal.invariant_of-result
 invariant_of-result g c =
     kept_open g.H.NodeHash.half c.args.script.records.items c.args.script.lines.items c.in-Ok-vec.cursors.items
-    c.in-Ok-with_capacity.journal.items _ 256 g.Sh.B.Backend.tells _ _ c.new.result.state
+    c.in-Ok-with_capacity.journal.items _ c.args.interval g.Sh.B.Backend.tells _ _ c.new.result.state
     c.in-Ok-with_capacity.ensures.items (search (rules, common_steps)) (λ a l. search (rules, common_steps)) c.requires.lines
     c.requires.records (search (rules, common_steps)) (c.faults-opened.ensures ∙ sym c.new.ensures.faults)
-    (ap (λ (s : State). s.listed) c.new.ensures.state) (λ told. returns-clause-state g c told)
+    (ap (λ (s : State). s.listed) c.new.ensures.state) (ap (λ (s : State). s.turning) c.new.ensures.state)
+    (ap (λ (s : State). s.epoch) c.new.ensures.state ∙ c.put_records.ensures.later.past.0 ∙ c.in_ok-store.ensures.state.0)
+    (λ told. returns-clause-state g c told)

@@ -4,9 +4,9 @@ use Rattle.std.proofs.Common.{◌≡◌, ◌≢◌, ℕ, true, take, length, ref
 use Rattle.std.proofs.lemmas.Bool.{false≢true}
 use Rattle.ledger_machine.specs.declared.commands.Line.{Line}
 use Rattle.ledger_machine.specs.Runs.{is_answered}
-use Rattle.ledger_laws.proofs.SoundSteps.{covered_step_sound}
-use Rattle.store_core.proofs.Journals.{kept_few, kept_less, kept_next, kept_moved, kept_step, kept_done, kept_past, kept_end, kept_served}
-use Rattle.store_core.proofs.Journals.{kept_in_range, served_acquires, moved, moved_end, pushed, answers}
+use Rattle.ledger_laws.proofs.SoundSteps.{step_sound}
+use Rattle.store_core.proofs.Journals.{kept_few, kept_less, kept_next, kept_moved, kept_step, kept_done, kept_past, kept_end}
+use Rattle.store_core.proofs.Journals.{kept_in_range, moved, moved_end, pushed, answers}
 use Rattle.store_core.proofs.Waiting.{done_free, next_left, blocked_by, blocked_at, same_line}
 use Rattle.store_core.proofs.store.Core.step.Goals as goal
 use Rattle.store_core.proofs.store.Core.step.Goals.{else-after-ne0-via-then-after-ne0+else-not-is_answered}
@@ -27,14 +27,6 @@ pub returns-in_default-clause-blocked : goal.returns-in_default-clause-blocked
 returns-in_default-clause-blocked g c =
     ((λ e. cc), (λ blocked. absurd (done_free _ _ c.args.actor ((returns-in_default-clause-finished g c).0 refl) blocked)))
 
--- each line of the script is one that a core serves, so the one that was found is
-pub answer-reply-requires-clause-covered : goal.answer-reply-requires-clause-covered
-answer-reply-requires-clause-covered g c _ _ =
-    let k = c.self.invariant in
-    let next = moved c.self.inside.cursors.items c.deref.ensures.value c.index-from.ensures
-    c.self.inside.cursors.ok.0 c.len.ensures c.if-actor-len.false c.in-Some.ensures in
-    served_acquires _ (kept_served _ _ _ _ _ _ _ _ _ _ _ _ k _ next.within c.index-line.result.now c.index-line.ensures)
-
 -- each line of the script is in range, so the one that was found is
 pub answer-reply-requires-clause-in_range : goal.answer-reply-requires-clause-in_range
 answer-reply-requires-clause-in_range g c _ _ =
@@ -45,6 +37,19 @@ answer-reply-requires-clause-in_range g c _ _ =
 
 pub answer-reply-requires-clause-sound : goal.answer-reply-requires-clause-sound
 answer-reply-requires-clause-sound g c _ _ = c.self.invariant.sound
+
+pub answer-reply-requires-clause-told : goal.answer-reply-requires-clause-told
+answer-reply-requires-clause-told g c _ _ = c.self.invariant.roots
+
+-- no more epochs have ended than there are entries, and there are fewer of those than lines
+pub answer-reply-requires-clause-room : goal.answer-reply-requires-clause-room
+answer-reply-requires-clause-room g c _ _ =
+    let k = c.self.invariant in
+    let next = moved c.self.inside.cursors.items c.deref.ensures.value c.index-from.ensures
+    c.self.inside.cursors.ok.0 c.len.ensures c.if-actor-len.false c.in-Some.ensures in
+    let less = kept_less _ _ _ _ _ _ _ _ _ _ _ _ k c.args.actor _
+    (omega (arith, k.cursor_count, c.len.ensures, c.if-actor-len.false)) next c.index-line.result.now c.index-line.ensures in
+    omega (arith, k.young, less, k.servable.few)
 
 -- room for an entry of each line was reserved, and this line has none yet, so the push succeeds
 pub unwrap-requires : goal.unwrap-requires
@@ -129,7 +134,6 @@ invariant_of-self-2 g c =
     let next = moved c.self.inside.cursors.items c.deref.ensures.value c.index-from.ensures
     c.self.inside.cursors.ok.0 c.len.ensures c.if-actor-len.false c.in-Some.ensures in
     let line = c.index-line.result.now in
-    let served = served_acquires _ (kept_served _ _ _ _ _ _ _ _ _ _ _ _ k _ next.within line c.index-line.ensures) in
     let range = kept_in_range _ _ _ _ _ _ _ _ _ _ _ _ k _ next.within line c.index-line.ensures in
     let free : c.index-line.result.now.after ≢ 0 → is_answered c.self.inside.journal.items c.index-line.result.now.after ≡ true =
     (let same = same_line c.self.inside.script.lines.items _ c.index-line.result.now c.index.result.now next.within c.index-line.ensures
@@ -144,8 +148,9 @@ invariant_of-self-2 g c =
     rw (pushed c.push.result _ _ _ _ c.push.ensures.items c.unwrap.ensures)
     (kept_step _ _ _ _ _ _ _ _ _ _ _ _ k c.args.actor _ (omega (arith, k.cursor_count, c.len.ensures, c.if-actor-len.false)) next
     c.index-line.result.now c.index-line.ensures _ _ _ _ refl refl free step
-    (λ t. covered_step_sound _ c.known_half.ensures c.what_is_left_is_whole.ensures _ _ _ _ _ _ served range (k.sound t) (step t))
-    c.answer-reply.ensures.grows.few c.push.ensures.capacity c.answer-reply.ensures.grows.later
+    (λ t. step_sound _ c.known_half.ensures c.what_is_left_is_whole.ensures _ _ _ _ _ _ range (k.sound t) (step t))
+    c.answer-reply.ensures.told c.answer-reply.ensures.grows.few c.answer-reply.ensures.grows.ages
+    c.push.ensures.capacity c.answer-reply.ensures.grows.later
     c.answer-reply.ensures.fault)
 
 -- one entry more: the actor's next line with the machine's reply, and a fault only where the store's count rose

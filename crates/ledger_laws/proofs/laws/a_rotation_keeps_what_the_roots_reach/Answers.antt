@@ -1,0 +1,5 @@
+use Rattle.ledger_laws.proofs.Sweeping.{reached_kept}
+use Rattle.ledger_laws.proofs.laws.a_rotation_keeps_what_the_roots_reach.Goals as goal
+
+pub returns : goal.returns
+returns c = reached_kept

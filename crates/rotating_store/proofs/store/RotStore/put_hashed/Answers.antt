@@ -1,0 +1,23 @@
+use Rattle.std.proofs.Common.{inr, ◌∙◌}
+use Rattle.rotating_store.proofs.Keeping.{numbered_as, keeps_new}
+use Rattle.rotating_store.proofs.store.RotStore.put_hashed.Goals as goal
+
+-- neither backend held the hash, so the pair that the failed put may have left, or left in doubt, contradicts nothing
+pub invariant_of-self-in_err-put : goal.invariant_of-self-in_err-put
+invariant_of-self-in_err-put g c = (
+  numbered_as _ _ _ _ _ _ _ c.self.invariant.0 c.get_either.ensures.numbers.1 (c.put.ensures.numbered ∙ c.get_either.ensures.numbers.0),
+  λ tells. keeps_new _ _ _ _ _ _ _ _ _ _ _ _ c.args.h.now c.args.form.now c.in_ok-old.field-0 (c.self.invariant.1 tells)
+      (c.get_either.ensures.first tells) (c.get_either.ensures.second tells)
+      c.get_either.ensures.doubts.0 c.get_either.ensures.doubts.1 (c.in_ok-old.ensures.found tells) c.in_default.is
+      (c.in_err-put.ensures.partly tells),
+)
+
+-- neither backend held the hash, so with the new pair the two maps agree, and a put that worked leaves none in doubt
+pub invariant_of-self-2 : goal.invariant_of-self-2
+invariant_of-self-2 g c = (
+  numbered_as _ _ _ _ _ _ _ c.self.invariant.0 c.get_either.ensures.numbers.1 (c.put.ensures.numbered ∙ c.get_either.ensures.numbers.0),
+  λ tells. keeps_new _ _ _ _ _ _ _ _ _ _ _ _ c.args.h.now c.args.form.now c.in_ok-old.field-0 (c.self.invariant.1 tells)
+      (c.get_either.ensures.first tells) (c.get_either.ensures.second tells)
+      c.get_either.ensures.doubts.0 c.get_either.ensures.doubts.1 (c.in_ok-old.ensures.found tells) c.in_default.is
+      (inr (c.in_ok-put.ensures.set tells, c.in_ok-put.ensures.sure)),
+)

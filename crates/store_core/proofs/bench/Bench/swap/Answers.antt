@@ -1,0 +1,30 @@
+-- what a session leaves to the store is reached from the ledger that it edits, which the rotation was told of
+use Rattle.std.proofs.Common.{IsTrue, sym, subst}
+use Rattle.ledger_spec.specs.Own.{AreStored}
+use Rattle.ledger_machine.specs.State.{form_in}
+use Rattle.store_core.specs.Benches.{with_open}
+use Rattle.store_core.specs.Desks.{Desk, IsFiled}
+use Rattle.store_core.specs.Telling.{AreTold}
+use Rattle.store_core.proofs.Besides.{swap_keeps, swap_after}
+use Rattle.store_core.proofs.bench.Bench.swap.Goals as goal
+
+pub invariant_of-self : goal.invariant_of-self
+invariant_of-self g c =
+    let half = g.H.NodeHash.half in
+    let tells = g.Sh.B.Backend.tells in
+    swap_keeps half tells c.self.inside.machine c.swap.new.self c.self.inside.sessions c.swap.result
+    c.a_session_stays_over_its_ledger.ensures
+    (subst (λ (d : Desk). IsFiled half tells d.state) (sym c.self.view_is) c.requires.filed)
+    (subst (λ (d : Desk). IsTrue tells → AreTold d.state) (sym c.self.view_is) c.requires.told)
+    c.swap.ensures.swaps c.swap.ensures.err c.self.invariant
+
+pub returns-clause-swaps : goal.returns-clause-swaps
+returns-clause-swaps g c told =
+    let half = g.H.NodeHash.half in
+    let tells = g.Sh.B.Backend.tells in
+    let filed : AreStored half (form_in c.self.inside.machine.state) =
+    (subst (λ (d : Desk). IsFiled half tells d.state) (sym c.self.view_is) c.requires.filed) told in
+    rw (← c.self.view_is) (swap_after half tells c.self.inside.machine c.swap.new.self c.self.inside.sessions c.swap.result
+    c.a_session_stays_over_its_ledger.ensures told filed
+    ((subst (λ (d : Desk). IsTrue tells → AreTold d.state) (sym c.self.view_is) c.requires.told) told)
+    (c.self.invariant told filed) (c.swap.ensures.swaps told))

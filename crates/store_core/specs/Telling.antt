@@ -1,0 +1,105 @@
+-- What the machine keeps of a rotation, and what its commands tell one.
+use Rattle.std.specs.Prelude.{◌≡◌, ◌≢◌, ◌⊎◌, ◌↔◌, ◌+◌, ◌≤◌, ◌++◌, Bool, false, IsTrue, IsSome, IsSomeAnd, IfSome, List, [], Option, None}
+use Rattle.std.specs.Prelude.{Some, Result, Ok, Err, ℕ}
+use Rattle.std.specs.List.{Contains}
+use Rattle.std.specs.Map.{keys_of, values_of}
+use Rattle.std.specs.FinSet as set
+use Rattle.ledger_spec.specs.Bytes.{Bytes, Hash, Half}
+use Rattle.ledger_spec.specs.Maps.{hash_cmp, get_in}
+use Rattle.ledger_spec.specs.Retaining.{Retention, floor_behind}
+use Rattle.rotating_store.specs.Stores.{Store}
+use Rattle.online_rotate.specs.Rotators.{Turning, InStep}
+use Rattle.online_rotate.specs.Copying.{IsFit}
+use Rattle.online_rotate.specs.declared.rotator.Begun.{Begun}
+use Rattle.online_rotate.specs.declared.rotator.Begun.TheVariants as begun
+use Rattle.node_backend.specs.declared.back.BackFault.{BackFault}
+use Rattle.node_backend.specs.declared.back.BackFault.TheVariants as back
+use Rattle.rotating_store.specs.declared.store.StoreFault.{StoreFault}
+use Rattle.rotating_store.specs.declared.store.StoreFault.TheVariants as faults
+use Rattle.ledger_machine.specs.declared.commands.Command.{Command}
+use Rattle.ledger_machine.specs.declared.commands.Command.TheVariants as command
+use Rattle.ledger_machine.specs.declared.replies.WantReply.TheVariants as want
+use Rattle.ledger_machine.specs.declared.replies.CloseReply.TheVariants as close
+use Rattle.ledger_machine.specs.declared.replies.BeginReply.{BeginReply}
+use Rattle.ledger_machine.specs.declared.replies.BeginReply.TheVariants as begins
+use Rattle.ledger_machine.specs.declared.replies.SwapReply.{SwapReply}
+use Rattle.ledger_machine.specs.declared.replies.SwapReply.TheVariants as swaps
+use Rattle.ledger_machine.specs.declared.replies.Reply.{Reply}
+use Rattle.ledger_machine.specs.declared.replies.Reply.TheVariants as says
+use Rattle.ledger_machine.specs.State.{State, form_in, Kept}
+use Rattle.ledger_machine.specs.Rotation.{WhileTurning}
+use Rattle.ledger_machine.specs.Rotation.{AreShaded}
+use Rattle.ledger_machine.specs.Rotation.{Tells}
+use Rattle.ledger_machine.specs.Steps.{own_hashes}
+
+-- Nothing is pinned in the book: what views and sessions hold is told as a rotation begins. The book has a rotation under way where the
+-- rotator has, and outside of one nothing was told. What both backends hold is reached from what was told.
+pub record KeepsTurning (tells : Bool) (b : Retention) (r : Turning) (st : Store) : Type 0 where
+  pub pins : b.pins ≡ []
+  pub step : InStep r b
+  pub idle : r.turning ≡ false → r.shaded ≡ []
+  pub fit : IsTrue tells → IsFit r.shaded st
+
+-- the commands that neither begin nor end a rotation
+abbrev pub IsSteady : Command → Type 0
+IsSteady command.Begin = ⊥
+IsSteady command.Swap = ⊥
+IsSteady _ = Unit {0}
+
+-- those that do
+abbrev pub IsRotating : Command → Type 0
+IsRotating command.Begin = Unit {0}
+IsRotating command.Swap = Unit {0}
+IsRotating _ = ⊥
+
+-- while a rotation is under way each root was told to it
+abbrev pub AreTold : State → Type 0
+AreTold s = IfSome s.turning (λ v. AreShaded s)
+
+-- what was told stays told, and nothing else is told but these
+pub record Hears (told : List Hash) (more : List Hash) (told' : List Hash) : Type 0 where
+  pub stays : (h : Hash) → Contains told h → Contains told' h
+  pub only : (h : Hash) → Contains told' h → Contains told h ⊎ Contains more h
+
+-- the ledger that a command opens or lists was told to the rotation under way
+abbrev pub TellsRoot : State → Command → Reply → State → Type 0
+TellsRoot s (command.Want t seq) (says.Want want.Opened) s' = IsSome s.turning → Contains s'.shaded t
+TellsRoot s (command.Close x fields) (says.Close (close.Closed h)) s' = IsSome s.turning → Contains s'.shaded h
+TellsRoot s c reply s' = Unit {0}
+
+-- what a step carries of a rotation that is under way before and after it
+abbrev pub Carried : Half → State → ℕ → Command → Reply → State → Type 0
+Carried half s a c reply s' = WhileTurning s.turning s'.turning (AreShaded s' × Tells s s' (own_hashes half s a c reply))
+
+-- the machine's names for what a begin and the end of a rotation come to
+abbrev pub begin_told : Begun → BeginReply
+begin_told (begun.Begun seq floor) = begins.Begun seq floor
+begin_told begun.NotDue = begins.NotDue
+begin_told begun.Busy = begins.Busy
+
+abbrev pub unended : StoreFault → BackFault
+unended faults.Fault = back.Fault
+unended _ = back.Memory
+
+abbrev pub swap_told : Result ℕ StoreFault → Result SwapReply BackFault
+swap_told (Ok epoch) = Ok (swaps.Swapped epoch)
+swap_told (Err fault) = Err (unended fault)
+
+-- a rotation that begins was told the ledgers that stay listed, those of views, the open targets and these, and nothing else
+abbrev pub BeginsBy : State → List Hash → BeginReply → State → Type 0
+BeginsBy s more (begins.Begun v floor) s' = (h : Hash) → Contains s'.shaded h
+    ↔ (IsSomeAnd (get_in hash_cmp s.listed h) (λ seq. floor_behind s.last ≤ seq)
+    ⊎ Contains (values_of s.views ++ keys_of s.wanted ++ more) h)
+BeginsBy s more r s' = s'.shaded ≡ s.shaded
+
+-- a swap, by what the rotation was told: all that this reaches stays, and nothing else but what was born in the epoch that ended
+pub record SwapsTold (s s' : State) : Type 0 where
+  pub fewer : (h : Hash) (form : Bytes) → form_in s' h ≡ Some form → form_in s h ≡ Some form
+  pub kept : (h : Hash) → Kept s h → form_in s' h ≡ form_in s h
+  pub only : (h : Hash) → form_in s' h ≢ None → Kept s h ⊎ IsTrue (set.contains s.born h)
+  pub rest : s' ≡ record s { nodes = s'.nodes; born = set.empty; epoch = s.epoch + 1; last = s.turning; turning = None; shaded = [] }
+
+-- what a swap answers, and what it leaves
+abbrev pub AfterSwap : State → SwapReply → State → Type 0
+AfterSwap s swaps.Idle s' = (s.turning ≡ None) × (s' ≡ s)
+AfterSwap s (swaps.Swapped epoch) s' = IsSome s.turning × (epoch ≡ s.epoch + 1) × SwapsTold s s'
