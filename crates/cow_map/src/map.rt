@@ -1,6 +1,7 @@
 //! A map that shares its nodes with its snapshots.
-ghost use Rattle.std.specs.Prelude.{◌≡◌, ◌≢◌, ◌≤◌, ◌<◌, ◌++◌, ℕ, [], length, vec_len, IsTrue, IfErr, IfOk, OnErr, OnOk, MatchBool};
-ghost use Rattle.std.specs.List.{flat_map, slice_index_or};
+ghost use Rattle.std.specs.Prelude.{◌≡◌, ◌≢◌, ◌≤◌, ◌<◌, ◌++◌, ℕ, [], length, vec_len, Some, IsTrue, IfErr, IfOk, OnErr, OnOk, MatchBool};
+ghost use Rattle.std.specs.Prelude.{MatchOption};
+ghost use Rattle.std.specs.List.{flat_map, slice_get, slice_index_or};
 ghost use Rattle.std.specs.FinMap as map;
 ghost use Rattle.run_io.specs.Bytes.{Rose};
 ghost use Rattle.ledger_spec.specs.Bytes.{Half, Items, Lookup, branches};
@@ -19,7 +20,8 @@ ghost use Rattle.cow_map.specs.Sealing.{AreNamed, named, first_zero, made_of_map
 ghost use Rattle.cow_map.specs.Ways.{stop_of, removal_stop_of, Goes, IsFailure, NamesNoForm};
 ghost use Rattle.cow_map.specs.Unloaded.{KeepsReach};
 ghost use Rattle.cow_map.specs.Edits.{GrowsBy, SetsItem, RemovesKey, SettlesAt};
-ghost use Rattle.cow_map.specs.Bodies.{IsBelow};
+ghost use Rattle.cow_map.specs.Bodies.{IsBelow, AreBodies};
+ghost use Rattle.cow_map.specs.Shown.{body_of};
 ghost use Rattle.cow_map.specs.declared.link.Link.TheVariants.{Empty as empty_link};
 
 use crate::arena::Arena;
@@ -190,6 +192,48 @@ impl CowMap {
             nodes,
             top: self.top,
         })
+    }
+
+    /// The kind of its leaves.
+    pub fn kind(&self) -> Kind
+        ensures { result ≡ self.now.kind }
+    {
+        self.kind
+    }
+
+    /// The link to the top node.
+    pub fn top(&self) -> Link
+        ensures { result ≡ self.now.top }
+    {
+        self.top
+    }
+
+    /// How many nodes the map's list has.
+    pub fn node_count(&self) -> usize
+        ensures { result ≡ length self.now.nodes }
+    {
+        self.nodes.len()
+    }
+
+    /// The node at a place of the map's list, or None behind its end.
+    pub fn node(&self, at: usize) -> Option<&Cow>
+        ensures { MatchOption result (length self.now.nodes ≤ at)
+            (λ node. slice_get self.now.nodes at ≡ Some (body_of node.now)) }
+    {
+        if at < self.nodes.len() {
+            Some(self.nodes.get(at))
+        } else {
+            None
+        }
+    }
+
+    /// Tells a proof that the links name nodes of the list, and those of a node lower ones.
+    pub fn known(&self)
+        ensures nodes { AreBodies self.now.nodes }
+        ensures top { IsBelow (length self.now.nodes) self.now.top }
+    {
+        self.nodes.known();
+        let _top = &self.top;
     }
 
     /// The data of a key.

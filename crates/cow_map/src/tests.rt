@@ -1,4 +1,4 @@
-use crate::CowMap;
+use crate::{Cow, CowMap, Link};
 use half_hash::{Blob, Hash32, TinyHash};
 use path_proof::NoSource;
 use shamap_node::{Item, Kind};
@@ -93,5 +93,22 @@ fn edits_give_the_roots_of_the_worked_row(rt: HostRuntime) -> Result<(), Fail> {
         .ok()
         .ok_or("remove")?;
     assert!(rt; map.is_empty());
+    Ok(())
+}
+
+#[test]
+fn a_put_leaves_the_nodes_that_are_there(rt: HostRuntime) -> Result<(), Fail> {
+    let alloc = rt.alloc();
+    let mut map = CowMap::new(alloc, Kind::State);
+    for (first, data) in [(0x10, [1, 2].as_slice()), (0x11, [5].as_slice())] {
+        map.put::<TinyHash, NoSource>(alloc, &mut NoSource, item(alloc, first, data)?)
+            .ok()
+            .ok_or("put")?;
+    }
+    assert!(rt; matches!(map.kind(), Kind::State));
+    assert!(rt; matches!(map.top(), Link::Own(4)));
+    assert!(rt; matches!(map.node(0), Some(Cow::Leaf(_))));
+    assert!(rt; matches!(map.node(4), Some(Cow::Inner(_))));
+    assert!(rt; map.node(5).is_none() && map.node_count() == 5);
     Ok(())
 }

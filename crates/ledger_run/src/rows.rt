@@ -13,7 +13,7 @@ use std::thread::Threads;
 
 /// A script, the status, and the journal, in short: `[xx]` is the byte xx and 31 zero bytes, `_` is 32
 /// zero bytes, `@` the header of ledger 10, and `#` the root of its state map.
-const ROWS: [(&str, u8, &str); 18] = [
+const ROWS: [(&str, u8, &str); 21] = [
     (WHOLE, 0, WHOLE_SAYS),
     (COMPRESSED, 0, COMPRESSED_SAYS),
     (TX, 0, TX_SAYS),
@@ -32,7 +32,22 @@ const ROWS: [(&str, u8, &str); 18] = [
     (ZERO_CLOSED, 7, ZERO_CLOSED_SAYS),
     (CLOSE_CLASH, 7, CLOSE_CLASH_SAYS),
     (LAST_SEQ, 0, LAST_SEQ_SAYS),
+    (LYING, 0, LYING_SAYS),
+    (LEAF_AS_ROOT, 0, LEAF_AS_ROOT_SAYS),
+    (STORED_LIES, 7, STORED_LIES_SAYS),
 ];
+
+/// The words, a script and the journal of each rotation.
+const ROTATIONS: [(&[&str], &str, &str); 2] = [
+    (&["replay", "--interval", "4"], TURNED, TURNED_SAYS),
+    (TURNING, TURNED_TWICE, TURNED_TWICE_SAYS),
+];
+
+/// The words of a replay with a dump.
+const DUMPING: &[&str] = &["replay", "--dump"];
+
+/// The words of a replay in which a rotation is due with each ledger, and of its dump.
+const TURNING: &[&str] = &["replay", "--interval", "1", "--dump"];
 
 const WHOLE: &str = "0 want [DD] 10
 0 peer 5 [DD]
@@ -391,6 +406,76 @@ const BROKEN_SAYS: &str = "1 0 want opened
 end complete 0 closed 0 listed 0 floor 0 last - epoch 0
 ";
 
+/// Trees that no map has: a single leaf below an inner node, and a leaf of a transaction among accounts.
+const LYING: &str = "0 want [C1] 10
+0 peer 5 [C1]
+0 base 5 [C1] 0000000A0000000000000000__[C2]00000000000000000000 [DE]0103
+0 node 5 [C1] state [10]01 [FA]0003
+0 node 5 [C1] state [10]02 0102[10]01
+0 check [C1]
+0 check [C1]
+0 want [DB] 10
+0 peer 5 [DB]
+0 base 5 [DB] 0000000A0000000000000000__[DC]00000000000000000000 [F8]0103
+0 node 5 [DB] state [10]01 0102[10]04
+0 check [DB]
+";
+
+const LYING_SAYS: &str = "1 0 want opened
+2 0 peer added
+3 0 base good / good
+4 0 node good
+5 0 node malformed 3
+6 0 check malformed state:[10]02 3
+7 0 check notopen
+8 0 want opened
+9 0 peer added
+10 0 base good / good
+11 0 node malformed 1
+12 0 check malformed state:[10]01 1
+end complete 0 closed 0 listed 0 floor 0 last - epoch 0
+";
+
+/// A leaf as the root of a map.
+const LEAF_AS_ROOT: &str = "0 want [F9] 10
+0 peer 5 [F9]
+0 base 5 [F9] 0000000A0000000000000000__[FA]00000000000000000000 0102[10]01
+0 check [F9]
+";
+
+const LEAF_AS_ROOT_SAYS: &str = "1 0 want opened
+2 0 peer added
+3 0 base good / malformed 5
+4 0 check malformed state:_00 5
+end complete 0 closed 0 listed 0 floor 0 last - epoch 0
+";
+
+/// A header as the root of a map, and a node as a ledger: a header of the same hash clashes with it.
+const STORED_LIES: &str = "store [DD] 4C575200@
+store [FA] 4D4C4E000102[10]
+0 want [D3] 1
+0 peer 5 [D3]
+0 base 5 [D3] 000000010000000000000000__[DD]00000000000000000000
+0 check [D3]
+0 want [FA] 0
+0 peer 5 [FA]
+0 base 5 [FA] 000000050000000000000000___00000000000000000000
+0 check [FA]
+0 check [FA]
+";
+
+const STORED_LIES_SAYS: &str = "3 0 want opened
+4 0 peer added
+5 0 base good
+6 0 check malformed state:_00 6
+7 0 want opened
+8 0 peer added
+9 0 base clash [FA] 4D4C4E000102[10] 4C575200000000050000000000000000___00000000000000000000
+10 0 check malformed header 6
+11 0 check notopen
+end complete 0 closed 0 listed 0 floor 0 last - epoch 0
+";
+
 /// Leaves of other kinds with the wanted hash: a transaction with metadata, and one without.
 const KINDS: &str = "0 want [DD] 10
 0 peer 5 [DD]
@@ -475,9 +560,9 @@ const WAITING_SAYS: &str = "1 0 want opened
 end complete 1 closed 0 listed 1 floor 0 last 10 epoch 0
 ";
 
-/// What fails alone, the status that it gives, and how many calls of it a run of the whole ledger with its
-/// dump makes: the source, the sink, the shelf, the archive and the writable backend.
-const DEVICES: [(u8, u64); 5] = [(4, 6), (5, 13), (6, 2), (6, 9), (6, 26)];
+/// What fails alone, the status that it gives, and how many calls of it two rotations with a dump make: the source, the sink, the shelf,
+/// and the backends in the order in which they are made.
+const DEVICES: [(u8, u64); 7] = [(4, 7), (5, 27), (6, 4), (6, 9), (6, 55), (6, 26), (6, 7)];
 
 /// More calls than any device is used in.
 const MANY_CALLS: u64 = 64;
@@ -561,6 +646,127 @@ const EDITED_SAYS: &str = "1 0 want opened
 36 1 get value 02
 37 1 get none
 end complete 1 closed 3 listed 4 floor 0 last 10 epoch 0
+";
+
+/// Three ledgers more, of which the last is far enough for a rotation: what lies below the floor is listed no more, nor wanted, and a view
+/// reads while the rotation is under way and behind it.
+const TURNED: &str = "0 want [DD] 10
+0 peer 5 [DD]
+0 check [DD]
+0 base 5 [DD] @ #
+0 check [DD]
+0 node 5 [DD] state [10]01 0102[10]01
+0 node 5 [DD] state [10]01 0102[10]01
+0 check [DD]
+0 edit 1 [DD]
+0 put 1 [11] 05
+0 close 1 0 0 0 0
+0 edit 2 [9C]
+0 del 2 [10]
+0 close 2 0 0 0 0
+0 edit 3 [7E]
+0 put 3 [20] 07
+0 close 3 0 0 0 0
+0 begin
+0 edit 4 [6F]
+0 put 4 [20] 08
+0 close 4 0 0 0 0
+0 begin
+0 begin
+0 view 1 [DD]
+0 want [DD] 10
+0 view 1 [9C]
+0 swap
+0 get 1 state [10]
+0 swap
+";
+
+const TURNED_SAYS: &str = "1 0 want opened
+2 0 peer added
+3 0 check need 5 header
+4 0 base good / good
+5 0 check need 5 state:[10]01
+6 0 node good
+7 0 node duplicate
+8 0 check complete
+9 0 edit ok
+10 0 put ok
+11 0 close closed [9C]
+12 0 edit ok
+13 0 del ok
+14 0 close closed [7E]
+15 0 edit ok
+16 0 put ok
+17 0 close closed [6F]
+18 0 begin notdue
+19 0 edit ok
+20 0 put ok
+21 0 close closed [62]
+22 0 begin begun 14 11
+23 0 begin busy
+24 0 view notretained
+25 0 want below floor 11
+26 0 view ok
+27 0 swap swapped 1
+28 0 get value 0102
+29 0 swap idle
+end complete 1 closed 4 listed 4 floor 11 last 14 epoch 1
+";
+
+/// A view holds a ledger below the floor. Behind the second rotation nothing is left but the last ledger. A second swap stands behind each:
+/// where the first fails, it ends the rotation.
+const TURNED_TWICE: &str = "0 want [DD] 10
+0 peer 5 [DD]
+0 check [DD]
+0 base 5 [DD] @ #
+0 check [DD]
+0 node 5 [DD] state [10]01 0102[10]01
+0 node 5 [DD] state [10]01 0102[10]01
+0 check [DD]
+0 edit 1 [DD]
+0 put 1 [11] 05
+0 close 1 0 0 0 0
+0 view 9 [DD]
+0 begin
+0 swap
+0 swap
+0 get 9 state [10]
+0 unview 9
+0 edit 2 [9C]
+0 del 2 [10]
+0 close 2 0 0 0 0
+0 begin
+0 swap
+0 swap
+";
+
+const TURNED_TWICE_SAYS: &str = "1 0 want opened
+2 0 peer added
+3 0 check need 5 header
+4 0 base good / good
+5 0 check need 5 state:[10]01
+6 0 node good
+7 0 node duplicate
+8 0 check complete
+9 0 edit ok
+10 0 put ok
+11 0 close closed [9C]
+12 0 view ok
+13 0 begin begun 11 11
+14 0 swap swapped 1
+15 0 swap idle
+16 0 get value 0102
+17 0 unview ok
+18 0 edit ok
+19 0 del ok
+20 0 close closed [7E]
+21 0 begin begun 12 12
+22 0 swap swapped 2
+23 0 swap idle
+end complete 1 closed 2 listed 1 floor 12 last 12 epoch 2
+store [7E] 4C5752000000000C0000000000000000[9C]_[E1]00000000000000000000
+store [E1] 4D494E00_[FD]______________
+store [FD] 4D4C4E0005[11]
 ";
 
 /// An item whose leaf has the zero hash.
@@ -652,10 +858,11 @@ fn failing(alloc: Global, is: bool, call: u64) -> Result<Vec<u64>, AllocError> {
     Ok(calls)
 }
 
-/// A run with a dump in which one call of one device fails: its status, and what it printed.
+/// A run with these words in which one call of one device fails: its status, and what it printed.
 fn run_failing<R: Threads + Wait + Sync>(
     rt: &R,
     alloc: Global,
+    words: &[&str],
     script: &[u8],
     device: usize,
     call: u64,
@@ -663,15 +870,15 @@ fn run_failing<R: Threads + Wait + Sync>(
     let bytes = Vec::from_slice(alloc, script)?;
     let mut source = MemSource::new(bytes, 500, failing(alloc, device == 0, call)?);
     let mut sink = MemSink::new(alloc, 16384, failing(alloc, device == 1, call)?)?;
-    let plans = vec![in alloc;
-        failing(alloc, device == 3, call)?,
-        failing(alloc, device == 4, call)?,
-    ]?;
+    let mut plans = Vec::new(alloc);
+    for backend in 3..DEVICES.len() {
+        plans.push(failing(alloc, device == backend, call)?)?;
+    }
     let shelf = MemShelf::new(alloc, plans, failing(alloc, device == 2, call)?);
     let ended = ledger_run(
         rt,
         alloc,
-        &["replay", "--dump"],
+        words,
         TinyHash,
         &mut source,
         &mut sink,
@@ -681,19 +888,43 @@ fn run_failing<R: Threads + Wait + Sync>(
     Ok((ended.status, Vec::from_slice(alloc, sink.held())?))
 }
 
+/// Whether each value that is read is the leaf's, and each swap that fails is made good by the next one.
+fn is_fair(printed: &str) -> bool {
+    let mut failed = false;
+    for line in printed.lines() {
+        if line.contains(" get value ") && !line.ends_with(" get value 0102") {
+            return false;
+        }
+        if failed && !line.contains(" swap swapped ") {
+            return false;
+        }
+        failed = line.ends_with(" swap fault");
+    }
+    !failed
+}
+
 #[test]
 fn one_failing_call(rt: HostRuntime) -> Result<(), Fail> {
     let alloc = rt.alloc();
-    let script = expand(alloc, WHOLE)?;
-    let says = expand_both(alloc, WHOLE_SAYS, DUMP)?;
+    let script = expand(alloc, TURNED_TWICE)?;
+    let says = expand(alloc, TURNED_TWICE_SAYS)?;
     for (device, (status, calls)) in DEVICES.iter().enumerate() {
         let mut failed: u64 = 0;
         for call in 1..=MANY_CALLS {
-            let (ended, printed) = run_failing(&rt, alloc, script.as_slice(), device, call)?;
+            let (ended, printed) = run_failing(
+                &rt,
+                alloc,
+                TURNING,
+                script.as_slice(),
+                device,
+                call,
+            )?;
             if ended == 0 {
                 assert_eq!(rt; printed.as_slice(), says.as_slice());
             } else {
                 assert_eq!(rt; ended, *status);
+                let text = str::from_utf8(printed.as_slice()).or(Err("text"))?;
+                assert!(rt; device == 1 || is_fair(text), "{device} {call}");
                 failed = failed.saturating_add(1);
             }
         }
@@ -707,21 +938,30 @@ fn rows(rt: HostRuntime) -> Result<(), Fail> {
     let alloc = rt.alloc();
     for (script, status, says) in &ROWS {
         let bytes = expand(alloc, script)?;
-        let mut source = MemSource::new(bytes, 500, Vec::new(alloc));
-        let mut sink = MemSink::new(alloc, 16384, Vec::new(alloc))?;
-        let ended = ledger_run(
+        let says = expand(alloc, says)?;
+        let (ended, printed) = run_failing(
             &rt,
             alloc,
             &["replay"],
-            TinyHash,
-            &mut source,
-            &mut sink,
-            MemShelf::new(alloc, Vec::new(alloc), Vec::new(alloc)),
-            &OpenGate,
-        );
+            bytes.as_slice(),
+            0,
+            MANY_CALLS,
+        )?;
+        assert_eq!(rt; printed.as_slice(), says.as_slice(), "{script}");
+        assert_eq!(rt; ended, *status, "{script}");
+    }
+    Ok(())
+}
+
+#[test]
+fn rotations(rt: HostRuntime) -> Result<(), Fail> {
+    let alloc = rt.alloc();
+    for (words, script, says) in &ROTATIONS {
+        let bytes = expand(alloc, script)?;
         let says = expand(alloc, says)?;
-        assert_eq!(rt; sink.held(), says.as_slice(), "{script}");
-        assert_eq!(rt; ended.status, *status, "{script}");
+        let (ended, printed) = run_failing(&rt, alloc, words, bytes.as_slice(), 0, MANY_CALLS)?;
+        assert_eq!(rt; printed.as_slice(), says.as_slice(), "{script}");
+        assert_eq!(rt; ended, 0, "{script}");
     }
     Ok(())
 }
@@ -731,12 +971,12 @@ fn a_dump_is_read_again(rt: HostRuntime) -> Result<(), Fail> {
     let alloc = rt.alloc();
     let script = expand(alloc, WHOLE)?;
     let says = expand_both(alloc, WHOLE_SAYS, DUMP)?;
-    let (status, printed) = run_failing(&rt, alloc, script.as_slice(), 0, MANY_CALLS)?;
+    let (status, printed) = run_failing(&rt, alloc, DUMPING, script.as_slice(), 0, MANY_CALLS)?;
     assert_eq!(rt; printed.as_slice(), says.as_slice());
     assert_eq!(rt; status, 0);
     let script = expand_both(alloc, DUMP, AGAIN)?;
     let says = expand_both(alloc, AGAIN_SAYS, DUMP)?;
-    let (status, printed) = run_failing(&rt, alloc, script.as_slice(), 0, MANY_CALLS)?;
+    let (status, printed) = run_failing(&rt, alloc, DUMPING, script.as_slice(), 0, MANY_CALLS)?;
     assert_eq!(rt; printed.as_slice(), says.as_slice());
     assert_eq!(rt; status, 0);
     Ok(())

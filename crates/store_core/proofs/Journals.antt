@@ -25,6 +25,8 @@ use Rattle.ledger_machine.specs.Sound.{Sound}
 use Rattle.ledger_machine.specs.Rotation.{AreShaded}
 use Rattle.store_core.specs.Telling.{AreTold}
 use Rattle.ledger_laws.proofs.Openings.{records_are_sound}
+use Rattle.ledger_laws.proofs.Sweeping.{all_swaps_keep}
+use Rattle.ledger_machine.specs.Swaps.{AllSwapsKeep}
 use Rattle.ledger_machine.specs.declared.commands.Command.TheVariants as command
 use Rattle.ledger_laws.proofs.RunLaws.{run_more}
 use Rattle.ledger_machine.specs.Runs.{IsDone, is_answered, next_line}
@@ -170,6 +172,11 @@ module _ (half : Half) (records : List Record) (lines : List Line) (cursors : Li
   kept_past a past =
       ap (map (λ (e : Entry). e.line)) (none_past (λ (e : Entry). e.actor) 64 a journal past k.known)
       ∙ sym (ap (map (λ (l : Line). l.number)) (none_past (λ (l : Line). l.actor) 64 a lines past k.servable.actors_known))
+
+  -- along the run each swap keeps what it has to, and no more than it may
+  pub kept_swaps : (run : IsRunOf half records lines interval journal s)
+      → AllSwapsKeep half lines (λ h. ⊥) (opening_of records interval) journal s run
+  kept_swaps run = all_swaps_keep half records lines interval journal s run
 
   pub kept_ranges : (l : Line) → Contains lines l → IsInRange l.command
   kept_ranges l among = All-contains (λ x. IsInRange x.command) lines l k.servable.in_range among

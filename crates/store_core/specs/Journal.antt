@@ -17,6 +17,7 @@ use Rattle.ledger_machine.specs.Receipts.{AllStay}
 use Rattle.ledger_machine.specs.Exact.{AreEveryMaps}
 use Rattle.ledger_machine.specs.Complete.{IsAllStored, AreExact}
 use Rattle.ledger_machine.specs.Collisions.{brought_by, ShowsIn}
+use Rattle.ledger_machine.specs.Swaps.{AllSwapsKeep}
 use Rattle.run_io.specs.Bytes.{Rose}
 use Rattle.script_form.specs.Servable.{AreServable}
 use Rattle.store_core.specs.Telling.{AreTold}
@@ -117,6 +118,9 @@ pub record IsMachineRun (half : Half) (c : CoreView) : Type 0 where
   pub sound : Sound half c.state
   -- nothing that a retained ledger reaches is absent
   pub present : (t : Hash) → Contains (retained c.state) t → IsAllStored (form_in c.state) t
+  -- each swap takes nothing that a retained ledger or an open acquisition reaches, and leaves nothing but what the rotation kept, which
+  -- these or own forms reached since it began, and what was born in the epoch that ended
+  pub swaps : (along : IsRun half c) → AllSwapsKeep half c.lines (λ h. ⊥) (opening_of c.records c.interval) c.journal c.state along
   -- a clash shows two different forms with one hash, of those that the script offers and those that its closes make, and a zero hash one
   -- of them that has it
   pub clashes : (along : IsRun half c) (e : Entry) → Contains c.journal e

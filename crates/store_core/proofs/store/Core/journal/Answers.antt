@@ -3,7 +3,7 @@ use Rattle.ledger_laws.proofs.Completeness.{retained_stored, run_exact}
 use Rattle.ledger_laws.proofs.Collisions.{entry_shown}
 use Rattle.ledger_laws.proofs.Receipts.{all_stay}
 use Rattle.ledger_laws.proofs.EveryMaps.{reads_exact}
-use Rattle.store_core.proofs.Journals.{kept_few, kept_projects, kept_ranges}
+use Rattle.store_core.proofs.Journals.{kept_few, kept_projects, kept_ranges, kept_swaps}
 use Rattle.store_core.proofs.store.Core.journal.Goals as goal
 
 pub returns-clause-few : goal.returns-clause-few
@@ -21,6 +21,7 @@ returns-clause-kept g c =
         reads = λ run. reads_exact g.H.NodeHash.half c.known_half.ensures _ (kept_ranges _ _ _ _ _ _ _ _ _ _ _ _ k) _ _ _ run;
         sound = k.sound told;
         present = λ t i. retained_stored g.H.NodeHash.half _ t (k.sound told) i;
+        swaps = λ run. kept_swaps _ _ _ _ _ _ _ _ _ _ _ _ k run;
         clashes = λ run e among. entry_shown g.H.NodeHash.half _ _ _ _ _ e k.recorded run among;
       };
       projects = kept_projects _ _ _ _ _ _ _ _ _ _ _ _ k;
