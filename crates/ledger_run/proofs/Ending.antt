@@ -10,7 +10,6 @@ use Rattle.run_io.specs.Bytes.{Wrote, WrotePart}
 use Rattle.run_io.proofs.Bytes.{rose_later, wrote_nothing, wrote_more, wrote_part, wrote_front}
 use Rattle.store_core.specs.Journal.{CoreView}
 use Rattle.store_core.specs.Dumping.{Lists}
-use Rattle.ledger_run.specs.declared.asking.Asked.{Asked}
 use Rattle.ledger_run.specs.declared.status.TheConstants.{FINE, SINK_FAILED, STORE_FAILED, CLASHED, NO_MEMORY}
 use Rattle.ledger_run.specs.declared.dump.DumpEnd.{DumpEnd}
 use Rattle.ledger_run.specs.declared.dump.DumpEnd.TheVariants as ends
@@ -29,24 +28,25 @@ dumped_as told nodes nodes' ends.Faulted text same is = λ t. subst (λ (n : Nod
 dumped_as told nodes nodes' ends.Cut text same is = λ t. subst (λ (n : Nodes). IsPrefix text (dump_text n)) (sym (same t)) (is t)
 
 -- behind the text of the journal
-pub printed_behind : (told : Bool) (a : Asked) (c c' : CoreView) (held mid now : Option Bytes) (n : ℕ) (dump : DumpEnd)
+pub printed_behind : (told quiet asked : Bool) (c c' : CoreView) (held mid now : Option Bytes) (n : ℕ) (dump : DumpEnd)
     → Lists told c c'
-    → Wrote held mid (text_of a.quiet c) → PrintsMore told c.state.nodes mid now n dump → HasDumped a.dump n dump c'
-    → HasPrinted told a held now n dump c'
-printed_behind told a c c' held mid now n dump lists wrote more dumped =
-    let same : text_of a.quiet c' ≡ text_of a.quiet c = text_same told a.quiet c c' lists in
-    let first : Wrote held mid (text_of a.quiet c') = subst (Wrote held mid) (sym same) wrote in
+    → Wrote held mid (text_of quiet c) → PrintsMore told c.state.nodes mid now n dump → HasDumped asked n dump c'
+    → HasPrinted told quiet asked held now n dump c'
+printed_behind told quiet asked c c' held mid now n dump lists wrote more dumped =
+    let same : text_of quiet c' ≡ text_of quiet c = text_same told quiet c c' lists in
+    let first : Wrote held mid (text_of quiet c') = subst (Wrote held mid) (sym same) wrote in
     let nodes : IsTrue told → c'.state.nodes ≡ c.state.nodes = λ t. ap (λ (s : State). s.nodes) (lists.state t) in
     record {
       whole = λ one.
           let m = more.whole one in
-          (m.0, dumped_as told c.state.nodes c'.state.nodes dump m.0 nodes m.1, wrote_more held mid now (text_of a.quiet c') m.0 first m.2);
+          let text = text_of quiet c' in
+          (m.0, dumped_as told c.state.nodes c'.state.nodes dump m.0 nodes m.1, wrote_more held mid now text m.0 first m.2);
       part =
           let m = more.part in (
             m.0,
             dumped_as told c.state.nodes c'.state.nodes dump m.0 nodes m.1,
-            wrote_part held mid now (text_of a.quiet c') m.0 (text_of a.quiet c' ++ m.0) first m.2
-                (prefix_self (text_of a.quiet c' ++ m.0) (text_of a.quiet c' ++ m.0) refl),
+            wrote_part held mid now (text_of quiet c') m.0 (text_of quiet c' ++ m.0) first m.2
+                (prefix_self (text_of quiet c' ++ m.0) (text_of quiet c' ++ m.0) refl),
           );
       dumped = dumped;
     }
@@ -83,17 +83,17 @@ cut_or_none false n c one missed = record {
     cut e = cc
 
 -- where the journal was printed in part
-pub printed_part : (told : Bool) (c : CoreView) (held now : Option Bytes) (n : ℕ) (a : Asked) (dump : DumpEnd)
-    → dump ≡ (if a.dump then ends.Cut else ends.NotAsked) → (IsOneOf n (FINE ∷ STORE_FAILED ∷ CLASHED ∷ []) → ⊥)
+pub printed_part : (told : Bool) (c : CoreView) (held now : Option Bytes) (n : ℕ) (quiet asked : Bool) (dump : DumpEnd)
+    → dump ≡ (if asked then ends.Cut else ends.NotAsked) → (IsOneOf n (FINE ∷ STORE_FAILED ∷ CLASHED ∷ []) → ⊥)
     → IsOneOf n (SINK_FAILED ∷ NO_MEMORY ∷ []) → c.missed ≡ 0
-    → WrotePart held now (text_of a.quiet c) → HasPrinted told a held now n dump c
-printed_part told c held now n a dump is other one missed part =
+    → WrotePart held now (text_of quiet c) → HasPrinted told quiet asked held now n dump c
+printed_part told c held now n quiet asked dump is other one missed part =
     let none : IsDumped told c.state.nodes dump [] = subst (λ (d : DumpEnd). IsDumped told c.state.nodes d []) (sym is)
-    (none_dumped told c.state.nodes a.dump) in
+    (none_dumped told c.state.nodes asked) in
     record {
       whole = λ one. absurd (other one);
-      part = ([], none, subst (WrotePart held now) (sym (append-nil (text_of a.quiet c))) part);
-      dumped = subst (λ (d : DumpEnd). HasDumped a.dump n d c) (sym is) (cut_or_none a.dump n c one missed);
+      part = ([], none, subst (WrotePart held now) (sym (append-nil (text_of quiet c))) part);
+      dumped = subst (λ (d : DumpEnd). HasDumped asked n d c) (sym is) (cut_or_none asked n c one missed);
     }
 
 module _ (told : Bool) (nodes : Nodes) (held now : Option Bytes) (n : ℕ) (dump : DumpEnd) where

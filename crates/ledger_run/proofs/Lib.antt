@@ -4,4 +4,4 @@ pub mod Statuses
 pub mod Opening
 pub mod Dumping
 pub mod Ending
-pub mod Replays
+pub mod Asked

@@ -1,27 +1,23 @@
 -- The status of a journal without faults.
-use Rattle.std.proofs.Common.{◌≡◌, ℕ, List, [], ◌∷◌, Bool, true, false, cond, if◌then◌else◌, Option, Some, None, Contains, IsSomeAnd, take}
+use Rattle.std.proofs.Common.{◌≡◌, ℕ, List, [], ◌∷◌, Bool, true, false, cond, if◌then◌else◌, Option, Contains}
 use Rattle.std.proofs.Common.{refl, sym, ◌∙◌, subst, arith, inl, inr, ◌<◌, ◌-◌, ◌^◌, ◌+◌}
 use Rattle.std.proofs.lemmas.Bool.{ne_eqb}
 use Rattle.std.specs.Prelude.{◌||◌, ◌==◌, nat_lt}
 use Rattle.run_io.specs.Bytes.{Rose}
-use Rattle.std.specs.Option.{IfSome}
 use Rattle.std.specs.Borrow.{Bor}
 use Rattle.std.specs.List.{list_any}
 use Rattle.ledger_spec.specs.Bytes.{Bytes, Half}
-use Rattle.ledger_machine.specs.declared.commands.Line.{Line}
-use Rattle.ledger_machine.specs.declared.commands.Record.{Record}
 use Rattle.ledger_machine.specs.declared.journal.Entry.{Entry}
 use Rattle.ledger_machine.specs.declared.replies.Reply.{Reply}
 use Rattle.ledger_machine.specs.declared.replies.Reply.TheVariants as says
-use Rattle.ledger_machine.specs.Collisions.{is_clash, brought_by, ShowsIn, IsShown}
-use Rattle.ledger_machine.specs.Runs.{IsRunOf}
-use Rattle.ledger_machine.specs.State.{State}
+use Rattle.ledger_machine.specs.Collisions.{is_clash, ShowsIn, IsShown}
 use Rattle.ledger_laws.proofs.SoundForms.{in_head, in_tail}
-use Rattle.script_form.specs.Grammar.{IsScript, most_read}
+use Rattle.run_words.specs.declared.words.Words.{Words}
 use Rattle.store_core.specs.Journal.{CoreView, IsJournal, faults_in, fault_count, RoseBy}
 use Rattle.ledger_run.specs.declared.status.TheConstants.{FINE, SINK_FAILED, STORE_FAILED, CLASHED, NO_MEMORY}
 use Rattle.ledger_run.specs.Output.{status_of, met_fault, is_fault, shows_clash, wanted_memory}
-use Rattle.ledger_run.specs.Top.{IsOneOf, IsRefusedAt, HasNoCollision, HasStatus, HasSaid, IsCalm, EndsWell}
+use Rattle.ledger_run.specs.Asking.{Asks, IsScriptOf}
+use Rattle.ledger_run.specs.Top.{IsOneOf, HasStatus, HasSaid, IsCalm, EndsWell}
 
 no_fault_here : (r : Reply) → fault_count r ≡ 0 → is_fault r ≡ false
 no_fault_here says.Fault e = absurd (omega arith)
@@ -147,28 +143,18 @@ memory_status half told n c is = record {
   collision = λ t e along. absurd (omega (arith, is, e));
 }
 
--- no clash comes of a script whose forms have different hashes
-no_collision : (half : Half) (left : Option Bytes) (records : List Record) (lines : List Line)
-    → IfSome left (λ bytes. IsScript half (take most_read bytes) records lines)
-    → IsSomeAnd left (λ bytes. (IsRefusedAt half bytes → ⊥) × HasNoCollision half bytes)
-    → (interval : ℕ) (entries : List Entry) (s : State) (run : IsRunOf half records lines interval entries s)
-    → IsShown half (brought_by half records lines interval entries s run) → ⊥
-no_collision half None records lines script some interval entries s run shown = absurd some
-no_collision half (Some bytes) records lines script some interval entries s run shown =
-    some.1 records lines script interval entries s run shown
-
 -- how a run ends whose text was printed
 pub said_ends : (half : Half) (told : Bool) (words : List (Bor (List ℕ))) (left : Option Bytes) (n : ℕ) (c : CoreView)
     → IsJournal half told c
-    → IfSome left (λ bytes. IsScript half (take most_read bytes) c.records c.lines) → IsCalm c → n ≡ status_of c.journal c.missed
+    → ((w : Words) → Asks words w → IsScriptOf half w left c.records c.lines) → IsCalm c → n ≡ status_of c.journal c.missed
     → EndsWell half told words left n
 said_ends half told words left n c kept script calm is =
     let answered : IsOneOf n (FINE ∷ CLASHED ∷ NO_MEMORY ∷ []) =
     subst (λ m. IsOneOf m (FINE ∷ CLASHED ∷ NO_MEMORY ∷ [])) (sym is) (calm_free half told c kept calm) in
     record {
-      answered = λ replay read. answered;
-      fine = λ t replay read. but_clashed n answered
-          (λ clashed. no_collision half left c.records c.lines script read c.interval c.journal c.state (kept.machine t).run
+      answered = λ w asks has. answered;
+      fine = λ t w asks has none. but_clashed n answered
+          (λ clashed. none c.records c.lines (script w asks) c.interval c.journal c.state (kept.machine t).run
           (shown_by half _ c.journal ((kept.machine t).clashes (kept.machine t).run)
           (clash_shown c.journal c.missed (sym is ∙ clashed))));
     }
@@ -177,8 +163,8 @@ said_ends half told words left n c kept script calm is =
 pub memory_ends : (half : Half) (told : Bool) (words : List (Bor (List ℕ))) (left : Option Bytes) (n : ℕ) → n ≡ NO_MEMORY
     → EndsWell half told words left n
 memory_ends half told words left n is = record {
-  answered = λ replay read. subst (λ m. IsOneOf m (FINE ∷ CLASHED ∷ NO_MEMORY ∷ [])) (sym is) refl;
-  fine = λ t replay read. subst (λ m. IsOneOf m (FINE ∷ NO_MEMORY ∷ [])) (sym is) refl;
+  answered = λ w asks has. subst (λ m. IsOneOf m (FINE ∷ CLASHED ∷ NO_MEMORY ∷ [])) (sym is) refl;
+  fine = λ t w asks has none. subst (λ m. IsOneOf m (FINE ∷ NO_MEMORY ∷ [])) (sym is) refl;
 }
 
 -- by what the status says
@@ -189,7 +175,7 @@ status_from half told n c before now kept (inr (inl sink)) = failed_status half 
 status_from half told n c before now kept (inr (inr memory)) = memory_status half told n c memory
 
 pub ends_from : (half : Half) (told : Bool) (words : List (Bor (List ℕ))) (left : Option Bytes) (n : ℕ) (c : CoreView) (before now : ℕ)
-    → IsJournal half told c → IfSome left (λ bytes. IsScript half (take most_read bytes) c.records c.lines) → IsCalm c
+    → IsJournal half told c → ((w : Words) → Asks words w → IsScriptOf half w left c.records c.lines) → IsCalm c
     → (Rose before now → ⊥) → HasSaid n c before now → EndsWell half told words left n
 ends_from half told words left n c before now kept script calm still (inl own) = said_ends half told words left n c kept script calm own
 ends_from half told words left n c before now kept script calm still (inr (inl sink)) = absurd (still sink.1)

@@ -1,3 +1,4 @@
+pub mod Asking
 pub mod Output
 pub mod Dump
 pub mod Top

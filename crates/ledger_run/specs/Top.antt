@@ -1,6 +1,6 @@
 -- What the top call says.
-use Rattle.std.specs.Prelude.{◌≡◌, ◌≢◌, ◌⊎◌, ◌↔◌, ◌<◌, ◌-◌, ◌^◌, ℕ, Bool, IsTrue, IsSome, List, [], ◌∷◌, ◌++◌, Option, Some, map, take}
-use Rattle.std.specs.Prelude.{true, ◌==◌, IfSome, IsSomeAnd, IsNone}
+use Rattle.std.specs.Prelude.{◌≡◌, ◌≢◌, ◌⊎◌, ◌↔◌, ◌<◌, ◌-◌, ◌^◌, ℕ, Bool, IsTrue, IsSome, List, [], ◌∷◌, ◌++◌, Option, take}
+use Rattle.std.specs.Prelude.{true, ◌==◌, IfSome, IsNone}
 use Rattle.std.specs.Borrow.{Bor}
 use Rattle.std.specs.List.{list_any}
 use Rattle.ledger_spec.specs.Bytes.{Bytes, Half, Nodes}
@@ -12,40 +12,17 @@ use Rattle.ledger_machine.specs.Runs.{IsFull, IsRunOf}
 use Rattle.ledger_machine.specs.Collisions.{brought_by, IsShown}
 use Rattle.store_core.specs.Journal.{CoreView, IsJournal, IsRun}
 use Rattle.store_core.specs.Totals.{totals_of}
-use Rattle.script_form.specs.Grammar.{IsScript, IsRefused, most_read}
+use Rattle.script_form.specs.Grammar.{IsRefused, most_read}
 use Rattle.run_words.specs.declared.words.Words.{Words}
-use Rattle.run_words.specs.declared.words.Words.TheVariants.{Replay, Swarm}
-use Rattle.run_words.specs.Words.{Says}
 use Rattle.run_io.specs.Bytes.{Rose, Took, TookPart, Wrote, WrotePart}
-use Rattle.ledger_run.specs.declared.asking.Asked.{Asked}
+use Rattle.ledger_run.specs.Asking.{Asks, AreCommand, IsRead, IsRefusedAt, IsScriptOf, WasRead, HasScript}
+use Rattle.ledger_run.specs.Asking.{interval_in}
 use Rattle.ledger_run.specs.declared.status.TheConstants.{FINE, USAGE, REFUSED, SOURCE_FAILED, SINK_FAILED, STORE_FAILED}
 use Rattle.ledger_run.specs.declared.status.TheConstants.{CLASHED, NO_MEMORY}
 use Rattle.ledger_run.specs.declared.dump.DumpEnd.{DumpEnd}
 use Rattle.ledger_run.specs.declared.dump.DumpEnd.TheVariants as ends
 use Rattle.ledger_run.specs.Output.{output, usage_text, refused_text, status_of}
 use Rattle.ledger_run.specs.Dump.{IsDumped}
-
--- the values are a swarm's
-abbrev pub IsSwarm : Words → Type 0
-IsSwarm (Replay interval quiet dump) = ⊥
-IsSwarm (Swarm plan quiet dump) = Unit {0}
-
--- the texts say a replay with this interval, quiet or not, with a dump or without
-abbrev pub AskFor : List Bytes → Asked → Type 0
-AskFor texts a = Says texts (Replay a.interval a.quiet a.dump)
-
--- the texts say some replay
-pub record AskForRun (texts : List Bytes) : Type 0 where
-  pub asked : Asked
-  pub says : AskFor texts asked
-
--- the words say this replay
-abbrev pub IsReplayOf : List (Bor (List ℕ)) → Asked → Type 0
-IsReplayOf words a = AskFor (map (λ w. w.now) words) a
-
--- or some replay
-abbrev pub IsReplay : List (Bor (List ℕ)) → Type 0
-IsReplay words = AskForRun (map (λ w. w.now) words)
 
 -- the number is one of these
 abbrev pub IsOneOf : ℕ → List ℕ → Type 0
@@ -54,10 +31,6 @@ IsOneOf n ns = list_any (λ m. m == n) ns ≡ true
 -- what is printed of a core, in a quiet run or another
 abbrev pub text_of : Bool → CoreView → Bytes
 text_of quiet c = output quiet c.lines c.journal (totals_of c.journal c.state)
-
--- the bytes are refused, at some line for some cause
-abbrev pub IsRefusedAt : Half → Bytes → Type 0
-IsRefusedAt half bytes = (line : ℕ) × (cause : ℕ) × IsRefused half (take most_read bytes) line cause
 
 -- the text was written, or a front of it and the sink's count of faults rose
 abbrev pub WroteOrFailed : Option Bytes → Option Bytes → ℕ → ℕ → Bytes → Type 0
@@ -69,11 +42,11 @@ NamesLine half bytes held now before after =
     (line : ℕ) × (cause : ℕ) × IsRefused half (take most_read bytes) line cause
     × WroteOrFailed held now before after (refused_text line cause)
 
--- of the forms that the script which the bytes are offers, and those that its closes make in a run, no two different ones have one hash,
--- and none has the zero hash
-abbrev pub HasNoCollision : Half → Bytes → Type 0
-HasNoCollision half bytes =
-    (records : List Record) (lines : List Line) → IsScript half (take most_read bytes) records lines
+-- of the forms that the script offers that is run, and those that its closes make in a run, no two different ones have one hash, and none
+-- has the zero hash
+abbrev pub HasNoCollision : Half → Words → Option Bytes → Type 0
+HasNoCollision half w left =
+    (records : List Record) (lines : List Line) → IsScriptOf half w left records lines
     → (interval : ℕ) (entries : List Entry) (s : State) (run : IsRunOf half records lines interval entries s)
     → IsShown half (brought_by half records lines interval entries s run) → ⊥
 
@@ -86,12 +59,12 @@ pub record IsWhole (half : Half) (told : Bool) (c : CoreView) : Type 0 where
 -- The headline, of the core that a run leaves which these words asked for. `left` and `rest` are what the source had and has left, where it
 -- tells it.
 pub record IsRunOfInput (half : Half) (told : Bool) (words : List (Bor (List ℕ))) (left rest : Option Bytes) (c : CoreView) : Type 0 where
-  -- the core's records and lines are the script that was read
-  pub script : IfSome left (λ bytes. IsScript half (take most_read bytes) c.records c.lines)
-  -- the source was read to its end
-  pub read : IfSome left (λ _. rest ≡ Some [])
+  -- the core's records and lines are the script that was read, or the plan's
+  pub script : (w : Words) → Asks words w → IsScriptOf half w left c.records c.lines
+  -- the source was read to its end for a replay, and is as it was after a swarm
+  pub read : (w : Words) → Asks words w → WasRead w left rest
   -- a rotation is due at the interval that the words say
-  pub interval : (a : Asked) → IsReplayOf words a → c.interval ≡ a.interval
+  pub interval : (w : Words) → Asks words w → c.interval ≡ interval_in w
   -- the journal is a whole run
   pub whole : IsWhole half told c
 
@@ -104,15 +77,15 @@ pub record HasDumped (asked : Bool) (status : ℕ) (dump : DumpEnd) (c : CoreVie
   -- it was cut only where the sink failed or memory was wanted
   pub cut : dump ≡ ends.Cut → IsOneOf status (SINK_FAILED ∷ NO_MEMORY ∷ [])
 
--- What a run has printed that was asked for so. `held` and `now` are what the sink held and holds, where it tells it.
-pub record HasPrinted (told : Bool) (a : Asked) (held now : Option Bytes) (status : ℕ) (dump : DumpEnd) (c : CoreView) : Type 0 where
+-- What a run has printed, quiet or not, with a dump or without. `held` and `now` are what the sink held and holds, where it tells it.
+pub record HasPrinted (told quiet asked : Bool) (held now : Option Bytes) (status : ℕ) (dump : DumpEnd) (c : CoreView) : Type 0 where
   -- the text of that very journal, of which a quiet run has the summary alone, and behind it what was printed of the dump
   pub whole : IsOneOf status (FINE ∷ STORE_FAILED ∷ CLASHED ∷ [])
-      → (more : Bytes) × IsDumped told c.state.nodes dump more × Wrote held now (text_of a.quiet c ++ more)
+      → (more : Bytes) × IsDumped told c.state.nodes dump more × Wrote held now (text_of quiet c ++ more)
   -- or a front of it, where the sink failed or memory was wanted
-  pub part : (more : Bytes) × IsDumped told c.state.nodes dump more × WrotePart held now (text_of a.quiet c ++ more)
+  pub part : (more : Bytes) × IsDumped told c.state.nodes dump more × WrotePart held now (text_of quiet c ++ more)
   -- how the dump ended
-  pub dumped : HasDumped a.dump status dump c
+  pub dumped : HasDumped asked status dump c
 
 -- What is printed behind the summary, of a store that holds these.
 pub record PrintsMore (told : Bool) (nodes : Nodes) (held now : Option Bytes) (status : ℕ) (dump : DumpEnd) : Type 0 where
@@ -139,20 +112,20 @@ pub record HasStatus (half : Half) (told : Bool) (status : ℕ) (c : CoreView) :
 abbrev pub IsCalm : CoreView → Type 0
 IsCalm c = (c.faults ≡ c.opened) × (c.faults < 2 ^ 64 - 1)
 
--- Completeness: how a run ends whose words are the command, whose bytes are a script, and in which no count of faults rose.
+-- Completeness: how a run ends whose words are the command, which has a script, and in which no count of faults rose.
 pub record EndsWell (half : Half) (told : Bool) (words : List (Bor (List ℕ))) (left : Option Bytes) (status : ℕ) : Type 0 where
   -- the whole text was printed with every line answered, or memory was wanted
-  pub answered : IsReplay words → IsSomeAnd left (λ bytes. IsRefusedAt half bytes → ⊥) → IsOneOf status (FINE ∷ CLASHED ∷ NO_MEMORY ∷ [])
+  pub answered : (w : Words) → Asks words w → HasScript half w left → IsOneOf status (FINE ∷ CLASHED ∷ NO_MEMORY ∷ [])
   -- without a clash, where no two different forms that the script offers or its closes make have one hash, and none the zero hash
-  pub fine : IsTrue told → IsReplay words → IsSomeAnd left (λ bytes. (IsRefusedAt half bytes → ⊥) × HasNoCollision half bytes)
+  pub fine : IsTrue told → (w : Words) → Asks words w → HasScript half w left → HasNoCollision half w left
       → IsOneOf status (FINE ∷ NO_MEMORY ∷ [])
 
 -- Other words than the command's. `Unread` says that the source is as it was.
 pub record IsUsage (words : List (Bor (List ℕ))) (status : ℕ) (held now : Option Bytes) (before after : ℕ) (Unread : Type 0) : Type 0 where
   -- exactly these give the usage
-  pub exact : (status ≡ USAGE) ↔ (IsReplay words → ⊥)
+  pub exact : (status ≡ USAGE) ↔ (AreCommand words → ⊥)
   -- with any other status the words are the command
-  pub replay : status ≢ USAGE → IsReplay words
+  pub command : status ≢ USAGE → AreCommand words
   -- the usage is written, or a front of it where the sink failed
   pub printed : status ≡ USAGE → WroteOrFailed held now before after usage_text
   -- nothing is read
@@ -161,12 +134,14 @@ pub record IsUsage (words : List (Bor (List ℕ))) (status : ℕ) (held now : Op
 -- A refused script.
 pub record IsRefusal (half : Half) (words : List (Bor (List ℕ))) (status : ℕ) (left rest held now : Option Bytes) (before after : ℕ)
     (core : Option CoreView) : Type 0 where
-  -- only where the bytes are refused
+  -- only where a script is read, and its bytes are refused
+  pub read : (w : Words) → Asks words w → status ≡ REFUSED → IsRead w
   pub refused : status ≡ REFUSED → IfSome left (IsRefusedAt half)
   -- such bytes give it, unless the source failed or memory was wanted
-  pub exact : IsReplay words → IfSome left (λ bytes. IsRefusedAt half bytes → IsOneOf status (REFUSED ∷ SOURCE_FAILED ∷ NO_MEMORY ∷ []))
+  pub exact : (w : Words) → Asks words w → IsRead w
+      → IfSome left (λ bytes. IsRefusedAt half bytes → IsOneOf status (REFUSED ∷ SOURCE_FAILED ∷ NO_MEMORY ∷ []))
   -- and are never run
-  pub never_run : IfSome left (λ bytes. IsRefusedAt half bytes → IsNone core)
+  pub never_run : (w : Words) → Asks words w → IsRead w → IfSome left (λ bytes. IsRefusedAt half bytes → IsNone core)
   -- the line and the cause are written, or a front of that where the sink failed
   pub printed : status ≡ REFUSED → IfSome left (λ bytes. NamesLine half bytes held now before after)
   -- the source was read to its end, or to the byte after the last that a script may have

@@ -1,5 +1,5 @@
-//! `ledger_run replay` reads a script from standard input, runs it over an empty store, and
-//! prints its journal.
+//! `ledger_run replay` reads a script from standard input, `ledger_run swarm` makes one from a plan; it runs
+//! it over an empty store, and prints its journal.
 #![tactic(auto)]
 
 mod asking;
@@ -13,9 +13,11 @@ mod tests;
 
 ghost use Rattle.std.specs.Prelude.{◌≡◌, ◌↔◌, true, ◌∷◌, [], map, IfOk, IfSome, IsNone, string_bytes};
 ghost use Rattle.std.specs.Process.{exit_status};
-ghost use Rattle.ledger_run.specs.declared.asking.Asked.{Asked};
+ghost use Rattle.run_words.specs.declared.words.Words.{Words};
+ghost use Rattle.run_words.specs.Words.{Says};
 ghost use Rattle.ledger_run.specs.declared.status.TheConstants.{USAGE, REFUSED, SOURCE_FAILED, STORE_FAILED, NO_MEMORY};
-ghost use Rattle.ledger_run.specs.Top.{IsReplay, IsReplayOf, AskFor, AskForRun, IsOneOf, IsWhole, HasStatus};
+ghost use Rattle.ledger_run.specs.Asking.{Asks, AreCommand, AskForRun, interval_in};
+ghost use Rattle.ledger_run.specs.Top.{IsOneOf, IsWhole, HasStatus};
 
 use actor_pool::OpenGate;
 use half_hash::{Half512, NodeHash};
@@ -76,7 +78,7 @@ fn run_with<R: Threads + Wait + Sync>(
     ensures usage { result.status ≡ USAGE → AskForRun (map string_bytes words.now) → ⊥ }
     ensures others { (AskForRun (map string_bytes words.now) → ⊥) → IsOneOf result.status (USAGE ∷ NO_MEMORY ∷ []) }
     // The core and the status are those of a run.
-    ensures interval { IfSome result.core (λ c. (a : Asked) → AskFor (map string_bytes words.now) a → c.interval ≡ a.interval) }
+    ensures interval { IfSome result.core (λ c. (w : Words) → Says (map string_bytes words.now) w → c.interval ≡ interval_in w) }
     ensures whole { IfSome result.core (IsWhole (⟦<Half512 as NodeHash>⟧.half) true) }
     ensures status { IfSome result.core (HasStatus (⟦<Half512 as NodeHash>⟧.half) true result.status) }
     ensures none { IsNone result.core → IsOneOf result.status (USAGE ∷ REFUSED ∷ SOURCE_FAILED ∷ STORE_FAILED ∷ NO_MEMORY ∷ []) }
@@ -104,8 +106,8 @@ fn run_on<R: Threads + Wait + Sync>(
     threads: &R,
     words: &[&str],
 ) -> Ended<Half512, MemShelf>
-    ensures usage { (result.status ≡ USAGE) ↔ (IsReplay words.now → ⊥) }
-    ensures interval { IfSome result.core (λ c. (a : Asked) → IsReplayOf words.now a → c.interval ≡ a.interval) }
+    ensures usage { (result.status ≡ USAGE) ↔ (AreCommand words.now → ⊥) }
+    ensures interval { IfSome result.core (λ c. (w : Words) → Asks words.now w → c.interval ≡ interval_in w) }
     ensures whole { IfSome result.core (IsWhole (⟦<Half512 as NodeHash>⟧.half) true) }
     ensures status { IfSome result.core (HasStatus (⟦<Half512 as NodeHash>⟧.half) true result.status) }
     ensures none { IsNone result.core → IsOneOf result.status (USAGE ∷ REFUSED ∷ SOURCE_FAILED ∷ STORE_FAILED ∷ NO_MEMORY ∷ []) }

@@ -548,6 +548,8 @@ const WAITING: &str = "0 want [DD] 10
 1 after 2 base 5 [DD] @ [FA]0103
 1 node 5 [DD] state [10]01 0102[10]01
 0 after 4 check [DD]
+2 after 5 view 1 [DD]
+2 get 1 state [10]
 2 after 5 want [DD] 10
 ";
 
@@ -556,7 +558,9 @@ const WAITING_SAYS: &str = "1 0 want opened
 3 1 base good / good
 4 1 node good
 5 0 check complete
-6 2 want listed
+6 2 view ok
+7 2 get value 0102
+8 2 want listed
 end complete 1 closed 0 listed 1 floor 0 last 10 epoch 0
 ";
 

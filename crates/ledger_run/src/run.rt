@@ -3,16 +3,17 @@ ghost use Rattle.std.specs.Prelude.{None, ◌≡◌, ◌⊎◌, ◌≤◌, ◌�
 ghost use Rattle.std.specs.List.{list_any};
 ghost use Rattle.run_io.specs.Bytes.{Rose, Wrote, WrotePart};
 ghost use Rattle.rotating_store.specs.Stores.{Store};
-ghost use Rattle.ledger_run.specs.declared.asking.Asked.{Asked};
+ghost use Rattle.run_words.specs.declared.words.Words.{Words as Said};
 ghost use Rattle.ledger_run.specs.declared.status.TheConstants.{REFUSED, NO_MEMORY};
 ghost use Rattle.ledger_run.specs.Output.{entry_line, entry_lines, refused_text, status_of, shows_clash as clash_shown};
 ghost use Rattle.ledger_run.specs.Output.{met_fault as fault_met, wanted_memory as memory_wanted};
-ghost use Rattle.ledger_run.specs.Top.{IsReplayOf, IsOneOf, WroteOrFailed, text_of, IsRunOfInput, HasPrinted, HasDumped};
+ghost use Rattle.ledger_run.specs.Asking.{Asks, quiet_in, dump_in};
+ghost use Rattle.ledger_run.specs.Top.{IsOneOf, WroteOrFailed, text_of, IsRunOfInput, HasPrinted, HasDumped};
 ghost use Rattle.ledger_run.specs.Top.{HasStatus, HasSaid, PrintsMore, IsCalm, EndsWell};
 ghost use Rattle.store_core.specs.Dumping.{Lists};
 ghost use Rattle.ledger_run.specs.Top.{IsUsage, IsRefusal, HasCause, HasNotOpened};
 
-use crate::asking::{Asked, replay_of};
+use crate::asking::{asked_for, has_dump, interval_of, is_quiet, script_for};
 pub use crate::dump::DumpEnd;
 use crate::dump::{DumpFault, print_records};
 use crate::status::{
@@ -25,7 +26,7 @@ use ledger_machine::{Entry, Reply};
 use node_backend::Shelf;
 use rotating_store::Unopened;
 use run_io::{AllFault, Sink, Source, write_all};
-use script_form::{ScriptFault, read_script};
+use script_form::ScriptFault;
 use std::alloc::Global;
 use std::sync::Wait;
 use std::thread::Threads;
@@ -114,17 +115,18 @@ fn print_all<H: NodeHash, Sh: Shelf, K: Sink>(
     alloc: Global,
     core: &mut Core<H, Sh>,
     sink: &mut K,
-    asked: Asked,
+    quiet: bool,
+    asked: bool,
 ) -> (u8, DumpEnd)
     requires { core.old.missed ≡ 0 }
     ensures lists { Lists Sh.B.tells core.old core.new }
-    ensures printed { HasPrinted Sh.B.tells asked (K.held sink.old) (K.held sink.new) result.0 result.1 core.new }
+    ensures printed { HasPrinted Sh.B.tells quiet asked (K.held sink.old) (K.held sink.new) result.0 result.1 core.new }
     ensures said { HasSaid result.0 core.new (K.faults sink.old) (K.faults sink.new) }
 {
-    match print(alloc, core, sink, asked.quiet) {
-        Ok(()) => print_dump(alloc, core, sink, asked.dump),
-        Err(AllFault::Fault) => (SINK_FAILED, unprinted(asked.dump)),
-        Err(AllFault::Memory) => (NO_MEMORY, unprinted(asked.dump)),
+    match print(alloc, core, sink, quiet) {
+        Ok(()) => print_dump(alloc, core, sink, asked),
+        Err(AllFault::Fault) => (SINK_FAILED, unprinted(asked)),
+        Err(AllFault::Memory) => (NO_MEMORY, unprinted(asked)),
     }
 }
 
@@ -283,10 +285,10 @@ fn not_opened<H: NodeHash, Sh: Shelf>(unopened: Unopened<Sh>) -> Ended<H, Sh>
     }
 }
 
-/// Reads a script, answers each of its lines, and prints the journal of what was answered, of which `--quiet` leaves the summary alone,
-/// and with `--dump` all that is stored then. With `--interval N` a rotation is due at N sequences, else at 256.
+/// Reads a script, or makes a swarm's, answers each of its lines, and prints the journal of what was answered, of which `--quiet` leaves
+/// the summary alone, and with `--dump` all that is stored then. With `--interval N` a rotation is due at N sequences, else at 256.
 ///
-/// The first that is met is answered: other words than the command's; want of memory; the source failed; the
+/// The first that is met is answered: other words than the commands'; want of memory; the source failed; the
 /// script is refused; the store can't be opened. After the run it is the sink's failing, or want of memory in printing; then a clash,
 /// a fault, also in the dump, and want of memory by the journal's replies.
 pub fn ledger_run<R: Threads + Wait + Sync, H: NodeHash, S: Source, K: Sink, Sh: Shelf, G: Gate>(
@@ -301,8 +303,8 @@ pub fn ledger_run<R: Threads + Wait + Sync, H: NodeHash, S: Source, K: Sink, Sh:
 ) -> Ended<H, Sh>
     ensures run { IfSome result.core (IsRunOfInput H.half Sh.B.tells words.now (S.left source.old) (S.left source.new)) }
     ensures printed { MatchOption result.core (result.dump ≡ DumpEnd.NotAsked)
-        (λ c. (a : Asked) → IsReplayOf words.now a
-        → HasPrinted Sh.B.tells a (K.held sink.old) (K.held sink.new) result.status result.dump c) }
+        (λ c. (w : Said) → Asks words.now w
+        → HasPrinted Sh.B.tells (quiet_in w) (dump_in w) (K.held sink.old) (K.held sink.new) result.status result.dump c) }
     ensures status { IfSome result.core (HasStatus H.half Sh.B.tells result.status) }
     ensures complete { (Rose (S.faults source.old) (S.faults source.new) → ⊥) → (Rose (K.faults sink.old) (K.faults sink.new) → ⊥)
         → IfSome result.core IsCalm → IfSome result.unopened (λ u. u ≡ Unopened.Memory)
@@ -318,11 +320,11 @@ pub fn ledger_run<R: Threads + Wait + Sync, H: NodeHash, S: Source, K: Sink, Sh:
         ⊎ ((t : Store) × (u ≡ Unopened.Store t) × Rose (Sh.faults shelf) t.faults))
         (λ u. u ≡ Unopened.Memory) (sink.new ≡ sink.old) }
 {
-    let Some(asked) = replay_of(words) else {
+    let Some(asked) = asked_for(words) else {
         let _ = write_all(sink, USAGE_TEXT);
         return without_core(USAGE);
     };
-    let script = match read_script::<H, S>(alloc, source) {
+    let script = match script_for::<H, S>(alloc, &asked, source) {
         Ok(script) => script,
         Err(ScriptFault::Memory) => return without_core(NO_MEMORY),
         Err(ScriptFault::Fault) => return without_core(SOURCE_FAILED),
@@ -330,12 +332,12 @@ pub fn ledger_run<R: Threads + Wait + Sync, H: NodeHash, S: Source, K: Sink, Sh:
             return without_core(refuse(alloc, line, cause, sink));
         }
     };
-    let core = match Core::open(alloc, hash, script, asked.interval, shelf) {
+    let core = match Core::open(alloc, hash, script, interval_of(&asked), shelf) {
         Ok(core) => core,
         Err(unopened) => return not_opened(unopened),
     };
     let mut core = run_actors(rt, alloc, core, gate);
-    let (status, dump) = print_all(alloc, &mut core, sink, asked);
+    let (status, dump) = print_all(alloc, &mut core, sink, is_quiet(&asked), has_dump(&asked));
     // For its contract.
     let _ = core.journal();
     Ended {

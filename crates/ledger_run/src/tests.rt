@@ -1,4 +1,3 @@
-use crate::asking::replay_of;
 use crate::run::ledger_run;
 use actor_pool::OpenGate;
 use half_hash::TinyHash;
@@ -18,7 +17,7 @@ type Case = (
     &'static str,
 );
 
-const CASES: [Case; 24] = [
+const CASES: [Case; 23] = [
     (&["replay"], "", 0, 0, 0, 0, NOTHING),
     (&["replay"], SHORT, 0, 0, 0, 0, ANSWERED),
     (&["replay"], "0 want 11 7\n", 0, 0, 0, 3, "refused 1 8\n"),
@@ -44,7 +43,6 @@ const CASES: [Case; 24] = [
     (&["replay", "--quiet"], SHORT, 0, 1, 0, 5, ""),
     (&[], "", 0, 0, 0, 2, USAGE),
     (&["swarm"], "", 0, 0, 0, 2, USAGE),
-    (SWARM, "", 0, 0, 0, 2, USAGE),
     (&["replay", "--dump", "--dump"], "", 0, 0, 0, 2, USAGE),
     (&["replay", "--quiet", "--quiet"], "", 0, 0, 0, 2, USAGE),
     (&["replay", "--", "--quiet"], "", 0, 0, 0, 2, USAGE),
@@ -54,16 +52,6 @@ const CASES: [Case; 24] = [
 ];
 
 const USAGE: &str = "usage: ledger_run replay | swarm\n";
-
-/// Words of a swarm, which isn't made yet.
-const SWARM: &[&str] = &[
-    "swarm",
-    "--number=7",
-    "--ledgers=3",
-    "--items=10",
-    "--liars=0",
-    "--actors=3",
-];
 
 const NOTHING: &str = "end complete 0 closed 0 listed 0 floor 0 last - epoch 0\n";
 
@@ -121,16 +109,5 @@ fn scripts_and_their_ends(rt: HostRuntime) -> Result<(), Fail> {
         assert_eq!(rt; ended.status, *status);
         assert_eq!(rt; sink.held(), printed.as_bytes());
     }
-    Ok(())
-}
-
-#[test]
-fn the_interval_is_the_one_that_is_given(rt: HostRuntime) -> Result<(), Fail> {
-    let given = replay_of(&["replay", "--interval=0004", "--quiet"]).ok_or("given")?;
-    assert_eq!(rt; given.interval, 4);
-    assert!(rt; given.quiet && !given.dump);
-    let default = replay_of(&["replay", "--dump"]).ok_or("default")?;
-    assert_eq!(rt; default.interval, 256);
-    assert!(rt; default.dump && !default.quiet);
     Ok(())
 }

@@ -6,3 +6,8 @@ pub mod Standing
 pub mod Walking
 pub mod Standings
 pub mod Listing
+pub mod Linking
+pub mod Sharing
+pub mod Tracks
+pub mod Wires
+mod Servings

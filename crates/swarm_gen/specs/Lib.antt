@@ -9,3 +9,5 @@ pub mod Standing
 pub mod Walks
 pub mod Trees
 pub mod Listed
+pub mod Tracking
+pub mod Serving

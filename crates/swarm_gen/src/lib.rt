@@ -1,22 +1,27 @@
 //! The script that a swarm's plan makes: its ledgers one after another, each acquired from peers of whom
 //! some lie, read, and now and then a rotation.
 //!
-//! `make_over` asks its maps for two things, by the trait `Tracked`: the root, and the nodes that changed
-//! since it was last asked. No type has that trait yet, so no script is made by this crate alone.
+//! Its maps are asked for two things: the nodes that changed since they were last asked, and the root.
 #![tactic(auto)]
 
+mod hashing;
 mod laws;
+mod ledgers;
 mod lines;
-mod make;
+mod nodes;
 mod plan;
 #[cfg(test)]
 mod tests;
 mod tracked;
+mod tracked_map;
 mod walk;
 
-pub use laws::{a_maps_nodes_have_its_forms, shared_nodes_are_the_maps};
+pub use laws::{
+    a_maps_nodes_have_its_forms, shared_nodes_are_the_maps, the_nodes_of_links_stand_for_their_map,
+};
+pub use ledgers::make;
 pub use lines::Lines;
-pub use make::make_over;
 pub use plan::Plan;
-pub use tracked::{PlacedNode, Root, Tracked};
+pub use tracked::{PlacedNode, Root};
+pub use tracked_map::TrackedMap;
 pub use walk::{Shared, walk as walk_changes};

@@ -1,12 +1,17 @@
 //! The lines of a script.
 ghost use Rattle.std.specs.Prelude.{◌≡◌, ◌+◌, ◌<◌, ◌≤◌, ◌^◌, vec_len, ℕ, List, [], ◌∷◌, ◌++◌, length, map, if◌then◌else◌};
-ghost use Rattle.std.specs.Prelude.{Option, Some, None, IfOk, OnOk, option_to_list};
+ghost use Rattle.std.specs.Prelude.{Option, Some, None, IfOk, IsTrue, OnOk, option_to_list};
 ghost use Rattle.std.specs.List.{range_with_len};
 ghost use Rattle.ledger_machine.specs.declared.commands.Command.TheVariants as command;
 ghost use Rattle.swarm_gen.specs.Plans.{IsPlan};
 ghost use Rattle.swarm_gen.specs.Script.{says, lie_of, lies_for, lines_for, lines_for_all, opening_of, get_line, reader_lines};
 ghost use Rattle.swarm_gen.specs.Script.{rotation_lines, acquired, acquirer as acquirer_of, ledger_lines, next_waits, is_turn};
 ghost use Rattle.swarm_gen.specs.Adding.{Adds, said, ledger_from};
+ghost use Rattle.swarm_gen.specs.Serving.{IsOfLedger};
+ghost use Rattle.ledger_spec.specs.Bytes.{is_nonzero, are_bytes};
+ghost use Rattle.ledger_machine.specs.Scripts.{IsInRange};
+ghost use Rattle.script_form.specs.Servable.{AreServable};
+ghost use Rattle.std.specs.List.{All};
 
 use crate::Plan;
 use half_hash::{Blob, Hash32, Memory};
@@ -59,10 +64,13 @@ const VIEW: u16 = 1;
 impl Model for Lines {
     ghost use Rattle.std.specs.Prelude.{List};
     ghost use Rattle.ledger_machine.specs.declared.commands.Line.{Line};
+    ghost use Rattle.swarm_gen.specs.Serving.{AreLines};
 
     ghost Value = { List Line };
 
     ghost view = { λ a. a.lines.items };
+
+    ghost invariant = { λ a. AreLines a.lines.items };
 }
 
 impl Lines {
@@ -75,15 +83,19 @@ impl Lines {
         }
     }
 
-    /// The lines.
+    /// The lines, which a core takes.
     pub fn into_vec(self) -> Vec<Line>
-        ensures { result.items ≡ self }
+        ensures lines { result.items ≡ self }
+        ensures servable { AreServable result.items }
     {
         self.lines
     }
 
     /// One line more, and its number.
     fn push(&mut self, actor: u8, after: u32, command: Command) -> Result<u32, Memory>
+        requires actor { actor < 64 }
+        requires earlier { after ≤ length self.old }
+        requires range { IsInRange command }
         ensures number { IfOk result (λ n. n ≡ length self.old + 1) }
         ensures line { OnOk result (Adds self.old self.new (said actor after command ∷ [])) }
     {
@@ -99,6 +111,8 @@ impl Lines {
 
     /// One line more, which waits for no other.
     fn say(&mut self, actor: u8, command: Command) -> Result<(), Memory>
+        requires actor { actor < 64 }
+        requires range { IsInRange command }
         ensures { OnOk result (Adds self.old self.new (says actor command ∷ [])) }
     {
         self.push(actor, 0, command)?;
@@ -107,6 +121,8 @@ impl Lines {
 
     /// The peers' lines of a ledger.
     fn add_peers(&mut self, actor: u8, target: Hash32) -> Result<(), Memory>
+        requires actor { actor < 64 }
+        requires target { IsTrue (is_nonzero target) }
         ensures { OnOk result (Adds self.old self.new (map (says actor) (map (λ p. command.Peer p target) (range_with_len 0 8)))) }
     {
         for peer in 0..PEERS {
@@ -125,7 +141,10 @@ impl Lines {
         n: usize,
         sent: &Sent,
     ) -> Result<(), Memory>
-        requires { IsPlan plan.now }
+        requires plan { IsPlan plan.now }
+        requires actor { actor < 64 }
+        requires target { IsTrue (is_nonzero target) }
+        requires sent { IsOfLedger sent.now }
         ensures { OnOk result (Adds self.old self.new (map (says actor) (lies_for plan.now target n sent.now))) }
     {
         let liars = plan.liars as usize;
@@ -134,6 +153,7 @@ impl Lines {
         }
         let peer = (n / 8 % liars) as u16;
         let blob = lie(alloc, &sent.blob)?;
+        known_blob(&blob);
         self.say(
             actor,
             Command::Node {
@@ -156,12 +176,16 @@ impl Lines {
         n: usize,
         sent: Sent,
     ) -> Result<(), Memory>
-        requires { IsPlan plan.now }
+        requires plan { IsPlan plan.now }
+        requires actor { actor < 64 }
+        requires target { IsTrue (is_nonzero target) }
+        requires sent { IsOfLedger sent }
         ensures { OnOk result (Adds self.old self.new (map (says actor) (lines_for plan.now target n sent))) }
     {
         self.add_lie(alloc, plan, target, actor, n, &sent)?;
         let liars = plan.liars as usize;
         let peer = (liars + n % (8 - liars)) as u16;
+        known_blob(&sent.blob);
         self.say(
             actor,
             Command::Node {
@@ -185,6 +209,9 @@ impl Lines {
         nodes: Vec<Sent>,
     ) -> Result<(), Memory>
         requires plan { IsPlan plan.now }
+        requires actor { actor < 64 }
+        requires target { IsTrue (is_nonzero target) }
+        requires sent { All IsOfLedger nodes.items }
         requires few { first + vec_len nodes < 2 ^ 64 }
         ensures { OnOk result (Adds self.old self.new (map (says actor) (lines_for_all plan.now target first nodes.items))) }
     {
@@ -198,9 +225,14 @@ impl Lines {
 
     /// The lines of a ledger's peers and header, up to its root nodes.
     fn add_opening(&mut self, actor: u8, head: Head) -> Result<(), Memory>
+        requires actor { actor < 64 }
+        requires target { IsTrue (is_nonzero head.hash) }
         ensures { OnOk result (Adds self.old self.new (map (says actor) (opening_of (ledger_from head [] [])))) }
     {
         let target = head.hash;
+        known_blob(&head.header);
+        known_blob(&head.state_root);
+        known_blob(&head.tx_root);
         self.say(
             actor,
             Command::Want {
@@ -236,6 +268,10 @@ impl Lines {
         requires plan { IsPlan plan.now }
         requires seq { 1 ≤ head.seq }
         requires few { vec_len state_nodes + vec_len tx_nodes < 2 ^ 64 }
+        requires target { IsTrue (is_nonzero head.hash) }
+        requires state { All IsOfLedger state_nodes.items }
+        requires tx { All IsOfLedger tx_nodes.items }
+        requires earlier { waits ≤ length self.old }
         ensures number { IfOk result (λ n. n ≡ length self.old
             + length (acquired plan.now (ledger_from head state_nodes.items tx_nodes.items) waits)) }
         ensures lines { OnOk result (Adds self.old self.new
@@ -254,9 +290,11 @@ impl Lines {
 
     /// The reader's lines for keys.
     fn add_gets(&mut self, keys: &[Hash32]) -> Result<(), Memory>
+        requires { All (λ k. IsTrue (is_nonzero k)) keys.now }
         ensures { OnOk result (Adds self.old self.new (map get_line keys.now)) }
     {
         for key in keys {
+            known_hash(key);
             self.say(
                 READER,
                 Command::Get {
@@ -271,6 +309,9 @@ impl Lines {
 
     /// The reader's lines for a ledger, behind its final check.
     fn add_reader(&mut self, keys: &[Hash32], target: Hash32, last: u32) -> Result<(), Memory>
+        requires keys { All (λ k. IsTrue (is_nonzero k)) keys.now }
+        requires target { IsTrue (is_nonzero target) }
+        requires earlier { last ≤ length self.old }
         ensures { OnOk result (Adds self.old self.new (reader_lines keys.now target last)) }
     {
         self.push(READER, last, Command::View { view: VIEW, target })?;
@@ -282,7 +323,9 @@ impl Lines {
     /// The rotator's lines behind a ledger, where a rotation is due; gives the number of the line for
     /// which the next ledger waits.
     fn add_rotation(&mut self, plan: &Plan, seq: u32, last: u32) -> Result<u32, Memory>
-        requires { IsPlan plan.now }
+        requires plan { IsPlan plan.now }
+        requires earlier { last ≤ length self.old }
+        ensures earlier { IfOk result (λ n. n ≤ length self.new) }
         ensures number { IfOk result (λ n. n ≡ (if is_turn plan.now seq then length self.old + 1 else last)) }
         ensures lines { OnOk result (Adds self.old self.new (rotation_lines plan.now seq last)) }
     {
@@ -306,9 +349,15 @@ impl Lines {
         tx_nodes: Vec<Sent>,
         waits: u32,
     ) -> Result<u32, Memory>
+        requires keys { All (λ k. IsTrue (is_nonzero k)) keys.now }
         requires plan { IsPlan plan.now }
         requires seq { 1 ≤ head.seq }
         requires few { vec_len state_nodes + vec_len tx_nodes < 2 ^ 64 }
+        requires target { IsTrue (is_nonzero head.hash) }
+        requires state { All IsOfLedger state_nodes.items }
+        requires tx { All IsOfLedger tx_nodes.items }
+        requires earlier { waits ≤ length self.old }
+        ensures earlier { IfOk result (λ n. n ≤ length self.new) }
         ensures waits { IfOk result (λ n. n ≡
             next_waits plan.now keys.now (ledger_from head state_nodes.items tx_nodes.items) (length self.old) waits) }
         ensures lines { OnOk result (Adds self.old self.new
@@ -327,7 +376,8 @@ impl Lines {
 fn acquirer(plan: &Plan, seq: u32) -> u8
     requires plan { IsPlan plan.now }
     requires seq { 1 ≤ seq }
-    ensures { result ≡ acquirer_of plan.now seq }
+    ensures acquirer { result ≡ acquirer_of plan.now seq }
+    ensures known { result < 64 }
 {
     2 + ((seq - 1) % (u32::from(plan.actors) - 2)) as u8
 }
@@ -341,4 +391,26 @@ fn lie(alloc: Global, blob: &Blob) -> Result<Blob, Memory>
         *first ^= 1;
     }
     Ok(Blob::new(bytes))
+}
+
+// Tells a proof that a blob is bytes.
+fn known_blob(blob: &Blob)
+    ensures { IsTrue (are_bytes blob.now) }
+{
+    known_bytes(blob.bytes());
+}
+
+// The same of a hash, which has 32.
+fn known_hash(h: &Hash32)
+    ensures size { length h.now ≡ 32 }
+    ensures bytes { IsTrue (are_bytes h.now) }
+{
+    known_bytes(&h.bytes);
+}
+
+// The same of bytes.
+fn known_bytes(bytes: &[u8])
+    ensures { IsTrue (are_bytes bytes.now) }
+{
+    let _length = bytes.len();
 }

@@ -1,53 +1,183 @@
-//! The lines of one ledger, as the format states them.
-use super::lines::{Head, Sent};
+//! Scripts that the rules alone give, worked out by `tools/make-swarm`.
+ghost use Rattle.swarm_gen.specs.Plans.{IsPlan};
+
 use super::*;
-use half_hash::{Blob, Hash32};
+use half_hash::{Half512, Hash32, NodeHash, TinyHash};
 use ledger_machine::{Command, Line};
-use nib_path::NodeId;
 use shamap_node::Kind;
+use std::alloc::Global;
 use std::test::Fail;
 
-/// Whether a line is the node line of this peer with this blob.
-fn is_node(line: Option<&Line>, from: u16, form: &[u8]) -> bool {
-    match line {
-        Some(line) => match &line.command {
-            Command::Node { peer, blob, .. } => *peer == from && blob.bytes() == form,
-            _ => false,
-        },
-        None => false,
+fn digits(alloc: Global, bytes: &[u8]) -> Result<String, Fail> {
+    Ok(hex::encode_upper(alloc, bytes)?)
+}
+
+fn kind_word(kind: Kind) -> &'static str {
+    match kind {
+        Kind::State => "state",
+        Kind::Tx => "tx",
+        Kind::Set => "set",
     }
 }
 
+/// A command that brings something, as scripts write it.
+fn given_text(alloc: Global, command: &Command) -> Result<String, Fail> {
+    match command {
+        Command::Base {
+            peer,
+            target,
+            header,
+            state: Some(state),
+            tx: Some(tx),
+        } => {
+            let target = digits(alloc, &target.bytes)?;
+            let header = digits(alloc, header.bytes())?;
+            let state = digits(alloc, state.bytes())?;
+            let tx = digits(alloc, tx.bytes())?;
+            Ok(format!(in alloc; "base {peer} {target} {header} {state} {tx}")?)
+        }
+        Command::Node {
+            peer,
+            target,
+            kind,
+            id,
+            blob,
+        } => {
+            let target = digits(alloc, &target.bytes)?;
+            let word = kind_word(*kind);
+            let id = digits(alloc, &id.to_wire())?;
+            let blob = digits(alloc, blob.bytes())?;
+            Ok(format!(in alloc; "node {peer} {target} {word} {id} {blob}")?)
+        }
+        _ => Ok(String::new(alloc)),
+    }
+}
+
+/// A command of a swarm, as scripts write it.
+fn command_text(alloc: Global, command: &Command) -> Result<String, Fail> {
+    match command {
+        Command::Want { target, seq } => {
+            let target = digits(alloc, &target.bytes)?;
+            Ok(format!(in alloc; "want {target} {seq}")?)
+        }
+        Command::Peer { peer, target } => {
+            let target = digits(alloc, &target.bytes)?;
+            Ok(format!(in alloc; "peer {peer} {target}")?)
+        }
+        Command::Check { target } => {
+            let target = digits(alloc, &target.bytes)?;
+            Ok(format!(in alloc; "check {target}")?)
+        }
+        Command::View { view, target } => {
+            let target = digits(alloc, &target.bytes)?;
+            Ok(format!(in alloc; "view {view} {target}")?)
+        }
+        Command::Get { view, kind, key } => {
+            let word = kind_word(*kind);
+            let key = digits(alloc, &key.bytes)?;
+            Ok(format!(in alloc; "get {view} {word} {key}")?)
+        }
+        Command::Unview { view } => Ok(format!(in alloc; "unview {view}")?),
+        Command::Begin => Ok(format!(in alloc; "begin")?),
+        Command::Swap => Ok(format!(in alloc; "swap")?),
+        command => given_text(alloc, command),
+    }
+}
+
+/// The text of a script's lines.
+fn script_text(alloc: Global, lines: &[Line]) -> Result<String, Fail> {
+    let mut text = String::new(alloc);
+    for line in lines {
+        let actor = line.actor;
+        let after = line.after;
+        let said = command_text(alloc, &line.command)?;
+        let whole = if after == 0 {
+            format!(in alloc; "{actor} {said}\n")?
+        } else {
+            format!(in alloc; "{actor} after {after} {said}\n")?
+        };
+        text.push_str(&whole)?;
+    }
+    Ok(text)
+}
+
+/// The digest of a plan's script.
+fn digest<H: NodeHash>(alloc: Global, plan: &Plan) -> Result<Hash32, Fail>
+    requires { IsPlan plan.now }
+{
+    let script = make::<H>(alloc, plan)?;
+    let text = script_text(alloc, &script.lines)?;
+    Ok(Half512::half(text.as_bytes()))
+}
+
+/// The first 32 bytes of the SHA-512 of what `tools/make-swarm 1 3 10 1 3 256` prints.
+const REAL: &[u8; 64] = b"4D1CA6B336766FAAB07E115FDF0418AE76D69D55648583181A98D3EBDE5E83C9";
+
 #[test]
-fn a_lie_goes_before_its_node_line(rt: HostRuntime) -> Result<(), Fail> {
-    let alloc = rt.alloc();
+fn a_script_of_three_ledgers(rt: HostRuntime) -> Result<(), Fail> {
+    let plan = Plan {
+        number: 1,
+        ledgers: 3,
+        items: 10,
+        liars: 1,
+        actors: 3,
+        interval: 256,
+    };
+    let found = digest::<Half512>(rt.alloc(), &plan)?;
+    assert_eq!(rt; Ok(found), Hash32::from_hex(REAL));
+    Ok(())
+}
+
+/// The same of `tools/make-swarm 0 3 4 1 3 1 --sum`, of 85 lines.
+const TURNS: &[u8; 64] = b"3E473C7DBA083208821B6BF9BF1EF1E200F440D7E190EE3EF092D70EBC6F0669";
+
+#[test]
+fn a_rotation_behind_each_ledger(rt: HostRuntime) -> Result<(), Fail> {
     let plan = Plan {
         number: 0,
-        ledgers: 2,
-        items: 1,
+        ledgers: 3,
+        items: 4,
         liars: 1,
         actors: 3,
         interval: 1,
     };
-    let head = Head {
-        seq: 2,
-        hash: Hash32 { bytes: [2; 32] },
-        header: Blob::from_slice(alloc, b"header")?,
-        state_root: Blob::from_slice(alloc, b"state")?,
-        tx_root: Blob::from_slice(alloc, b"tx")?,
+    let found = digest::<TinyHash>(rt.alloc(), &plan)?;
+    assert_eq!(rt; Ok(found), Hash32::from_hex(TURNS));
+    Ok(())
+}
+
+/// The same of `tools/make-swarm 25 4 96 2 5 2 --sum`, of 288 lines, in which ledgers share nodes.
+const SHARED: &[u8; 64] = b"3DAD31BC806186EE5303B957779ABF64F7058E7397D83F6A71761829CD603FA2";
+
+#[test]
+fn ledgers_that_share_nodes(rt: HostRuntime) -> Result<(), Fail> {
+    let plan = Plan {
+        number: 25,
+        ledgers: 4,
+        items: 96,
+        liars: 2,
+        actors: 5,
+        interval: 2,
     };
-    let mut nodes = Vec::new(alloc);
-    nodes.push(Sent {
-        kind: Kind::Tx,
-        id: NodeId::root(),
-        blob: Blob::from_slice(alloc, &[0x10])?,
-    })?;
-    let mut lines = Lines::new(alloc);
-    let waits = lines.add_ledger(alloc, &plan, &[], head, Vec::new(alloc), nodes, 0)?;
-    assert_eq!(rt; waits, 18);
-    let lines = lines.into_vec();
-    assert_eq!(rt; lines.len(), 19);
-    assert!(rt; is_node(lines.get(12), 0, &[0x11]));
-    assert!(rt; is_node(lines.get(13), 1, &[0x10]));
+    let found = digest::<TinyHash>(rt.alloc(), &plan)?;
+    assert_eq!(rt; Ok(found), Hash32::from_hex(SHARED));
+    Ok(())
+}
+
+/// The same of `tools/make-swarm 5 3 4 1 3 1 --sum`: the second ledger has a form with the zero hash.
+const CUT: &[u8; 64] = b"A638EF3959BC4916A3B793B48B2ED6E13BBA2F13461DCD50A9A89F4BBB0BC3CD";
+
+#[test]
+fn a_ledger_with_a_zero_hash_ends_the_script(rt: HostRuntime) -> Result<(), Fail> {
+    let plan = Plan {
+        number: 5,
+        ledgers: 3,
+        items: 4,
+        liars: 1,
+        actors: 3,
+        interval: 1,
+    };
+    let found = digest::<TinyHash>(rt.alloc(), &plan)?;
+    assert_eq!(rt; Ok(found), Hash32::from_hex(CUT));
     Ok(())
 }

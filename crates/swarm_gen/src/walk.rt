@@ -1,5 +1,4 @@
 //! A walk of two maps at once that share nodes: a branch at which both have one node is passed over whole.
-//! No type has the trait `Shared` yet.
 ghost use Rattle.std.specs.Prelude.{◌≡◌, ◌<◌, ◌≤◌, ◌++◌, ◌∷◌, [], ℕ, List, Option, None, Some, map, length};
 ghost use Rattle.std.specs.Prelude.{if◌then◌else◌, IfOk, OnOk, IsTrue};
 ghost use Rattle.std.specs.List.{flat_map};
@@ -32,8 +31,8 @@ pub trait Shared<H: NodeHash> {
         ensures { IfOk result (λ p. p ≡ given H.half (placed_at place (held self.now node))) };
 
     /// Whether two nodes have one form.
-    fn has_form_of(&self, node: usize, other: usize) -> bool
-        ensures { result ≡ same_bytes (form_of (held self.now node)) (form_of (held self.now other)) };
+    fn has_form_of(&self, alloc: Global, node: usize, other: usize) -> Result<bool, Memory>
+        ensures { IfOk result (λ same. same ≡ same_bytes (form_of (held self.now node)) (form_of (held self.now other))) };
 }
 
 /// The node at a branch of another map's node, if there are both.
@@ -59,7 +58,7 @@ fn list_itself<H: NodeHash, T: Shared<H>>(
     ensures { OnOk result (out.new.items ≡ out.old.items ++ map (given H.half) (itself (T.held tree.now) place node old)) }
 {
     let same = match old {
-        Some(other) => tree.has_form_of(node, other),
+        Some(other) => tree.has_form_of(alloc, node, other)?,
         None => false,
     };
     if !same {

@@ -1,26 +1,31 @@
 -- what the core keeps, told of its status
 use Rattle.ledger_run.proofs.Opening.{opened_by}
-use Rattle.std.proofs.Common.{Err, refl, is_some, sym, ◌∙◌, ap, subst}
-use Rattle.ledger_run.specs.declared.asking.Asked.{Asked}
+use Rattle.std.proofs.Common.{◌≡◌, Bool, Err, refl, is_some, sym, ◌∙◌, ap, subst}
+use Rattle.run_words.specs.declared.words.Words.{Words}
+use Rattle.ledger_run.specs.Asking.{interval_in, quiet_in, dump_in, WasRead}
 use Rattle.ledger_run.specs.Top.{HasPrinted}
-use Rattle.ledger_run.proofs.Refusals.{run_refusal, script_as, full_as}
+use Rattle.ledger_run.proofs.Refusals.{run_refusal, script_as, asked_as, full_as}
 use Rattle.ledger_run.proofs.Statuses.{status_from, ends_from}
 use Rattle.ledger_run.proofs.run.ledger_run.Goals as goal
 
--- running and printing keep the script's records and lines, so the full journal is a run of the script that was read; the interval is the
--- one that the core was opened with, which is the only one that the words say
+-- running and printing keep the script's records and lines, so the full journal is a run of the script that was asked for; the interval is
+-- the one that the core was opened with. The words ask for nothing else.
 pub returns-clause-run : goal.returns-clause-run
 returns-clause-run g c =
     let same = c.run_actors-core.ensures.same in
     let listed = c.print_all-status.ensures.lists in
     let lines = listed.lines ∙ same.lines ∙ c.in-Ok-open.ensures.script.lines in
     let records = listed.records ∙ same.records ∙ c.in-Ok-open.ensures.script.records in
+    let script = script_as g.H.NodeHash.half c.in-Some.asked (g.S.Source.left c.args.source.now) _ _ _ _ (sym records) (sym lines)
+    c.in-Ok.ensures.script in
     record {
-      script = script_as g.H.NodeHash.half (g.S.Source.left c.args.source.now) _ _ _ _ (sym records) (sym lines) c.in-Ok.ensures.script;
-      read = c.in-Ok.ensures.ended;
-      interval = λ a says.
-          listed.interval ∙ same.interval ∙ c.in-Ok-open.ensures.script.interval
-          ∙ sym (ap (λ (x : Asked). x.interval) (c.in-Some.ensures.only a says));
+      script = λ w asks. asked_as g.H.NodeHash.half c.in-Some.asked w (g.S.Source.left c.args.source.now)
+          c.print_all-status.new.core.records c.print_all-status.new.core.lines (c.in-Some.ensures.only w asks) script;
+      read = λ w asks. subst (λ (x : Words). WasRead x (g.S.Source.left c.args.source.now) (g.S.Source.left c.script_for.new.source))
+          (sym (c.in-Some.ensures.only w asks)) c.in-Ok.ensures.read;
+      interval = λ w asks.
+          listed.interval ∙ same.interval ∙ c.in-Ok-open.ensures.script.interval ∙ c.interval_of.ensures
+          ∙ sym (ap interval_in (c.in-Some.ensures.only w asks));
       whole = record {
         kept = c.journal.ensures.kept;
         full = full_as _ _ _ _ (sym listed.lines)
@@ -28,12 +33,17 @@ returns-clause-run g c =
       };
     }
 
--- the run that the words ask for is the only one
+-- the words ask for one run
 pub returns-clause-printed : goal.returns-clause-printed
-returns-clause-printed g c a says =
-    subst (λ (x : Asked). HasPrinted g.Sh.B.Backend.tells x (g.K.Sink.held c.args.sink.now) (g.K.Sink.held c.print_all-status.new.sink)
-    c.print_all-status.result.0 c.print_all-status.result.1 c.print_all-status.new.core) (sym (c.in-Some.ensures.only a says))
-    c.print_all-status.ensures.printed
+returns-clause-printed g c w asks =
+    let only = c.in-Some.ensures.only w asks in
+    let quiet : c.is_quiet.result ≡ quiet_in w = c.is_quiet.ensures ∙ sym (ap quiet_in only) in
+    let dump : c.has_dump.result ≡ dump_in w = c.has_dump.ensures ∙ sym (ap dump_in only) in
+    subst (λ (q : Bool). HasPrinted g.Sh.B.Backend.tells q (dump_in w) (g.K.Sink.held c.args.sink.now)
+    (g.K.Sink.held c.print_all-status.new.sink) c.print_all-status.result.0 c.print_all-status.result.1 c.print_all-status.new.core) quiet
+    (subst (λ (d : Bool). HasPrinted g.Sh.B.Backend.tells c.is_quiet.result d (g.K.Sink.held c.args.sink.now)
+    (g.K.Sink.held c.print_all-status.new.sink) c.print_all-status.result.0 c.print_all-status.result.1 c.print_all-status.new.core) dump
+    c.print_all-status.ensures.printed)
 
 pub returns-clause-status : goal.returns-clause-status
 returns-clause-status g c =

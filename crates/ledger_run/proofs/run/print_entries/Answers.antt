@@ -1,6 +1,6 @@
-use Rattle.std.proofs.Common.{◌<◌, ◌≤◌, length, ◌∙◌, ap, arith, subst, List, ℕ}
+use Rattle.std.proofs.Common.{◌<◌, ◌≤◌, length, ◌∙◌, ap, arith, subst}
 use Rattle.run_io.specs.Bytes.{Wrote, WrotePart}
-use Rattle.run_io.proofs.Bytes.{wrote_nothing, wrote_part, wrote_more}
+use Rattle.run_io.proofs.Bytes.{wrote_part, wrote_more}
 use Rattle.ledger_run.proofs.Printing.{printed_with, printed_more, printed_all, not_quiet, same_item, on_err}
 use Rattle.ledger_run.proofs.run.print_entries.Goals as goal
 

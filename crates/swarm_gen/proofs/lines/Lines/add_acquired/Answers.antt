@@ -9,7 +9,8 @@ returns-clause-lines c =
     let many : c.len-count.result ≡ length c.args.state_nodes.items = omega (arith, c.len-count.ensures, c.args.state_nodes.ok.0) in
     acquired_as c.args.plan.now (ledger_from c.args.head c.args.state_nodes.items c.args.tx_nodes.items) c.args.waits
     c.acquirer-actor.result c.len-count.result
-    c.acquirer-actor.ensures many c.in_ok-add_opening.ensures c.in_ok-add_nodes.ensures c.in_ok-say.ensures c.in_ok-add_nodes-2.ensures
+    c.acquirer-actor.ensures.acquirer many c.in_ok-add_opening.ensures c.in_ok-add_nodes.ensures c.in_ok-say.ensures
+    c.in_ok-add_nodes-2.ensures
     c.in_ok-last.ensures.line
 
 -- the final check is the last of the ledger's lines, so its number is how many lines stand there with it
@@ -18,5 +19,6 @@ returns-clause-number c =
     let many : c.len-count.result ≡ length c.args.state_nodes.items = omega (arith, c.len-count.ensures, c.args.state_nodes.ok.0) in
     acquired_last c.args.plan.now (ledger_from c.args.head c.args.state_nodes.items c.args.tx_nodes.items) c.args.waits
     c.acquirer-actor.result c.len-count.result c.in_ok-last.last
-    c.acquirer-actor.ensures many c.in_ok-add_opening.ensures c.in_ok-add_nodes.ensures c.in_ok-say.ensures c.in_ok-add_nodes-2.ensures
+    c.acquirer-actor.ensures.acquirer many c.in_ok-add_opening.ensures c.in_ok-add_nodes.ensures c.in_ok-say.ensures
+    c.in_ok-add_nodes-2.ensures
     c.in_ok-last.ensures.line c.in_ok-last.ensures.number

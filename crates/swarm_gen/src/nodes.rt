@@ -1,0 +1,208 @@
+//! The nodes of a map of links, with the hashes of their links from a list that has them by their places.
+ghost use Rattle.std.specs.Prelude.{◌≡◌, ◌<◌, List, map, length, Some, IfOk};
+ghost use Rattle.std.specs.List.{slice_get};
+ghost use Rattle.ledger_spec.specs.declared.Kind.{Kind as KindOf};
+ghost use Rattle.ledger_spec.specs.Bytes.{Half, same_bytes};
+ghost use Rattle.ledger_spec.specs.Forms.{form_of, leaf_form as form_of_leaf};
+ghost use Rattle.ledger_spec.specs.Forms as held;
+ghost use Rattle.ledger_spec.specs.Wire.{wire_of};
+ghost use Rattle.cow_map.specs.Bodies.{Body};
+ghost use Rattle.swarm_gen.specs.Tracking.{place_of, link_hash, node_at, kid_at, AreHashes};
+
+use cow_map::{Cow, CowMap, Link, Links};
+use half_hash::{Blob, Hash32, Memory, Prefix};
+use node_wire::encode_wire;
+use shamap_node::{Inner, Item, Kind, Node};
+use std::alloc::Global;
+
+/// The type byte of an account state's wire form.
+const STATE_TYPE: u8 = 1;
+
+/// The type byte of a compressed inner node's wire form.
+const CHUNKS_TYPE: u8 = 3;
+
+/// The type byte of a transaction's wire form.
+const TX_TYPE: u8 = 4;
+
+/// The type byte of a bare transaction's wire form.
+const SET_TYPE: u8 = 0;
+
+/// The place in the list of nodes to which a link leads.
+pub(crate) fn place(link: &Link) -> Option<usize>
+    ensures { result ≡ place_of link.now }
+{
+    match link {
+        Link::Own(at) => Some(*at),
+        _ => None,
+    }
+}
+
+/// Where a branch of the node at a place leads.
+pub(crate) fn kid(map: &CowMap, at: usize, b: u8) -> Option<usize>
+    requires { b < 16 }
+    ensures { result ≡ kid_at map.now.nodes at b }
+{
+    match map.node(at) {
+        Some(Cow::Inner(links)) => place(&links.get(b)),
+        _ => None,
+    }
+}
+
+/// The hash of the node at a place. One that isn't known is answered as want of memory; nodes are hashed
+/// before they are asked for.
+pub(crate) fn known(hashes: &[Option<Hash32>], at: usize) -> Result<Hash32, Memory>
+    ensures { IfOk result (λ h. slice_get hashes.now at ≡ Some (Some h)) }
+{
+    match hashes.get(at) {
+        Some(Some(hash)) => Ok(*hash),
+        _ => Err(Memory),
+    }
+}
+
+/// The hash that a link stands for.
+fn hash_in(hashes: &[Option<Hash32>], link: &Link) -> Result<Hash32, Memory>
+    ensures { IfOk result (λ h. (half : Half) (kind : KindOf) (nodes : List Body) →
+        AreHashes half kind nodes hashes.now → h ≡ link_hash half kind nodes link.now) }
+{
+    match link {
+        Link::Empty => Ok(Hash32::zero()),
+        Link::Unloaded(hash) => Ok(*hash),
+        Link::Own(at) => Ok(known(hashes, *at)?),
+    }
+}
+
+/// The hashes of an inner node's links.
+fn hashes_below(
+    alloc: Global,
+    hashes: &[Option<Hash32>],
+    links: &Links,
+) -> Result<Vec<Hash32>, Memory>
+    requires { length links.now ≡ 16 }
+    ensures hashes { IfOk result (λ below. (half : Half) (kind : KindOf) (nodes : List Body) →
+        AreHashes half kind nodes hashes.now → below.items ≡ map (link_hash half kind nodes) links.now) }
+    ensures count { IfOk result (λ below. length below.items ≡ 16) }
+{
+    let mut below = Vec::new(alloc);
+    for b in 0..16u8 {
+        below.push(hash_in(hashes, &links.get(b))?)?;
+    }
+    Ok(below)
+}
+
+/// The form of an inner node.
+fn inner_form(alloc: Global, below: &[Hash32]) -> Result<Blob, Memory>
+    ensures { IfOk result (λ form. form ≡ form_of (held.inner below.now)) }
+{
+    let mut bytes = Vec::from_slice(alloc, &Prefix::Min.bytes())?;
+    for hash in below {
+        bytes.extend_from_slice(&hash.bytes)?;
+    }
+    Ok(Blob::new(bytes))
+}
+
+/// The form of a leaf.
+fn leaf_form(alloc: Global, kind: Kind, item: &Item) -> Result<Blob, Memory>
+    ensures { IfOk result (λ form. form ≡ form_of_leaf kind item.now.key item.now.value) }
+{
+    let mut bytes = Vec::from_slice(alloc, &kind.prefix().bytes())?;
+    bytes.extend_from_slice(item.data())?;
+    match kind {
+        Kind::Set => Ok(Blob::new(bytes)),
+        _ => {
+            bytes.extend_from_slice(&item.key().bytes)?;
+            Ok(Blob::new(bytes))
+        }
+    }
+}
+
+/// The form of the node at a place; where there is none, that of a header without bytes.
+pub(crate) fn form(
+    alloc: Global,
+    map: &CowMap,
+    hashes: &[Option<Hash32>],
+    at: usize,
+) -> Result<Blob, Memory>
+    ensures { IfOk result (λ form. (half : Half) → AreHashes half map.now.kind map.now.nodes hashes.now →
+        form ≡ form_of (node_at half map.now.kind map.now.nodes at)) }
+{
+    map.known();
+    match map.node(at) {
+        Some(Cow::Inner(links)) => {
+            let below = hashes_below(alloc, hashes, links)?;
+            Ok(inner_form(alloc, &below)?)
+        }
+        Some(Cow::Leaf(item)) => Ok(leaf_form(alloc, map.kind(), item)?),
+        None => Ok(Blob::from_slice(alloc, &Prefix::Lwr.bytes())?),
+    }
+}
+
+/// The wire form that is written of an inner node.
+fn inner_wire(alloc: Global, below: &[Hash32]) -> Result<Blob, Memory>
+    requires { length below.now ≡ 16 }
+    ensures { IfOk result (λ blob. blob ≡ wire_of (held.inner below.now)) }
+{
+    let mut hashes = [Hash32::zero(); 16];
+    hashes.copy_from_slice(below);
+    match Inner::new(hashes) {
+        Some(inner) => Ok(encode_wire(alloc, &Node::Inner(inner))?),
+        // where all hashes are zero there is no chunk
+        None => Ok(Blob::from_slice(alloc, &[CHUNKS_TYPE])?),
+    }
+}
+
+/// The wire form of a leaf.
+fn leaf_wire(alloc: Global, kind: Kind, item: &Item) -> Result<Blob, Memory>
+    ensures { IfOk result (λ blob. blob ≡ wire_of (held.leaf kind item.now.key item.now.value)) }
+{
+    let mut bytes = Vec::from_slice(alloc, item.data())?;
+    match kind {
+        Kind::Set => bytes.push(SET_TYPE)?,
+        Kind::State => {
+            bytes.extend_from_slice(&item.key().bytes)?;
+            bytes.push(STATE_TYPE)?;
+        }
+        Kind::Tx => {
+            bytes.extend_from_slice(&item.key().bytes)?;
+            bytes.push(TX_TYPE)?;
+        }
+    }
+    Ok(Blob::new(bytes))
+}
+
+/// The wire form that is written of the node at a place; where there is none, no bytes.
+pub(crate) fn wire(
+    alloc: Global,
+    map: &CowMap,
+    hashes: &[Option<Hash32>],
+    at: usize,
+) -> Result<Blob, Memory>
+    ensures { IfOk result (λ blob. (half : Half) → AreHashes half map.now.kind map.now.nodes hashes.now →
+        blob ≡ wire_of (node_at half map.now.kind map.now.nodes at)) }
+{
+    map.known();
+    match map.node(at) {
+        Some(Cow::Inner(links)) => {
+            let below = hashes_below(alloc, hashes, links)?;
+            Ok(inner_wire(alloc, &below)?)
+        }
+        Some(Cow::Leaf(item)) => Ok(leaf_wire(alloc, map.kind(), item)?),
+        None => Ok(Blob::new(Vec::new(alloc))),
+    }
+}
+
+/// Whether the nodes at two places have one form.
+pub(crate) fn have_one_form(
+    alloc: Global,
+    map: &CowMap,
+    hashes: &[Option<Hash32>],
+    at: usize,
+    other: usize,
+) -> Result<bool, Memory>
+    ensures { IfOk result (λ same. (half : Half) → AreHashes half map.now.kind map.now.nodes hashes.now →
+        same ≡ same_bytes (form_of (node_at half map.now.kind map.now.nodes at))
+        (form_of (node_at half map.now.kind map.now.nodes other))) }
+{
+    let own = form(alloc, map, hashes, at)?;
+    let others = form(alloc, map, hashes, other)?;
+    Ok(own.bytes() == others.bytes())
+}
