@@ -1,12 +1,12 @@
 //! An acquisition.
-ghost use Rattle.std.specs.Prelude.{◌≡◌, ◌<◌, IsTrue, IfOk, IfErr, OnErr};
+ghost use Rattle.std.specs.Prelude.{◌≡◌, ◌<◌, IsTrue, IfOk, IfErr, OnErr, Ok};
 ghost use Rattle.std.specs.Option.{option_copied};
 ghost use Rattle.run_io.specs.Bytes.{Rose};
 ghost use Rattle.ledger_spec.specs.Bytes.{is_nonzero};
 ghost use Rattle.ledger_spec.specs.Own.{AreStored};
 ghost use Rattle.ledger_spec.specs.Peers.{added, after_adding, ticked, after_tick, most_ticks};
 ghost use Rattle.ledger_spec.specs.Acquiring.{acquiring, after_verdict};
-ghost use Rattle.own_forms.specs.Reading.{IsLater};
+ghost use Rattle.own_forms.specs.Reading.{IsLater, IsReadable};
 ghost use Rattle.acquire_core.specs.Answers.{forms_in, Answers};
 ghost use Rattle.acquire_core.specs.Replies.{peer_reply, tick_reply, found_verdict, check_reply};
 ghost use Rattle.acquire_core.specs.Replies.{base_reply, base_stores, TakesBase, AreWanted, node_reply, node_stores, TakesNode, IsWanted};
@@ -93,6 +93,10 @@ impl Acquire {
         // a header and roots that have the wanted hashes charge nobody
         ensures wanted { IsTrue Sh.B.tells → AreStored H.half (forms_in store.old) → AreWanted H.half (forms_in store.old) self.old.target
             header.now (option_copied state.entry) (option_copied tx.entry) → self.new ≡ self.old }
+
+        // an absent peer's reply isn't looked at
+        ensures unasked { result ≡ Ok BaseReply.Unasked → store.new ≡ store.old }
+        ensures notes { IsReadable Sh.B.tells H.half store.old → IsReadable Sh.B.tells H.half store.new }
         ensures later { IsLater store.old store.new }
         ensures fault { IfErr result (λ e. e ≡ OfferFault.Fault → Rose store.old.faults store.new.faults) }
     {
@@ -126,6 +130,10 @@ impl Acquire {
         // a node that has the wanted hash charges nobody
         ensures wanted { IsTrue Sh.B.tells → AreStored H.half (forms_in store.old)
             → IsWanted H.half (forms_in store.old) self.old.target kind id.now blob.now → self.new ≡ self.old }
+
+        // an absent peer's node isn't looked at
+        ensures unasked { result ≡ Ok NodeReply.Unasked → store.new ≡ store.old }
+        ensures notes { IsReadable Sh.B.tells H.half store.old → IsReadable Sh.B.tells H.half store.new }
         ensures later { IsLater store.old store.new }
         ensures fault { IfErr result (λ e. e ≡ OfferFault.Fault → Rose store.old.faults store.new.faults) }
     {

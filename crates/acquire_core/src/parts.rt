@@ -7,7 +7,7 @@ ghost use Rattle.ledger_spec.specs.Own.{AreStored};
 ghost use Rattle.ledger_spec.specs.Wire.{read_wire};
 ghost use Rattle.ledger_spec.specs.Offers.{head_outcome, head_forms, node_outcome, stored_by};
 ghost use Rattle.ledger_spec.specs.Bases.{root_outcome, root_forms, base_outcome, base_forms};
-ghost use Rattle.own_forms.specs.Reading.{IsLater};
+ghost use Rattle.own_forms.specs.Reading.{IsLater, IsReadable};
 ghost use Rattle.acquire_core.specs.Answers.{forms_in, Answers};
 ghost use Rattle.acquire_core.specs.Parts.{judged};
 
@@ -41,6 +41,7 @@ pub(crate) fn take_parts<H: NodeHash, Sh: Shelf>(
         (base_outcome H.half (forms_in store.old) target.now header.now (option_copied state.entry) (option_copied tx.entry))
         (base_forms H.half (forms_in store.old) target.now header.now (option_copied state.entry) (option_copied tx.entry))
         store.old (judged result) store.new }
+    ensures notes { IsReadable Sh.B.tells H.half store.old → IsReadable Sh.B.tells H.half store.new }
     ensures later { IsLater store.old store.new }
     ensures fault { IfErr result (λ e. e ≡ OfferFault.Fault → Rose store.old.faults store.new.faults) }
 {
@@ -61,6 +62,7 @@ fn take_header<H: NodeHash, Sh: Shelf>(
     ensures answer { IsTrue Sh.B.tells → Answers H.half (head_outcome H.half (forms_in store.old) target.now header.now)
         (head_forms (head_outcome H.half (forms_in store.old) target.now header.now) header.now) store.old result store.new }
     ensures kept { IsTrue Sh.B.tells → AreStored H.half (forms_in store.old) → OnOk result (AreStored H.half (forms_in store.new)) }
+    ensures notes { IsReadable Sh.B.tells H.half store.old → IsReadable Sh.B.tells H.half store.new }
     ensures later { IsLater store.old store.new }
     ensures fault { IfErr result (λ e. e ≡ OfferFault.Fault → Rose store.old.faults store.new.faults) }
 {
@@ -79,6 +81,7 @@ fn take_root<H: NodeHash, Sh: Shelf>(
         (root_outcome H.half (forms_in store.old) target.now kind (option_copied blob.entry))
         (root_forms H.half (forms_in store.old) target.now kind (option_copied blob.entry)) store.old result store.new }
     ensures kept { IsTrue Sh.B.tells → AreStored H.half (forms_in store.old) → OnOk result (AreStored H.half (forms_in store.new)) }
+    ensures notes { IsReadable Sh.B.tells H.half store.old → IsReadable Sh.B.tells H.half store.new }
     ensures later { IsLater store.old store.new }
     ensures fault { IfErr result (λ e. e ≡ OfferFault.Fault → Rose store.old.faults store.new.faults) }
 {
@@ -103,6 +106,7 @@ pub(crate) fn take_node<H: NodeHash, Sh: Shelf>(
         (stored_by (read_wire H.half blob.now) (node_outcome H.half (forms_in store.old) target.now kind id.now blob.now))
         store.old result store.new }
     ensures kept { IsTrue Sh.B.tells → AreStored H.half (forms_in store.old) → OnOk result (AreStored H.half (forms_in store.new)) }
+    ensures notes { IsReadable Sh.B.tells H.half store.old → IsReadable Sh.B.tells H.half store.new }
     ensures later { IsLater store.old store.new }
     ensures fault { IfErr result (λ e. e ≡ OfferFault.Fault → Rose store.old.faults store.new.faults) }
 {

@@ -14,7 +14,7 @@ use Rattle.ledger_run.specs.declared.status.TheConstants.{FINE, REFUSED, SINK_FA
 use Rattle.run_words.specs.declared.words.Words.{Words}
 use Rattle.run_words.specs.declared.words.Words.TheVariants.{Replay, Swarm}
 use Rattle.ledger_run.specs.Asking.{Asks, IsRead, IsRefusedAt, IsScriptOf}
-use Rattle.ledger_run.specs.Top.{IsOneOf, IsRefusal}
+use Rattle.ledger_run.specs.Top.{IsOneOf, IsScriptRefusal}
 
 script_stands : (half : Half) (bytes : Bytes) (records : List Record) (lines : List Line) (n cause : ℕ) → IsScript half bytes records lines
     → IsRefused half bytes n cause → ⊥
@@ -33,12 +33,13 @@ not_refused half (Replay interval quiet dump) (Some bytes) records lines P scrip
 pub run_refusal : (half : Half) (words : List (Bor (List ℕ))) (status : ℕ) (left rest held now : Option Bytes) (before after : ℕ)
     (core : CoreView) → ((w : Words) → Asks words w → IsScriptOf half w left core.records core.lines)
     → IsOneOf status (FINE ∷ SINK_FAILED ∷ STORE_FAILED ∷ CLASHED ∷ NO_MEMORY ∷ [])
-    → IsRefusal half words status left rest held now before after (Some core)
+    → IsScriptRefusal half words status left rest held now before after (Some core)
 run_refusal half words status left rest held now before after core script one = record {
   read = λ w asks e. absurd (other e);
   refused = λ e. absurd (other e);
   exact = λ w asks read. not_refused half w left core.records core.lines _ (script w asks) read;
   never_run = λ w asks read. not_refused half w left core.records core.lines _ (script w asks) read;
+  line = λ e. absurd (other e);
   printed = λ e. absurd (other e);
   taken = λ e. absurd (other e);
 }

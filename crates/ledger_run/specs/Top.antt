@@ -1,5 +1,5 @@
 -- What the top call says.
-use Rattle.std.specs.Prelude.{◌≡◌, ◌≢◌, ◌⊎◌, ◌↔◌, ◌<◌, ◌-◌, ◌^◌, ℕ, Bool, IsTrue, IsSome, List, [], ◌∷◌, ◌++◌, Option, take}
+use Rattle.std.specs.Prelude.{◌≡◌, ◌≢◌, ◌⊎◌, ◌↔◌, ◌<◌, ◌≤◌, ◌-◌, ◌^◌, ℕ, Bool, IsTrue, IsSome, List, [], ◌∷◌, ◌++◌, Option, take}
 use Rattle.std.specs.Prelude.{true, ◌==◌, IfSome, IsNone}
 use Rattle.std.specs.Borrow.{Bor}
 use Rattle.std.specs.List.{list_any}
@@ -132,7 +132,7 @@ pub record IsUsage (words : List (Bor (List ℕ))) (status : ℕ) (held now : Op
   pub unread : status ≡ USAGE → Unread
 
 -- A refused script.
-pub record IsRefusal (half : Half) (words : List (Bor (List ℕ))) (status : ℕ) (left rest held now : Option Bytes) (before after : ℕ)
+pub record IsScriptRefusal (half : Half) (words : List (Bor (List ℕ))) (status : ℕ) (left rest held now : Option Bytes) (before after : ℕ)
     (core : Option CoreView) : Type 0 where
   -- only where a script is read, and its bytes are refused
   pub read : (w : Words) → Asks words w → status ≡ REFUSED → IsRead w
@@ -142,7 +142,9 @@ pub record IsRefusal (half : Half) (words : List (Bor (List ℕ))) (status : ℕ
       → IfSome left (λ bytes. IsRefusedAt half bytes → IsOneOf status (REFUSED ∷ SOURCE_FAILED ∷ NO_MEMORY ∷ []))
   -- and are never run
   pub never_run : (w : Words) → Asks words w → IsRead w → IfSome left (λ bytes. IsRefusedAt half bytes → IsNone core)
-  -- the line and the cause are written, or a front of that where the sink failed
+  -- a line and a cause are written, or a front of that where the sink failed
+  pub line : status ≡ REFUSED → (line : ℕ) × (cause : ℕ) × WroteOrFailed held now before after (refused_text line cause)
+  -- they are those of the bytes
   pub printed : status ≡ REFUSED → IfSome left (λ bytes. NamesLine half bytes held now before after)
   -- the source was read to its end, or to the byte after the last that a script may have
   pub taken : status ≡ REFUSED → Took left rest most_read
@@ -161,6 +163,8 @@ pub record HasCause (status : ℕ) (left rest : Option Bytes) (read read' wrote 
   pub unwritten : status ≡ SOURCE_FAILED → Unwritten
   -- nor where memory was wanted before the run
   pub silent : IsNone core → status ≡ NO_MEMORY → Unwritten
+  -- the counts never fall
+  pub later : (read ≤ read') × (wrote ≤ wrote')
   -- a front of the input is gone, and no more than is read at most
   pub taken : TookPart left rest most_read
 

@@ -7,6 +7,8 @@ mod dump;
 #[cfg(test)]
 mod rows;
 mod run;
+#[cfg(test)]
+mod scripts;
 mod status;
 #[cfg(test)]
 mod tests;

@@ -11,7 +11,7 @@ ghost use Rattle.ledger_run.specs.Asking.{Asks, quiet_in, dump_in};
 ghost use Rattle.ledger_run.specs.Top.{IsOneOf, WroteOrFailed, text_of, IsRunOfInput, HasPrinted, HasDumped};
 ghost use Rattle.ledger_run.specs.Top.{HasStatus, HasSaid, PrintsMore, IsCalm, EndsWell};
 ghost use Rattle.store_core.specs.Dumping.{Lists};
-ghost use Rattle.ledger_run.specs.Top.{IsUsage, IsRefusal, HasCause, HasNotOpened};
+ghost use Rattle.ledger_run.specs.Top.{IsUsage, IsScriptRefusal, HasCause, HasNotOpened};
 
 use crate::asking::{asked_for, has_dump, interval_of, is_quiet, script_for};
 pub use crate::dump::DumpEnd;
@@ -122,6 +122,7 @@ fn print_all<H: NodeHash, Sh: Shelf, K: Sink>(
     ensures lists { Lists Sh.B.tells core.old core.new }
     ensures printed { HasPrinted Sh.B.tells quiet asked (K.held sink.old) (K.held sink.new) result.0 result.1 core.new }
     ensures said { HasSaid result.0 core.new (K.faults sink.old) (K.faults sink.new) }
+    ensures later { K.faults sink.old ≤ K.faults sink.new }
 {
     match print(alloc, core, sink, quiet) {
         Ok(()) => print_dump(alloc, core, sink, asked),
@@ -142,6 +143,7 @@ fn print_dump<H: NodeHash, Sh: Shelf, K: Sink>(
     ensures printed { PrintsMore Sh.B.tells core.old.state.nodes (K.held sink.old) (K.held sink.new) result.0 result.1 }
     ensures dumped { HasDumped asked result.0 result.1 core.new }
     ensures said { HasSaid result.0 core.new (K.faults sink.old) (K.faults sink.new) }
+    ensures later { K.faults sink.old ≤ K.faults sink.new }
 {
     if !asked {
         return (own_status(core), DumpEnd::NotAsked);
@@ -237,6 +239,7 @@ fn wanted_memory(entry: &Entry) -> bool
 fn refuse<K: Sink>(alloc: Global, line: u32, cause: u8, sink: &mut K) -> u8
     ensures status { IsOneOf result (REFUSED ∷ NO_MEMORY ∷ []) }
     ensures silent { result ≡ NO_MEMORY → sink.new ≡ sink.old }
+    ensures later { K.faults sink.old ≤ K.faults sink.new }
     ensures text { result ≡ REFUSED
         → WroteOrFailed (K.held sink.old) (K.held sink.new) (K.faults sink.old) (K.faults sink.new) (refused_text line cause) }
 {
@@ -311,8 +314,8 @@ pub fn ledger_run<R: Threads + Wait + Sync, H: NodeHash, S: Source, K: Sink, Sh:
         → EndsWell H.half Sh.B.tells words.now (S.left source.old) result.status }
     ensures usage { IsUsage words.now result.status (K.held sink.old) (K.held sink.new) (K.faults sink.old) (K.faults sink.new)
         (source.new ≡ source.old) }
-    ensures refusal { IsRefusal H.half words.now result.status (S.left source.old) (S.left source.new) (K.held sink.old) (K.held sink.new)
-        (K.faults sink.old) (K.faults sink.new) result.core }
+    ensures refusal { IsScriptRefusal H.half words.now result.status (S.left source.old) (S.left source.new)
+        (K.held sink.old) (K.held sink.new) (K.faults sink.old) (K.faults sink.new) result.core }
     ensures cause { HasCause result.status (S.left source.old) (S.left source.new) (S.faults source.old) (S.faults source.new)
         (K.faults sink.old) (K.faults sink.new) result.core (sink.new ≡ sink.old) }
     ensures opening { HasNotOpened result.status result.core result.unopened

@@ -1,9 +1,12 @@
 use crate::run::ledger_run;
 use actor_pool::OpenGate;
-use half_hash::TinyHash;
+use half_hash::{NodeHash, TinyHash};
 use node_backend::MemShelf;
 use run_io::{MemSink, MemSource};
+use std::alloc::Global;
+use std::sync::Wait;
 use std::test::Fail;
+use std::thread::Threads;
 
 /// The words, a script, the read, the write and the shelf's call that fail (0 for none), and what must
 /// come of it.
@@ -88,6 +91,19 @@ const UNENDED: &str = "0 want 11111111111111111111111111111111111111111111111111
 
 const ZERO: &str = "0 want 0000000000000000000000000000000000000000000000000000000000000000 1\n";
 
+/// The status of a run over devices in memory.
+pub(crate) fn status_of_run<R: Threads + Wait + Sync, H: NodeHash>(
+    rt: &R,
+    alloc: Global,
+    words: &[&str],
+    hash: H,
+    source: &mut MemSource,
+    sink: &mut MemSink,
+    shelf: MemShelf,
+) -> u8 {
+    ledger_run(rt, alloc, words, hash, source, sink, shelf, &OpenGate).status
+}
+
 #[test]
 fn scripts_and_their_ends(rt: HostRuntime) -> Result<(), Fail> {
     let alloc = rt.alloc();
@@ -96,17 +112,8 @@ fn scripts_and_their_ends(rt: HostRuntime) -> Result<(), Fail> {
         let mut source = MemSource::new(bytes, 7, vec![in alloc; *failing_read]?);
         let mut sink = MemSink::new(alloc, 4096, vec![in alloc; *failing_write]?)?;
         let shelf = MemShelf::new(alloc, Vec::new(alloc), vec![in alloc; *failing_call]?);
-        let ended = ledger_run(
-            &rt,
-            alloc,
-            words,
-            TinyHash,
-            &mut source,
-            &mut sink,
-            shelf,
-            &OpenGate,
-        );
-        assert_eq!(rt; ended.status, *status);
+        let ended = status_of_run(&rt, alloc, words, TinyHash, &mut source, &mut sink, shelf);
+        assert_eq!(rt; ended, *status);
         assert_eq!(rt; sink.held(), printed.as_bytes());
     }
     Ok(())

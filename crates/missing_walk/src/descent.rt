@@ -72,18 +72,15 @@ fn walk_branches<H: NodeHash, Sh: Shelf>(
     ensures fault { IfErr result (λ e. e ≡ BackFault.Fault → Rose store.old.faults store.new.faults) }
 {
     for b in 0..16u8 {
+        let hash = inner.branch(b);
+        // most branches of most nodes are empty: a call for each would cost more than the walk
+        if hash.is_zero() {
+            continue;
+        }
         let Some(below) = id.child(b) else {
             unreachable!();
         };
-        walk::<H, Sh>(
-            alloc,
-            store,
-            kind,
-            Some(inner),
-            &below,
-            &inner.branch(b),
-            found,
-        )?;
+        walk::<H, Sh>(alloc, store, kind, Some(inner), &below, &hash, found)?;
     }
     Ok(())
 }

@@ -49,11 +49,14 @@ pub record Ends (t : Turning) (b : Retention) (s : Store) (answer : ℕ) (t' : T
   pub epoch : s'.epoch ≡ answer
   pub notes : s'.noted ≡ []
 
--- the rotation is under way as before, in the same epoch
+-- The rotation is under way as before, in the same epoch. A backend that was made ready for the next swap still is, and none is where
+-- none was; no backend was discarded, so what is counted of such ones is as before.
 pub record GoesOn (t : Turning) (b : Retention) (s : Store) (t' : Turning) (b' : Retention) (s' : Store) : Type 0 where
   pub rotator : t' ≡ t
   pub book : b' ≡ b
   pub epoch : s'.epoch ≡ s.epoch
+  pub ready : s'.ready ≡ s.ready
+  pub past : (s'.past_faults ≡ s.past_faults) × (s'.past_gets ≡ s.past_gets)
   pub notes : s'.noted ≡ s.noted
 
 -- what `finish` leaves of the rotator, of the book, and of the store's epoch and notes

@@ -25,6 +25,7 @@ pub(crate) fn copy_reached<Sh: Shelf>(
     ensures all { IsTrue Sh.B.tells → OnOk result (HasReached shaded.now.keys store.new) }
     ensures rest { SameRest store.old store.new }
     ensures later { store.old.faults ≤ store.new.faults }
+    ensures gets { store.old.gets ≤ store.new.gets }
     ensures cause { (result ≡ Err StoreFault.Fault → Rose store.old.faults store.new.faults) × IfErr result IsPlain }
 {
     let shaded = listed(alloc, shaded)?;
@@ -50,6 +51,7 @@ fn copy_one<Sh: Shelf>(
     ensures kids { IsTrue Sh.B.tells → IfOk result (λ kids. kids.items ≡ kids_at (finite.get (nodes_of store.old) h.now)) }
     ensures rest { SameRest store.old store.new }
     ensures later { store.old.faults ≤ store.new.faults }
+    ensures gets { store.old.gets ≤ store.new.gets }
     ensures cause { (result ≡ Err StoreFault.Fault → Rose store.old.faults store.new.faults) × IfErr result IsPlain }
 {
     store.forward(alloc, h)?;

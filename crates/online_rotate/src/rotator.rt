@@ -5,7 +5,7 @@ ghost use Rattle.run_io.specs.Bytes.{Rose};
 ghost use Rattle.rotating_store.specs.Puts.{IsPlain};
 ghost use Rattle.ledger_spec.specs.Retaining.{due};
 ghost use Rattle.online_rotate.specs.Queues.{Inserts};
-ghost use Rattle.online_rotate.specs.Copying.{IsFit, CopiesSome, Rotated, AfterRotation, AfterFit, RefusedBy};
+ghost use Rattle.online_rotate.specs.Copying.{IsFit, CopiesSome, SameRest, Rotated, AfterRotation, AfterFit, RefusedBy};
 
 use crate::copy::copy_reached;
 use half_hash::{Hash32, Memory};
@@ -140,6 +140,7 @@ impl Rotator {
         ensures nodes { IsTrue Sh.B.tells → AfterRotation self.old.shaded store.old result store.new }
         ensures fit { IsTrue Sh.B.tells → IsFit self.old.shaded store.old → AfterFit self.old.shaded store.old result store.new }
         ensures later { store.old.faults ≤ store.new.faults }
+        ensures gets { store.old.gets ≤ store.new.gets }
         ensures cause { IfErr result (λ e. RefusedBy store.old e store.new) }
     {
         rotate(alloc, store, &self.shaded)?;
@@ -174,8 +175,9 @@ fn rotate<Sh: Shelf>(
     ensures rotated { IsTrue Sh.B.tells → OnOk result (Rotated shaded.now.keys store.old store.new) }
     ensures some { IsTrue Sh.B.tells → OnErr result (CopiesSome shaded.now.keys store.old store.new) }
     ensures ok { OnOk result ((store.new.epoch ≡ store.old.epoch + 1) × (store.new.noted ≡ [])) }
-    ensures err { OnErr result ((store.new.epoch ≡ store.old.epoch) × (store.new.noted ≡ store.old.noted)) }
+    ensures err { OnErr result (SameRest store.old store.new) }
     ensures later { store.old.faults ≤ store.new.faults }
+    ensures gets { store.old.gets ≤ store.new.gets }
     ensures cause { (result ≡ Err StoreFault.Fault → Rose store.old.faults store.new.faults) × IfErr result IsPlain }
 {
     copy_reached(alloc, store, shaded)?;

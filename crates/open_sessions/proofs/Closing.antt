@@ -1,24 +1,23 @@
 -- What a draft closes into is what the machine's session does, and of its forms only those that were made here have to be put.
-use Rattle.std.proofs.Common.{◌≡◌, ◌⊎◌, inl, inr, ⊎_elim, ℕ, ◌+◌, ◌++◌, Bool, true, false, is_some}
+use Rattle.std.proofs.Common.{◌≡◌, inl, inr, ⊎_elim, ℕ, ◌+◌, Bool, is_some}
 use Rattle.std.proofs.Common.{if◌then◌else◌, List, [], ◌∷◌, Option, None, Some}
-use Rattle.std.proofs.Common.{refl, sym, ap, ◌∙◌, subst}
+use Rattle.std.proofs.Common.{sym, ap, ◌∙◌}
 use Rattle.std.specs.Option.{option_or, unwrap_or}
 use Rattle.std.specs.FinMap as finite
 use Rattle.std.specs.FinSet as set
 use Rattle.ledger_spec.specs.declared.Kind.TheVariants as kinds
-use Rattle.ledger_spec.specs.Bytes.{Bytes, Hash, Half, Lookup, Items, same_bytes}
-use Rattle.ledger_spec.specs.Header.{header_bytes, seq_of, close_of}
-use Rattle.ledger_spec.specs.Offers.{Clash}
-use Rattle.ledger_spec.specs.Tree.{root_of, forms_of}
+use Rattle.ledger_spec.specs.Bytes.{Bytes, Half, Lookup}
+use Rattle.ledger_spec.specs.Header.{header_bytes}
+use Rattle.ledger_spec.specs.Tree.{root_of}
 use Rattle.ledger_spec.proofs.Owning.{same_self}
 use Rattle.ledger_spec.proofs.ReachLaws.{Grows}
 use Rattle.ledger_laws.proofs.SoundForms.{with_form_grows}
-use Rattle.ledger_header.specs.Fields.{fields, Reads}
+use Rattle.ledger_header.specs.Fields.{fields}
 use Rattle.cow_map.specs.Seals.{Picks}
 use Rattle.edit_session.specs.declared.close.Fields.{Fields}
 use Rattle.edit_session.specs.Drafts.{Draft}
 use Rattle.edit_session.specs.Closing as draft
-use Rattle.ledger_machine.specs.State.{State, Session, form_in, with_form, with_forms}
+use Rattle.ledger_machine.specs.State.{State, form_in, with_form, with_forms}
 use Rattle.ledger_machine.specs.Scripts.{drops_in, close_in, resolution_in, flags_in}
 use Rattle.ledger_machine.specs.Closing.{closing_header, new_header, closing_forms, clash_under, first_clash}
 use Rattle.open_sessions.specs.Edited.{IsKept, items_in, session_in}

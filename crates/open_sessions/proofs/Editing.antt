@@ -1,7 +1,6 @@
 -- What drafts stand for is determined, and stays as the store grows.
 use Rattle.std.proofs.Common.{◌≡◌, ℕ, zero, suc, List, [], ◌∷◌, ◌++◌, Option, None, Some, refl, sym, ap, ◌∙◌, subst}
-use Rattle.std.specs.List.{All, AllByRecursion, flat_map, slice_index_or}
-use Rattle.std.specs.Map.{values_of}
+use Rattle.std.specs.List.{slice_index_or}
 use Rattle.ledger_spec.specs.declared.Kind.{Kind}
 use Rattle.ledger_spec.specs.Bytes.{Bytes, Hash, Half, Lookup, Items, branches}
 use Rattle.ledger_spec.specs.Header.{header_bytes}

@@ -3,3 +3,4 @@ pub mod Tables
 pub mod Rows
 pub mod Opening
 pub mod Closing
+pub mod Stopping

@@ -1,15 +1,14 @@
 -- A session that is opened over a whole ledger is kept, and is the machine's.
-use Rattle.std.proofs.Common.{◌≡◌, ℕ, [], Option, None, Some, refl, sym, ap, ◌∙◌, subst}
+use Rattle.std.proofs.Common.{◌≡◌, [], Option, Some, sym, ap, ◌∙◌, subst}
 use Rattle.std.specs.Option.{option_map_or}
 use Rattle.ledger_spec.specs.declared.Kind.TheVariants as kinds
-use Rattle.ledger_spec.specs.Bytes.{Bytes, Hash, Half, Lookup, Items, zero_hash}
-use Rattle.ledger_spec.specs.Commits.{IsWholeMap}
+use Rattle.ledger_spec.specs.Bytes.{Bytes, Half, Lookup, Items, zero_hash}
 use Rattle.ledger_spec.specs.Findings.{items_of}
 use Rattle.ledger_spec.specs.Header.{header_bytes}
 use Rattle.ledger_spec.specs.Spots.{header_in, header_root}
 use Rattle.ledger_header.specs.Fields.{fields, Reads}
 use Rattle.edit_session.specs.Drafts.{Draft, Edits, LeavesToParent}
-use Rattle.ledger_machine.specs.State.{State, Session, form_in}
+use Rattle.ledger_machine.specs.State.{State, form_in}
 use Rattle.ledger_machine.specs.Sessions.{session_on}
 use Rattle.open_sessions.specs.Edited.{IsKept, items_in, session_in}
 use Rattle.open_sessions.proofs.Editing.{edited}

@@ -1,12 +1,10 @@
 -- What open sessions edit, by what the store holds.
-use Rattle.std.specs.Prelude.{◌≡◌, ℕ, zero, suc, List, [], ◌∷◌, ◌++◌, map, Some, IsTrue, Bool}
-use Rattle.std.specs.List.{All, flat_map, slice_index_or}
-use Rattle.std.specs.Map.{values_of}
+use Rattle.std.specs.Prelude.{◌≡◌, ℕ, zero, suc, List, [], ◌∷◌, ◌++◌, map, Some}
+use Rattle.std.specs.List.{flat_map, slice_index_or}
 use Rattle.ledger_spec.specs.declared.Kind.{Kind}
 use Rattle.ledger_spec.specs.Maps.{ForActor}
 use Rattle.ledger_spec.specs.Bytes.{Half, Lookup, Items, branches}
 use Rattle.ledger_spec.specs.Header.{header_bytes}
-use Rattle.ledger_spec.specs.Own.{AreStored}
 use Rattle.ledger_spec.specs.Spots.{header_in}
 use Rattle.ledger_header.specs.Fields.{fields, Reads}
 use Rattle.cow_map.specs.declared.link.Link.{Link}

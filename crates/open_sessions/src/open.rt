@@ -9,7 +9,9 @@ ghost use Rattle.ledger_spec.specs.Maps.{numbered_cmp, get_in, has_in, insert_in
 ghost use Rattle.run_io.specs.Bytes.{Rose};
 ghost use Rattle.rotating_store.specs.Stores.{nodes_of};
 ghost use Rattle.rotating_store.specs.Sources.{own_nodes};
-ghost use Rattle.edit_session.specs.Changes.{ChangesState, ChangesTxs, SetsAccount, RemovesAccount, SetsTx};
+ghost use Rattle.cow_map.specs.Ways.{stop_of, removal_stop_of};
+ghost use Rattle.edit_session.specs.Changes.{ChangesState, ChangesTxs, SetsAccount, RemovesAccount, SetsTx, GoesBy};
+ghost use Rattle.edit_session.specs.Drafts.{Draft};
 ghost use Rattle.open_sessions.specs.Changed.{Changed, WasAsked};
 
 use cow_map::MapFault;
@@ -115,6 +117,11 @@ impl Open {
         ensures changed { IfOk result (Changed (λ d d'. ChangesState 65 d d' × (IsTrue Sh.B.tells
             → SetsAccount H.half (finite.get (own_nodes H.half (nodes_of store.old))) d d' item.now.key item.now.value))
             self.old self.new id) }
+
+        // what stops it is what stops the open session's map
+        ensures way { IsTrue Sh.B.tells → (d : Draft) → get_in numbered_cmp self.old id ≡ Some d
+            → let stored = finite.get (own_nodes H.half (nodes_of store.old)) in
+            GoesBy H.half stored d (stop_of H.half stored d.state item.now.key) result }
         ensures err { OnErr result (self.new ≡ self.old) }
         ensures asked { WasAsked Sh.B.tells H.half store.old store.new }
         ensures fault { IfErr result (λ e. e ≡ MapFault.Fault → Rose store.old.faults store.new.faults) }
@@ -138,6 +145,11 @@ impl Open {
         ensures changed { IfOk result (λ there. Changed (λ d d'. ChangesState 64 d d' × (IsTrue Sh.B.tells
             → RemovesAccount H.half (finite.get (own_nodes H.half (nodes_of store.old))) d d' key.now (unwrap_or there false)))
             self.old self.new id (is_some there)) }
+
+        // what stops it is what stops the open session's map
+        ensures way { IsTrue Sh.B.tells → (d : Draft) → get_in numbered_cmp self.old id ≡ Some d
+            → let stored = finite.get (own_nodes H.half (nodes_of store.old)) in
+            GoesBy H.half stored d (removal_stop_of H.half stored d.state key.now) result }
         ensures err { OnErr result (self.new ≡ self.old) }
         ensures asked { WasAsked Sh.B.tells H.half store.old store.new }
         ensures fault { IfErr result (λ e. e ≡ MapFault.Fault → Rose store.old.faults store.new.faults) }

@@ -1,20 +1,19 @@
 -- What a rotator's begin is to the machine's row.
 use Rattle.std.proofs.Common.{◌∷◌, suc, cond, nat_le, length, arith}
 use Rattle.std.specs.List.{filter}
-use Rattle.std.proofs.Common.{◌≡◌, ◌⊎◌, inl, inr, ⊎_elim, ◌≤◌, ◌++◌, ℕ, Bool, true, false, is_some, IsTrue, IsSomeAnd, List, [], Option}
+use Rattle.std.proofs.Common.{◌≡◌, inl, inr, ⊎_elim, ◌≤◌, ◌++◌, ℕ, Bool, true, false, is_some, IsTrue, List, [], Option}
 use Rattle.std.proofs.Common.{None, Some}
-use Rattle.std.proofs.Common.{Contains, Result, Ok, Err, OnErr, IfOk, refl, sym, ap, ◌∙◌, subst}
+use Rattle.std.proofs.Common.{Contains, refl, sym, ap, ◌∙◌, subst}
 use Rattle.std.specs.Map.{keys_of, values_of}
 use Rattle.std.proofs.lemmas.Bool.{false≢true}
 use Rattle.ledger_spec.specs.Bytes.{Hash}
-use Rattle.ledger_spec.specs.Maps.{ForHash, ForActor, hash_cmp, get_in, has_in}
+use Rattle.ledger_spec.specs.Maps.{ForHash, ForActor, hash_cmp, has_in}
 use Rattle.ledger_spec.specs.Acquiring.{Acquiring}
-use Rattle.ledger_spec.specs.Retaining.{Retention, due, after_begin as begun_book, floor_behind, listed_from}
+use Rattle.ledger_spec.specs.Retaining.{Retention, due, floor_behind, listed_from}
 use Rattle.rotating_store.specs.Stores.{Store}
 use Rattle.online_rotate.specs.declared.rotator.Begun.{Begun}
 use Rattle.online_rotate.specs.declared.rotator.Begun.TheVariants as begun
 use Rattle.online_rotate.specs.Rotators.{Turning, InStep, begun_by, AfterBegin}
-use Rattle.ledger_machine.specs.declared.replies.BeginReply.{BeginReply}
 use Rattle.ledger_machine.specs.State.{State}
 use Rattle.ledger_machine.specs.Rotation.{begin_given, begin_reply, after_begin}
 use Rattle.ledger_machine.specs.Steps.{IsAfter}

@@ -1,7 +1,7 @@
 -- The machine's steps beside the open sessions.
-use Rattle.std.proofs.Common.{◌≡◌, ℕ, Bool, true, false, IsTrue, List, [], ◌∷◌, ◌++◌, ◌||◌, map, Option, None, Some, refl, sym, ap, ◌∙◌}
+use Rattle.std.proofs.Common.{◌≡◌, ℕ, Bool, true, false, IsTrue, List, [], ◌∷◌, ◌++◌, ◌||◌, map, refl, sym, ap, ◌∙◌}
 use Rattle.std.proofs.Common.{subst}
-use Rattle.std.proofs.Common.{Result, Ok, Err, IfOk, ⊎_elim}
+use Rattle.std.proofs.Common.{Result, Ok, Err, IfOk}
 use Rattle.std.specs.Result.{OnErr}
 use Rattle.half_hash.specs.declared.bytes.Memory.{Memory}
 use Rattle.std.specs.List.{All, list_any}
@@ -9,40 +9,20 @@ use Rattle.std.specs.Map.{keys_of, values_of}
 use Rattle.std.proofs.lemmas.List.Folds.{list_any-append}
 use Rattle.std.proofs.lemmas.List.{append-nil}
 use Rattle.std.proofs.lemmas.Bool.{false≢true}
-use Rattle.ledger_spec.specs.Bytes.{Bytes, Hash, Half, Lookup, same_bytes}
+use Rattle.ledger_spec.specs.Bytes.{Hash, Half, Lookup, same_bytes}
 use Rattle.ledger_spec.specs.Maps.{ForActor, numbered_cmp, has_in, remove_in}
 use Rattle.ledger_spec.specs.Forms.{Held}
 use Rattle.ledger_spec.specs.Own.{AreStored}
 use Rattle.ledger_spec.proofs.ReachLaws.{Grows}
 use Rattle.edit_session.specs.Drafts.{Draft, StaysOverParent}
 use Rattle.ledger_machine.specs.declared.commands.Command.{Command}
-use Rattle.ledger_machine.specs.declared.commands.Command.TheVariants as command
 use Rattle.ledger_machine.specs.declared.replies.Reply.{Reply}
 use Rattle.ledger_machine.specs.declared.replies.ViewReply.{ViewReply}
 use Rattle.ledger_machine.specs.declared.replies.ViewReply.TheVariants as view
-use Rattle.ledger_machine.specs.State.{State, Session, form_in, with_sessions, with_forms, stored_seq}
+use Rattle.ledger_machine.specs.State.{State, Session, form_in, with_sessions}
 use Rattle.ledger_machine.specs.Scripts.{IsBeside}
-use Rattle.ledger_machine.specs.Views.{is_retained, after_view, after_unview}
-use Rattle.ledger_machine.specs.Want.{want_reply, after_want}
-use Rattle.ledger_machine.specs.Peer.{after_peer}
-use Rattle.ledger_machine.specs.Check.{check_reply, after_check}
-use Rattle.ledger_machine.specs.Base.{after_base, after_node, node_forms}
-use Rattle.ledger_machine.specs.Ticks.{tick_reply, after_tick}
-use Rattle.ledger_machine.specs.Reading.{view_root}
-use Rattle.ledger_machine.specs.Steps.{IsAfter, Answered, Gets, Pages}
+use Rattle.ledger_machine.specs.Views.{is_retained, after_view}
 use Rattle.ledger_machine.specs.Steps.{Does}
-use Rattle.ledger_machine.specs.declared.replies.WantReply.{WantReply}
-use Rattle.ledger_machine.specs.declared.replies.WantReply.TheVariants as want
-use Rattle.ledger_machine.specs.declared.replies.CheckReply.{CheckReply}
-use Rattle.ledger_machine.specs.declared.replies.CheckReply.TheVariants as check
-use Rattle.ledger_machine.specs.declared.replies.TickReply.{TickReply}
-use Rattle.ledger_machine.specs.declared.replies.TickReply.TheVariants as tick
-use Rattle.ledger_machine.specs.declared.replies.BaseReply.TheVariants as base
-use Rattle.ledger_machine.specs.declared.replies.NodeReply.TheVariants as node
-use Rattle.ledger_machine.specs.declared.replies.Reply.TheVariants as says
-use Rattle.ledger_spec.specs.declared.Kind.{Kind}
-use Rattle.ledger_spec.specs.Bases.{base_forms}
-use Rattle.ledger_laws.proofs.SoundForms.{grows_on, with_forms_grow}
 use Rattle.ledger_laws.proofs.Stored.{beside_grows}
 use Rattle.open_sessions.specs.Edited.{IsKept, session_in, sessions_in}
 use Rattle.open_sessions.specs.Rows.{AllKept}

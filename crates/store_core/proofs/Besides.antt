@@ -1,5 +1,5 @@
 -- What the machine tells a rotation, beside the open sessions.
-use Rattle.std.proofs.Common.{◌≡◌, ◌⊎◌, inl, inr, ⊎_elim, ℕ, Bool, true, false, IsTrue, List, [], Contains, Result, Ok, Err, IfOk, OnErr}
+use Rattle.std.proofs.Common.{◌≡◌, inl, inr, ⊎_elim, ℕ, Bool, true, false, IsTrue, List, [], Contains, Result, Ok, Err, IfOk, OnErr}
 use Rattle.std.proofs.Common.{refl, sym, ap, ◌∙◌, subst}
 use Rattle.half_hash.specs.declared.bytes.Memory.{Memory}
 use Rattle.node_backend.specs.declared.back.BackFault.{BackFault}

@@ -27,7 +27,6 @@ use Rattle.store_core.specs.Telling.{AreTold}
 use Rattle.ledger_laws.proofs.Openings.{records_are_sound}
 use Rattle.ledger_laws.proofs.Sweeping.{all_swaps_keep}
 use Rattle.ledger_machine.specs.Swaps.{AllSwapsKeep}
-use Rattle.ledger_machine.specs.declared.commands.Command.TheVariants as command
 use Rattle.ledger_laws.proofs.RunLaws.{run_more}
 use Rattle.ledger_machine.specs.Runs.{IsDone, is_answered, next_line}
 use Rattle.run_io.specs.Bytes.{Rose}
@@ -38,7 +37,6 @@ use Rattle.ledger_machine.specs.declared.commands.Line.{Line}
 use Rattle.ledger_machine.specs.declared.commands.Record.{Record}
 use Rattle.ledger_machine.specs.Records.{AreRecords}
 use Rattle.ledger_machine.specs.declared.journal.Entry.{Entry}
-use Rattle.ledger_machine.specs.declared.commands.Command.{Command}
 use Rattle.ledger_machine.specs.declared.replies.Reply.{Reply}
 use Rattle.store_core.proofs.Counting.{total-le, total-lt, part, parts_total, none_past}
 

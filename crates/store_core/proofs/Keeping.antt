@@ -6,7 +6,7 @@ use Rattle.std.specs.FinSet as set
 use Rattle.std.specs.Cmp.Lexicographic.{same_text}
 use Rattle.node_offer.specs.declared.fault.OfferFault.{OfferFault}
 use Rattle.node_offer.specs.declared.fault.OfferFault.TheVariants as offer
-use Rattle.ledger_spec.specs.Bytes.{Bytes, Half, Lookup, Nodes, same_bytes}
+use Rattle.ledger_spec.specs.Bytes.{Bytes, Half, Nodes, same_bytes}
 use Rattle.ledger_spec.proofs.Owning.{same_self}
 use Rattle.ledger_machine.specs.Closing.{clash_under}
 use Rattle.ledger_machine.specs.State.{State, form_in, with_form}

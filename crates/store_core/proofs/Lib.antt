@@ -28,3 +28,4 @@ pub mod Retold
 pub mod Beginning
 pub mod Rotations
 pub mod Besides
+pub mod Refusing

@@ -1,5 +1,5 @@
 -- What an acquisition takes of a peer is what the machine does.
-use Rattle.std.proofs.Common.{◌≡◌, ℕ, List, [], Option, None, Some, Bool, true, false, if◌then◌else◌, Result, Ok, Err, Contains, IsTrue}
+use Rattle.std.proofs.Common.{◌≡◌, ℕ, List, [], Option, Some, Bool, true, false, if◌then◌else◌, Result, Ok, Err, Contains, IsTrue}
 use Rattle.std.proofs.Common.{refl, sym, ap, ◌∙◌, subst}
 use Rattle.std.proofs.lemmas.List.Elements.{Contains-append_left}
 use Rattle.std.specs.FinMap as map

@@ -1,8 +1,8 @@
 -- What a close leaves: the row of a ledger that is stored and listed, and of one that isn't.
-use Rattle.std.proofs.Common.{◌≡◌, ◌≤◌, ◌⊎◌, inl, inr, ⊎_elim, ℕ, suc, length, arith, ◌++◌, nat_lt, Bool, true, false, IsTrue, IsSome}
-use Rattle.std.proofs.Common.{List, [], ◌∷◌, map, if◌then◌else◌, Contains, Option, None, Some, Result, Ok, Err, OnOk}
+use Rattle.std.proofs.Common.{◌≡◌, ◌≤◌, inl, inr, ⊎_elim, ℕ, suc, length, arith, ◌++◌, nat_lt, Bool, true, false, IsTrue, IsSome}
+use Rattle.std.proofs.Common.{List, [], ◌∷◌, map, if◌then◌else◌, Contains, Option, None, Result, Ok, Err, OnOk}
 use Rattle.std.proofs.Common.{refl, sym, ap, ◌∙◌, subst}
-use Rattle.std.specs.List.{All, find}
+use Rattle.std.specs.List.{find}
 use Rattle.std.specs.Option.{option_or}
 use Rattle.std.proofs.lemmas.Bool.{false≢true}
 use Rattle.std.proofs.lemmas.List.{append-nil}
@@ -14,7 +14,7 @@ use Rattle.ledger_spec.specs.Forms.{header_prefix}
 use Rattle.ledger_spec.specs.Header.{seq_of}
 use Rattle.ledger_spec.specs.Tree.{forms_of}
 use Rattle.ledger_spec.specs.declared.Kind.TheVariants as kinds
-use Rattle.ledger_spec.specs.Maps.{ForActor, hash_cmp, numbered_cmp, get_in, has_in, remove_in}
+use Rattle.ledger_spec.specs.Maps.{ForActor, hash_cmp, numbered_cmp, has_in, remove_in}
 use Rattle.ledger_spec.proofs.ReachLaws.{Grows}
 use Rattle.ledger_spec.proofs.Storing.{in_nothing, in_one}
 use Rattle.edit_session.specs.declared.close.Closed.{Closed}
@@ -42,7 +42,7 @@ use Rattle.store_core.specs.Refusals.{refusal_of}
 use Rattle.store_core.specs.Telling.{Hears, TellsRoot}
 use Rattle.store_core.proofs.Listing.{insert_few}
 use Rattle.store_core.proofs.Benches.{all_grow, sessions_stay, ended_state, ended_keeps, keeps_same}
-use Rattle.store_core.proofs.States.{same_shaded, after_on, form_after}
+use Rattle.store_core.proofs.States.{after_on, form_after}
 
 -- forms that are given with their own hashes have these
 named_hashes : (half : Half) (items : List FormOf) → AreNamed half items → map (λ f. f.hash) items ≡ map half (map (λ f. f.form) items)

@@ -1,5 +1,5 @@
 -- What a section leaves that tells the rotation first, and then changes the tables.
-use Rattle.std.proofs.Common.{◌≡◌, ◌⊎◌, inl, inr, ⊎_elim, ℕ, List, ◌∷◌, [], Contains, IsSome, is_some, Option, None, Some, Result, Ok, Err}
+use Rattle.std.proofs.Common.{◌≡◌, ◌⊎◌, inl, inr, ⊎_elim, ℕ, List, ◌∷◌, [], Contains, IsSome, Option, None, Some, Result, Ok, Err}
 use Rattle.std.proofs.Common.{OnOk, OnErr, Ordering, Less, Equal, Greater, refl, sym, ap, ◌∙◌, subst}
 use Rattle.std.specs.Map.{keys_of}
 use Rattle.std.specs.Ordering.{match_ordering}

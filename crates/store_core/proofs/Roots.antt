@@ -1,5 +1,5 @@
 -- Each root stays one that was told to the rotation under way, as commands change what is listed, viewed, edited and wanted.
-use Rattle.std.proofs.Common.{◌≡◌, ⊎_elim, ◌⊎◌, inl, inr, ℕ, ◌==◌, nat_le, Bool, true, false, not, if◌then◌else◌, List, [], ◌∷◌, ◌++◌, map}
+use Rattle.std.proofs.Common.{◌≡◌, ⊎_elim, ℕ, ◌==◌, nat_le, Bool, true, false, not, if◌then◌else◌, List, [], ◌∷◌, ◌++◌, map}
 use Rattle.std.proofs.Common.{cond, Option, None, Some, Contains, is_some, IsSome, IfSome, length, refl, sym, ap, ◌∙◌, subst}
 use Rattle.std.specs.Option.{option_map_or}
 use Rattle.std.specs.FinMap as finite
@@ -14,7 +14,7 @@ use Rattle.std.proofs.lemmas.List.Elements.{Contains-append_left, Contains-appen
 use Rattle.ledger_spec.specs.Bytes.{Bytes, Hash, Half}
 use Rattle.ledger_spec.specs.declared.Kind.{Kind}
 use Rattle.ledger_spec.specs.Forms.{Held}
-use Rattle.ledger_spec.specs.Maps.{ForHash, ForActor, hash_cmp, numbered_cmp, get_in, has_in, set_in, insert_in, remove_in}
+use Rattle.ledger_spec.specs.Maps.{ForHash, hash_cmp, numbered_cmp, get_in, has_in, set_in, insert_in, remove_in}
 use Rattle.ledger_spec.specs.Acquiring.{Acquiring, acquiring}
 use Rattle.ledger_machine.specs.declared.commands.Command.{Command}
 use Rattle.ledger_machine.specs.declared.commands.Command.TheVariants as command
@@ -34,7 +34,6 @@ use Rattle.ledger_machine.specs.declared.replies.CloseReply.TheVariants as close
 use Rattle.ledger_machine.specs.declared.replies.Reply.{Reply}
 use Rattle.ledger_machine.specs.declared.replies.Reply.TheVariants as says
 use Rattle.ledger_machine.specs.State.{State, Session, form_in, retained, roots, bases, with_form, with_forms, with_wanted, stored_seq}
-use Rattle.ledger_machine.specs.State.{changed}
 use Rattle.ledger_machine.specs.Want.{want_reply, after_want}
 use Rattle.ledger_machine.specs.Peer.{after_peer}
 use Rattle.ledger_machine.specs.Check.{check_reply, check_given, after_check}

@@ -1,5 +1,5 @@
 -- The commands that begin and end a rotation, beside the open sessions.
-use Rattle.std.proofs.Common.{◌≡◌, ◌⊎◌, inl, inr, ⊎_elim, ◌≤◌, ◌+◌, ℕ, Bool, true, false, cond, nat_le, is_some, IsTrue, IsSome}
+use Rattle.std.proofs.Common.{◌≡◌, inl, inr, ⊎_elim, ◌≤◌, ◌+◌, ℕ, Bool, true, false, cond, nat_le, is_some, IsTrue, IsSome}
 use Rattle.std.proofs.Common.{IsSomeAnd, IfSome}
 use Rattle.std.proofs.Common.{List, [], ◌∷◌, ◌++◌, map, Option, None, Some, Contains, refl, sym, ap, ◌∙◌, subst, leb-true}
 use Rattle.std.specs.Option.{option_and_then}
@@ -20,10 +20,10 @@ use Rattle.ledger_spec.specs.Forms.{header_of}
 use Rattle.ledger_spec.specs.Header.{header_bytes}
 use Rattle.ledger_spec.specs.Maps.{ForHash, ForActor, hash_cmp, get_in, IsMap}
 use Rattle.ledger_spec.specs.Own.{AreStored}
-use Rattle.ledger_spec.specs.Reach.{Reach, root, kid, Stored}
-use Rattle.ledger_spec.specs.Retaining.{due_at, floor_behind, listed_from}
-use Rattle.ledger_spec.specs.Spots.{header_in, header_root}
-use Rattle.ledger_spec.proofs.ReachLaws.{Grows, reach_joins}
+use Rattle.ledger_spec.specs.Reach.{Reach, root, Stored}
+use Rattle.ledger_spec.specs.Retaining.{floor_behind, listed_from}
+use Rattle.ledger_spec.specs.Spots.{header_root}
+use Rattle.ledger_spec.proofs.ReachLaws.{reach_joins}
 use Rattle.ledger_spec.proofs.Storing.{in_one}
 use Rattle.ledger_header.specs.Fields.{fields}
 use Rattle.edit_session.specs.Drafts.{Draft, Edits, StaysOverParent}
@@ -37,7 +37,7 @@ use Rattle.ledger_machine.specs.declared.replies.SwapReply.{SwapReply}
 use Rattle.ledger_machine.specs.declared.replies.SwapReply.TheVariants as swaps
 use Rattle.ledger_machine.specs.declared.replies.Reply.{Reply}
 use Rattle.ledger_machine.specs.declared.replies.Reply.TheVariants as says
-use Rattle.ledger_machine.specs.State.{State, Session, form_in, retained, roots, bases, due, Kept, with_sessions}
+use Rattle.ledger_machine.specs.State.{State, Session, form_in, roots, bases, due, with_sessions}
 use Rattle.ledger_machine.specs.Rotation.{begin_given, begin_reply, after_begin, ShadesRoots, Begins, Swapped, WhileTurning}
 use Rattle.ledger_machine.specs.Rotation.{AreShaded}
 use Rattle.ledger_machine.specs.Rotation.{Tells}
@@ -49,7 +49,7 @@ use Rattle.open_sessions.specs.Edited.{IsKept, session_in, sessions_in, items_in
 use Rattle.open_sessions.specs.Rows.{AllKept}
 use Rattle.open_sessions.proofs.Editing.{edited}
 use Rattle.open_sessions.proofs.Tables.{over_same, over_values}
-use Rattle.store_core.specs.Benches.{told_forms, with_open, KeepsDrafts}
+use Rattle.store_core.specs.Benches.{told_forms, with_open}
 use Rattle.store_core.specs.Refusals.{read_refusal}
 use Rattle.store_core.specs.Telling.{AreTold, Carried, BeginsBy, SwapsTold, AfterSwap}
 use Rattle.store_core.proofs.States.{same_shaded, refused_nothing}

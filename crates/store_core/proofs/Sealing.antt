@@ -1,5 +1,5 @@
 -- What an open session closes into is what the machine's row says of it.
-use Rattle.std.proofs.Common.{◌≡◌, ⊎_elim, ℕ, zero, suc, ◌+◌, ◌==◌, ◌++◌, nat_lt, Bool, false, List, [], ◌∷◌, length, map}
+use Rattle.std.proofs.Common.{◌≡◌, ⊎_elim, ℕ, ◌+◌, ◌==◌, ◌++◌, nat_lt, Bool, false, List, [], ◌∷◌, length, map}
 use Rattle.std.proofs.Common.{Contains, IsTrue, Option, None, Some, Ok, Err, refl, sym, ap, ◌∙◌, subst, if◌then◌else◌, ◌≢◌}
 use Rattle.std.proofs.Common.{◌<◌, ◌≤◌, true, arith}
 use Rattle.std.specs.List.{find}

@@ -1,9 +1,8 @@
 -- What the machine keeps of its book, its rotator and its store, as these change.
-use Rattle.std.proofs.Common.{◌≡◌, ◌≢◌, ◌⊎◌, inl, inr, ⊎_elim, ◌+◌, ℕ, Bool, true, false, not, ◌&&◌, if◌then◌else◌, IsTrue, IsSome, is_some}
-use Rattle.std.proofs.Common.{List, [], ◌∷◌, Option, None, Some, Contains, Result, Ok, Err, OnOk, OnErr, IfOk, IfErr, length, ◌≤◌, refl}
+use Rattle.std.proofs.Common.{◌≡◌, ◌≢◌, ◌⊎◌, inl, inr, ⊎_elim, ℕ, Bool, true, false, not, ◌&&◌, if◌then◌else◌, IsTrue, IsSome, is_some}
+use Rattle.std.proofs.Common.{List, [], ◌∷◌, Option, None, Some, Contains, Result, Ok, Err, OnErr, IfOk, IfErr, length, ◌≤◌, refl}
 use Rattle.std.proofs.Common.{sym, ap, ◌∙◌, subst, arith}
 use Rattle.std.specs.Option.{option_or}
-use Rattle.std.specs.Result.{IsOk}
 use Rattle.std.specs.FinMap as finite
 use Rattle.std.specs.FinSet as set
 use Rattle.std.specs.FinSet.{contains-difference, contains-empty, same_set}
@@ -12,9 +11,9 @@ use Rattle.std.specs.Ordering.{eq_by_cmp}
 use Rattle.std.specs.Cmp.Lexicographic.{nat_list_cmp_total}
 use Rattle.std.proofs.lemmas.Bool.{false≢true}
 use Rattle.ledger_spec.specs.Bytes.{Bytes, Hash, Half, Lookup, Nodes}
-use Rattle.ledger_spec.specs.Maps.{SetOf, ForHash, ForActor, hashes_in, hash_cmp}
-use Rattle.ledger_spec.specs.Reach.{Reach, root, kid, Stored}
-use Rattle.ledger_spec.specs.Retaining.{Retention, none_retained, due, after_listing, after_begin, after_finish}
+use Rattle.ledger_spec.specs.Maps.{ForHash, ForActor, hashes_in, hash_cmp}
+use Rattle.ledger_spec.specs.Reach.{Reach, root, kid}
+use Rattle.ledger_spec.specs.Retaining.{Retention, none_retained, due, after_listing, after_finish}
 use Rattle.ledger_spec.specs.Acquiring.{Acquiring}
 use Rattle.ledger_spec.proofs.ReachLaws.{Grows}
 use Rattle.ledger_spec.proofs.Storing.{in_one}
@@ -34,7 +33,7 @@ use Rattle.own_forms.specs.Reading.{WasRead}
 use Rattle.online_rotate.specs.declared.rotator.Begun.{Begun}
 use Rattle.online_rotate.specs.declared.rotator.Begun.TheVariants as begun
 use Rattle.online_rotate.specs.Copying.{IsFit, CopiesSome, Rotated, OnlyReachedOrBorn, AfterRotation, AfterFit, RefusedBy}
-use Rattle.online_rotate.specs.Rotators.{Turning, InStep, begun_by, AfterBegin, Begins, Shades, Ends, GoesOn, AfterFinish}
+use Rattle.online_rotate.specs.Rotators.{Turning, InStep, begun_by, AfterBegin, Shades, Ends, GoesOn, AfterFinish}
 use Rattle.ledger_laws.proofs.SoundForms.{new_or_old, get_more, same_hash, in_nothing, in_head}
 use Rattle.ledger_machine.specs.State.{State, form_in, opening}
 use Rattle.ledger_machine.specs.Rotation.{Tells}

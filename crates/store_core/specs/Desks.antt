@@ -51,6 +51,10 @@ pub record Grows (d d' : Desk) : Type 0 where
   pub few : length d'.state.listed ≤ suc (length d.state.listed)
   pub ages : d'.state.epoch ≤ suc d.state.epoch
 
+-- but for what is stored, and for what a rotation was told, the state is as before
+abbrev pub KeepsRest : State → State → Type 0
+KeepsRest s s' = s' ≡ record s { nodes = s'.nodes; born = s'.born; shaded = s'.shaded }
+
 -- one that only reads: the state is as before, but that a store that doesn't tell what it holds may hold anything
 pub record OnlyReads (told : Bool) (d d' : Desk) : Type 0 where
   pub state : IsTrue told → d'.state ≡ d.state

@@ -20,6 +20,8 @@ use Rattle.ledger_machine.specs.Collisions.{brought_by, ShowsIn}
 use Rattle.ledger_machine.specs.Swaps.{AllSwapsKeep}
 use Rattle.run_io.specs.Bytes.{Rose}
 use Rattle.script_form.specs.Servable.{AreServable}
+use Rattle.store_core.specs.Desks.{KeepsRest}
+use Rattle.store_core.specs.Refusals.{IsRefusal}
 use Rattle.store_core.specs.Telling.{AreTold}
 
 -- what contracts see of a core: its script's records and lines, the interval, the store's count of faults at opening and now, how many
@@ -96,6 +98,8 @@ pub record Advances (half : Half) (told : Bool) (old : CoreView) (a : ℕ) (new 
   -- the count of faults, and the cause of a `fault`
   pub later : old.faults ≤ new.faults
   pub cause : entry.reply ≡ says.Fault → Rose old.faults new.faults
+  -- a refusal leaves all that isn't stored as it was, whether the store tells what it holds or not
+  pub refused : IsRefusal entry.reply → KeepsRest old.state new.state
   -- where the store tells what it holds, the state is what a step of that line leaves
   pub step : IsTrue told → Answers half old.lines old.state entry new.state
 

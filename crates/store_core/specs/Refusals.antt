@@ -8,6 +8,14 @@ use Rattle.missing_walk.specs.declared.fault.SearchFault.TheVariants as search
 use Rattle.ledger_machine.specs.declared.replies.Reply.{Reply}
 use Rattle.ledger_machine.specs.declared.replies.Reply.TheVariants as says
 
+-- the replies of a refusal
+abbrev pub IsRefusal : Reply → Type 0
+IsRefusal says.Fault = Unit {0}
+IsRefusal says.Memory = Unit {0}
+IsRefusal (says.Clash h old new) = Unit {0}
+IsRefusal (says.ZeroHash form) = Unit {0}
+IsRefusal _ = ⊥
+
 -- the reply of a fault
 abbrev pub refusal_of : OfferFault → Reply
 refusal_of fault.Fault = says.Fault

@@ -1,5 +1,5 @@
 -- What the machine keeps of a rotation, and what its commands tell one.
-use Rattle.std.specs.Prelude.{◌≡◌, ◌≢◌, ◌⊎◌, ◌↔◌, ◌+◌, ◌≤◌, ◌++◌, Bool, false, IsTrue, IsSome, IsSomeAnd, IfSome, List, [], Option, None}
+use Rattle.std.specs.Prelude.{◌≡◌, ◌≢◌, ◌⊎◌, ◌↔◌, ◌+◌, ◌≤◌, ◌++◌, Bool, false, IsTrue, IsSome, IsSomeAnd, IfSome, List, [], None}
 use Rattle.std.specs.Prelude.{Some, Result, Ok, Err, ℕ}
 use Rattle.std.specs.List.{Contains}
 use Rattle.std.specs.Map.{keys_of, values_of}

@@ -16,7 +16,8 @@ ghost use Rattle.ledger_machine.specs.Ticks.{tick_reply, after_tick};
 ghost use Rattle.ledger_machine.specs.Rotation.{Tells};
 ghost use Rattle.ledger_machine.specs.Steps.{IsAfter};
 ghost use Rattle.ledger_machine.specs.Steps.{Does};
-ghost use Rattle.store_core.specs.Desks.{IsFiled, Stays, Grows};
+ghost use Rattle.store_core.specs.Desks.{IsFiled, Stays, Grows, KeepsRest};
+ghost use Rattle.store_core.specs.Refusals.{IsRefusal};
 ghost use Rattle.store_core.specs.Telling.{Hears, TellsRoot};
 ghost use Rattle.store_core.specs.Wanting.{judged_by, found_seq as seq_found, settled, told_at};
 
@@ -126,6 +127,7 @@ impl<H: NodeHash, Sh: Shelf> Machine<H, Sh> {
         requires offered { AreOffered target.now header.now state.now tx.now }
         ensures does { IsTrue Sh.B.tells → (actor : ℕ)
             → Does H.half self.old.state actor (Command.Base peer target.now header.now state.now tx.now) result [] self.new.state }
+        ensures refused { IsRefusal result → KeepsRest self.old.state self.new.state }
         ensures stays { Stays self.old self.new }
         ensures told { self.new.state.shaded ≡ self.old.state.shaded }
         ensures fault { result ≡ Reply.Fault → Rose self.old.faults self.new.faults }
@@ -153,6 +155,7 @@ impl<H: NodeHash, Sh: Shelf> Machine<H, Sh> {
         requires bytes { AreBytes blob.now }
         ensures does { IsTrue Sh.B.tells → (actor : ℕ)
             → Does H.half self.old.state actor (Command.Node peer target.now kind id.now blob.now) result [] self.new.state }
+        ensures refused { IsRefusal result → KeepsRest self.old.state self.new.state }
         ensures stays { Stays self.old self.new }
         ensures told { self.new.state.shaded ≡ self.old.state.shaded }
         ensures fault { result ≡ Reply.Fault → Rose self.old.faults self.new.faults }
@@ -177,6 +180,7 @@ impl<H: NodeHash, Sh: Shelf> Machine<H, Sh> {
             → IfOk result (λ r. IsAfter (after_check self.old.state target.now (stored_seq self.old.state target.now) r) self.new.state) }
         ensures err { IsTrue Sh.B.tells → OnErr result (IsAfter self.old.state self.new.state) }
         ensures tells { Tells self.old.state self.new.state [] }
+        ensures kept { OnErr result (KeepsRest self.old.state self.new.state) }
         ensures grows { Grows self.old self.new }
         ensures fault { IfErr result (λ e. e ≡ SearchFault.Fault → Rose self.old.faults self.new.faults) }
     {

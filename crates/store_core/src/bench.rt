@@ -12,8 +12,9 @@ ghost use Rattle.ledger_machine.specs.Steps.{Step, own_hashes};
 ghost use Rattle.ledger_machine.specs.Steps.{Does};
 ghost use Rattle.ledger_machine.specs.Views.{is_retained as state_retains, view_reply, after_view};
 ghost use Rattle.store_core.specs.Benches.{IsOfSessions};
-ghost use Rattle.store_core.specs.Desks.{IsFiled, Stays, Grows, OnlyReads, over};
+ghost use Rattle.store_core.specs.Desks.{IsFiled, Stays, Grows, KeepsRest, OnlyReads, over};
 ghost use Rattle.store_core.specs.Dumping.{IsNextRecord, Follows};
+ghost use Rattle.store_core.specs.Refusals.{IsRefusal};
 ghost use Rattle.store_core.specs.Telling.{TellsRoot, AreTold, Carried};
 
 use crate::machine::{Machine, unread};
@@ -129,6 +130,7 @@ impl<H: NodeHash, Sh: Shelf> Bench<H, Sh> {
         ensures step { IsTrue Sh.B.tells
             → Step H.half self.old.state actor command.now result.0 (map (λ a. held a.value) result.1.items) self.new.state }
         ensures told { IsTrue Sh.B.tells → AreTold self.new.state }
+        ensures refused { IsRefusal result.0 → KeepsRest self.old.state self.new.state }
         ensures grows { Grows self.old self.new }
         ensures fault { result.0 ≡ Reply.Fault → Rose self.old.faults self.new.faults }
     {
@@ -146,6 +148,7 @@ impl<H: NodeHash, Sh: Shelf> Bench<H, Sh> {
             → Does H.half self.old.state actor command.now result.0 (map (λ a. held a.value) result.1.items) self.new.state }
         ensures carries { IsTrue Sh.B.tells
             → AreTold self.new.state × Carried H.half self.old.state actor command.now result.0 self.new.state }
+        ensures refused { IsRefusal result.0 → KeepsRest self.old.state self.new.state }
         ensures grows { Grows self.old self.new }
         ensures fault { result.0 ≡ Reply.Fault → Rose self.old.faults self.new.faults }
     {
@@ -173,6 +176,7 @@ impl<H: NodeHash, Sh: Shelf> Bench<H, Sh> {
         ensures does { IsTrue Sh.B.tells → Does H.half self.old.state actor command.now result [] self.new.state }
         ensures carries { IsTrue Sh.B.tells
             → AreTold self.new.state × Carried H.half self.old.state actor command.now result self.new.state }
+        ensures refused { IsRefusal result → KeepsRest self.old.state self.new.state }
         ensures grows { Grows self.old self.new }
         ensures fault { result ≡ Reply.Fault → Rose self.old.faults self.new.faults }
     {
@@ -189,6 +193,7 @@ impl<H: NodeHash, Sh: Shelf> Bench<H, Sh> {
         ensures tells { IsTrue Sh.B.tells
             → Tells self.old.state self.new.state (own_hashes H.half self.old.state actor command.now result) }
         ensures names { IsTrue Sh.B.tells → TellsRoot self.old.state command.now result self.new.state }
+        ensures refused { IsRefusal result → KeepsRest self.old.state self.new.state }
         ensures grows { Grows self.old self.new }
         ensures fault { result ≡ Reply.Fault → Rose self.old.faults self.new.faults }
     {
@@ -229,6 +234,7 @@ impl<H: NodeHash, Sh: Shelf> Bench<H, Sh> {
             → Does H.half self.old.state actor command.now result.0 (map (λ a. held a.value) result.1.items) self.new.state }
         ensures carries { IsTrue Sh.B.tells
             → AreTold self.new.state × Carried H.half self.old.state actor command.now result.0 self.new.state }
+        ensures refused { IsRefusal result.0 → KeepsRest self.old.state self.new.state }
         ensures grows { Grows self.old self.new }
         ensures fault { result.0 ≡ Reply.Fault → Rose self.old.faults self.new.faults }
     {

@@ -11,7 +11,8 @@ ghost use Rattle.ledger_machine.specs.Sound.{Sound};
 ghost use Rattle.ledger_machine.specs.State.{listed_with};
 ghost use Rattle.ledger_machine.specs.Steps.{Does, IsAfter, own_hashes};
 ghost use Rattle.store_core.specs.Closing.{MayKeep, MayKeepAll, IsMade, IsUnmade, fields_of, kept_by, unkept_by, unsealed_by};
-ghost use Rattle.store_core.specs.Desks.{IsFiled, Stays, Grows};
+ghost use Rattle.store_core.specs.Desks.{IsFiled, Stays, Grows, KeepsRest};
+ghost use Rattle.store_core.specs.Refusals.{IsRefusal};
 ghost use Rattle.store_core.specs.Telling.{Hears, TellsRoot};
 
 use crate::bench::Bench;
@@ -35,6 +36,7 @@ impl<H: NodeHash, Sh: Shelf> Bench<H, Sh> {
         ensures tells { IsTrue Sh.B.tells
             → Tells self.old.state self.new.state (own_hashes H.half self.old.state id.0 (Command.Close id.1 given.now) result) }
         ensures names { IsTrue Sh.B.tells → TellsRoot self.old.state (Command.Close id.1 given.now) result self.new.state }
+        ensures refused { IsRefusal result → KeepsRest self.old.state self.new.state }
         ensures grows { Grows self.old self.new }
         ensures fault { result ≡ Reply.Fault → Rose self.old.faults self.new.faults }
     {
@@ -79,6 +81,7 @@ impl<H: NodeHash, Sh: Shelf> Bench<H, Sh> {
         ensures tells { IsTrue Sh.B.tells → (given : List ℕ) → IsMade H.half self.old.state id given made.now
             → Tells self.old.state self.new.state (own_hashes H.half self.old.state id.0 (Command.Close id.1 given) result) }
         ensures names { (given : List ℕ) → TellsRoot self.old.state (Command.Close id.1 given) result self.new.state }
+        ensures refused { IsRefusal result → KeepsRest self.old.state self.new.state }
         ensures grows { Grows self.old self.new }
         ensures fault { result ≡ Reply.Fault → Rose self.old.faults self.new.faults }
     {
@@ -107,6 +110,7 @@ impl<H: NodeHash, Sh: Shelf> Bench<H, Sh> {
         ensures keeps { IsTrue Sh.B.tells → MayKeepAll H.half self.old.state (map (λ f. f.form) forms.now) result self.new.state }
         ensures hears { Hears self.old.state.shaded (target.now ∷ map (λ f. f.hash) forms.now) self.new.state.shaded }
         ensures told { OnOk result (IsSome self.old.state.turning → Contains self.new.state.shaded target.now) }
+        ensures rest { KeepsRest self.old.state self.new.state }
         ensures stays { Stays self.old self.new }
         ensures fault { IfErr result (λ e. e ≡ OfferFault.Fault → Rose self.old.faults self.new.faults) }
     {
@@ -137,6 +141,7 @@ impl<H: NodeHash, Sh: Shelf> Machine<H, Sh> {
         ensures keeps { IsTrue Sh.B.tells → MayKeep H.half self.old.state form.now.form result self.new.state }
         ensures hears { Hears self.old.state.shaded (form.now.hash ∷ []) self.new.state.shaded }
         ensures told { OnOk result (IsSome self.old.state.turning → Contains self.new.state.shaded form.now.hash) }
+        ensures rest { KeepsRest self.old.state self.new.state }
         ensures stays { Stays self.old self.new }
         ensures fault { IfErr result (λ e. e ≡ OfferFault.Fault → Rose self.old.faults self.new.faults) }
     {
@@ -151,6 +156,7 @@ impl<H: NodeHash, Sh: Shelf> Machine<H, Sh> {
         requires { form.now.hash ≡ H.half form.now.form }
         ensures keeps { IsTrue Sh.B.tells → MayKeep H.half self.old.state form.now.form result self.new.state }
         ensures told { self.new.state.shaded ≡ self.old.state.shaded }
+        ensures rest { KeepsRest self.old.state self.new.state }
         ensures stays { Stays self.old self.new }
         ensures fault { IfErr result (λ e. e ≡ OfferFault.Fault → Rose self.old.faults self.new.faults) }
     {
@@ -167,6 +173,7 @@ impl<H: NodeHash, Sh: Shelf> Machine<H, Sh> {
         requires { AreNamed H.half forms.now }
         ensures keeps { IsTrue Sh.B.tells → MayKeepAll H.half self.old.state (map (λ f. f.form) forms.now) result self.new.state }
         ensures hears { Hears self.old.state.shaded (map (λ f. f.hash) forms.now) self.new.state.shaded }
+        ensures rest { KeepsRest self.old.state self.new.state }
         ensures stays { Stays self.old self.new }
         ensures fault { IfErr result (λ e. e ≡ OfferFault.Fault → Rose self.old.faults self.new.faults) }
     {
@@ -190,6 +197,7 @@ impl<H: NodeHash, Sh: Shelf> Machine<H, Sh> {
         ensures keeps { IsTrue Sh.B.tells → MayKeepAll H.half self.old.state (map (λ f. f.form) forms.now) result self.new.state }
         ensures hears { Hears self.old.state.shaded (target.now ∷ map (λ f. f.hash) forms.now) self.new.state.shaded }
         ensures told { OnOk result (IsSome self.old.state.turning → Contains self.new.state.shaded target.now) }
+        ensures rest { KeepsRest self.old.state self.new.state }
         ensures stays { Stays self.old self.new }
         ensures fault { IfErr result (λ e. e ≡ OfferFault.Fault → Rose self.old.faults self.new.faults) }
     {

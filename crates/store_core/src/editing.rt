@@ -6,7 +6,7 @@ ghost use Rattle.ledger_machine.specs.Sessions.{edit_reply, after_edit};
 ghost use Rattle.ledger_machine.specs.Sound.{Sound};
 ghost use Rattle.open_sessions.specs.Rows.{del_said};
 ghost use Rattle.store_core.specs.Benches.{IsHeaderOf, IsFit, edit_by};
-ghost use Rattle.store_core.specs.Desks.{IsFiled, Stays, OnlyReads};
+ghost use Rattle.store_core.specs.Desks.{IsFiled, Stays, KeepsRest, OnlyReads};
 
 use crate::bench::Bench;
 use edit_session::Session;
@@ -35,6 +35,7 @@ impl<H: NodeHash, Sh: Shelf> Bench<H, Sh> {
             → IfOk result (λ r. self.new.state ≡ after_edit H.half self.old.state (actor, session) target.now r) }
         ensures err { IsTrue Sh.B.tells → OnErr result (self.new.state ≡ self.old.state) }
         ensures told { self.new.state.shaded ≡ self.old.state.shaded }
+        ensures kept { OnErr result (KeepsRest self.old.state self.new.state) }
         ensures stays { Stays self.old self.new }
         ensures fault { IfErr result (λ e. e ≡ BackFault.Fault → Rose self.old.faults self.new.faults) }
     {
@@ -103,6 +104,7 @@ impl<H: NodeHash, Sh: Shelf> Bench<H, Sh> {
             → IfOk result (λ _. self.new.state ≡ after_put self.old.state (actor, session) item.now.key item.now.value) }
         ensures err { IsTrue Sh.B.tells → OnErr result (self.new.state ≡ self.old.state) }
         ensures told { self.new.state.shaded ≡ self.old.state.shaded }
+        ensures kept { OnErr result (KeepsRest self.old.state self.new.state) }
         ensures stays { Stays self.old self.new }
         ensures fault { IfErr result (λ e. e ≡ BackFault.Fault → Rose self.old.faults self.new.faults) }
     {
@@ -124,6 +126,7 @@ impl<H: NodeHash, Sh: Shelf> Bench<H, Sh> {
             → IfOk result (λ _. self.new.state ≡ after_del self.old.state (actor, session) key.now) }
         ensures err { IsTrue Sh.B.tells → OnErr result (self.new.state ≡ self.old.state) }
         ensures told { self.new.state.shaded ≡ self.old.state.shaded }
+        ensures kept { OnErr result (KeepsRest self.old.state self.new.state) }
         ensures stays { Stays self.old self.new }
         ensures fault { IfErr result (λ e. e ≡ BackFault.Fault → Rose self.old.faults self.new.faults) }
     {

@@ -9,10 +9,10 @@ ghost use Rattle.ledger_machine.specs.Rotation.{Tells};
 ghost use Rattle.ledger_machine.specs.State.{opening};
 ghost use Rattle.ledger_machine.specs.Steps.{own_hashes};
 ghost use Rattle.ledger_machine.specs.Steps.{Does};
-ghost use Rattle.store_core.specs.Desks.{IsFiled, Grows, OnlyReads, over};
+ghost use Rattle.store_core.specs.Desks.{IsFiled, Grows, KeepsRest, OnlyReads, over};
 ghost use Rattle.store_core.specs.Dumping.{IsNextRecord, Follows};
 ghost use Rattle.store_core.specs.Reads.{ReadsNothing};
-ghost use Rattle.store_core.specs.Refusals.{read_refusal};
+ghost use Rattle.store_core.specs.Refusals.{IsRefusal, read_refusal};
 ghost use Rattle.store_core.specs.Telling.{TellsRoot};
 
 use crate::records::next_record;
@@ -146,6 +146,7 @@ impl<H: NodeHash, Sh: Shelf> Machine<H, Sh> {
             → Does H.half self.old.state actor command.now result.0 (map (λ a. held a.value) result.1.items) self.new.state }
         ensures tells { Tells self.old.state self.new.state (own_hashes H.half self.old.state actor command.now result.0) }
         ensures names { TellsRoot self.old.state command.now result.0 self.new.state }
+        ensures refused { IsRefusal result.0 → KeepsRest self.old.state self.new.state }
         ensures grows { Grows self.old self.new }
         ensures fault { result.0 ≡ Reply.Fault → Rose self.old.faults self.new.faults }
     {
@@ -176,6 +177,7 @@ impl<H: NodeHash, Sh: Shelf> Machine<H, Sh> {
         ensures does { IsTrue Sh.B.tells → Does H.half self.old.state actor command.now result [] self.new.state }
         ensures tells { Tells self.old.state self.new.state (own_hashes H.half self.old.state actor command.now result) }
         ensures names { TellsRoot self.old.state command.now result self.new.state }
+        ensures refused { IsRefusal result → KeepsRest self.old.state self.new.state }
         ensures grows { Grows self.old self.new }
         ensures fault { result ≡ Reply.Fault → Rose self.old.faults self.new.faults }
     {

@@ -8,7 +8,8 @@ ghost use Rattle.ledger_machine.specs.Sound.{Sound};
 ghost use Rattle.ledger_machine.specs.Steps.{IsAfter};
 ghost use Rattle.ledger_machine.specs.Steps.{Does};
 ghost use Rattle.ledger_machine.specs.State.{bases as edited};
-ghost use Rattle.store_core.specs.Desks.{IsFiled, Stays, Grows};
+ghost use Rattle.store_core.specs.Desks.{IsFiled, Stays, Grows, KeepsRest};
+ghost use Rattle.store_core.specs.Refusals.{IsRefusal};
 ghost use Rattle.store_core.specs.Telling.{Hears, BeginsBy, AfterSwap, IsRotating, AreTold, Carried};
 
 use crate::bench::Bench;
@@ -65,6 +66,7 @@ impl<H: NodeHash, Sh: Shelf> Machine<H, Sh> {
         requires { self.old.state.epoch < 2 ^ 64 - 1 }
         ensures swaps { IsTrue Sh.B.tells → IfOk result (λ r. AfterSwap self.old.state r self.new.state) }
         ensures err { IsTrue Sh.B.tells → OnErr result (self.new.state ≡ self.old.state) }
+        ensures kept { OnErr result (KeepsRest self.old.state self.new.state) }
         ensures grows { Grows self.old self.new }
         ensures fault { IfErr result (λ e. e ≡ BackFault.Fault → Rose self.old.faults self.new.faults) }
     {
@@ -86,6 +88,7 @@ impl<H: NodeHash, Sh: Shelf> Bench<H, Sh> {
         ensures does { IsTrue Sh.B.tells → Does H.half self.old.state actor command.now result [] self.new.state }
         ensures carries { IsTrue Sh.B.tells
             → AreTold self.new.state × Carried H.half self.old.state actor command.now result self.new.state }
+        ensures refused { IsRefusal result → KeepsRest self.old.state self.new.state }
         ensures grows { Grows self.old self.new }
         ensures fault { result ≡ Reply.Fault → Rose self.old.faults self.new.faults }
     {
@@ -103,6 +106,7 @@ impl<H: NodeHash, Sh: Shelf> Bench<H, Sh> {
         ensures does { IsTrue Sh.B.tells → Does H.half self.old.state actor Command.Begin result [] self.new.state }
         ensures carries { IsTrue Sh.B.tells
             → AreTold self.new.state × Carried H.half self.old.state actor Command.Begin result self.new.state }
+        ensures refused { IsRefusal result → KeepsRest self.old.state self.new.state }
         ensures grows { Grows self.old self.new }
         ensures fault { result ≡ Reply.Fault → Rose self.old.faults self.new.faults }
     {
@@ -120,6 +124,7 @@ impl<H: NodeHash, Sh: Shelf> Bench<H, Sh> {
         ensures does { IsTrue Sh.B.tells → Does H.half self.old.state actor Command.Swap result [] self.new.state }
         ensures carries { IsTrue Sh.B.tells
             → AreTold self.new.state × Carried H.half self.old.state actor Command.Swap result self.new.state }
+        ensures refused { IsRefusal result → KeepsRest self.old.state self.new.state }
         ensures grows { Grows self.old self.new }
         ensures fault { result ≡ Reply.Fault → Rose self.old.faults self.new.faults }
     {
@@ -148,6 +153,7 @@ impl<H: NodeHash, Sh: Shelf> Bench<H, Sh> {
         requires room { self.old.state.epoch < 2 ^ 64 - 1 }
         ensures swaps { IsTrue Sh.B.tells → IfOk result (λ r. AfterSwap self.old.state r self.new.state) }
         ensures err { IsTrue Sh.B.tells → OnErr result (self.new.state ≡ self.old.state) }
+        ensures kept { OnErr result (KeepsRest self.old.state self.new.state) }
         ensures grows { Grows self.old self.new }
         ensures fault { IfErr result (λ e. e ≡ BackFault.Fault → Rose self.old.faults self.new.faults) }
     {

@@ -91,11 +91,12 @@ impl<H: NodeHash> TrackedMap<H> {
         }
     }
 
-    /// Sets an item.
+    /// Sets an item. Where memory is refused nothing changes.
     pub fn set(&mut self, alloc: Global, item: Item) -> Result<(), Memory>
         ensures kind { OnOk result (leaves_in self.new ≡ leaves_in self.old) }
         ensures items { OnOk result (items_in self.new ≡ insert_in hash_cmp (items_in self.old) item.key item.value) }
         ensures shown { OnOk result (shown_in H.half self.new ≡ shown_in H.half self.old) }
+        ensures err { OnErr result (self.new ≡ self.old) }
     {
         self.tree.known();
         put_item::<H>(alloc, &mut self.tree, item)?;
@@ -117,13 +118,15 @@ impl<H: NodeHash> TrackedMap<H> {
         Ok(Some(Root { hash, blob }))
     }
 
-    /// The nodes whose place held another node or none when it was last asked, in pre-order.
+    /// The nodes whose place held another node or none when it was last asked, in pre-order. Where memory is refused it is the same map,
+    /// of which the same was asked; some hashes may be known that weren't.
     pub fn take_changes(&mut self, alloc: Global) -> Result<Vec<PlacedNode>, Memory>
         ensures kind { OnOk result (leaves_in self.new ≡ leaves_in self.old) }
         ensures items { OnOk result (items_in self.new ≡ items_in self.old) }
         ensures shown { OnOk result (shown_in H.half self.new ≡ nodes_of H.half (leaves_in self.old) (items_in self.old)) }
         ensures nodes { IfOk result (λ nodes. nodes.items ≡ map (given H.half)
             (changed (shown_in H.half self.old) (nodes_of H.half (leaves_in self.old) (items_in self.old)))) }
+        ensures err { OnErr result (self.new ≡ record self.old { hashes = self.new.hashes }) }
     {
         self.hash_nodes(alloc)?;
         let changes = self.changes(alloc)?;

@@ -1,4 +1,4 @@
-use Rattle.std.proofs.Common.{◌-◌, length, Some, refl, ◌∙◌}
+use Rattle.std.proofs.Common.{◌-◌, ◌++◌, ◌∷◌, [], length, Some, refl, sym, ◌∙◌}
 use Rattle.std.specs.FinMap as map
 use Rattle.ledger_spec.specs.Own.{own_forms}
 use Rattle.ledger_spec.specs.declared.Place.TheVariants.{Node}
@@ -76,15 +76,32 @@ pub walk_branches-loop-b-preserved : goal.walk_branches-loop-b-preserved
 walk_branches-loop-b-preserved g t c =
     let part : Walks g.Sh.B.Backend.tells g.H.NodeHash.half c.args.store.now c.walk.new.store c.loop-b.found c.walk.new.found
     (found_below g.H.NodeHash.half (own_forms g.H.NodeHash.half (map.get (nodes_of c.args.store.now))) c.args.kind
-    (64 - length c.in-Some.below) (Some c.args.inner.now.hashes) c.in-Some.below c.branch-inner.result) =
+    (64 - length c.in-Some.below) (Some c.args.inner.now.hashes) c.in-Some.below c.branch-hash.result) =
     walks_after g.Sh.B.Backend.tells g.H.NodeHash.half c.args.store.now c.loop-b.store c.walk.new.store c.loop-b.found c.walk.new.found
     (λ nodes. found_below g.H.NodeHash.half nodes c.args.kind (64 - length c.in-Some.below)
-    (Some c.args.inner.now.hashes) c.in-Some.below c.branch-inner.result) c.loop-b.invariant.read c.in_ok-walk.ensures.walks in
+    (Some c.args.inner.now.hashes) c.in-Some.below c.branch-hash.result) c.loop-b.invariant.read c.in_ok-walk.ensures.walks in
     record {
       read = part.read;
       header = part.header ∙ c.loop-b.invariant.header;
       few = λ few. part.few (c.loop-b.invariant.few few);
       found = λ tells. walk_branch g.H.NodeHash.half (own_forms g.H.NodeHash.half (map.get (nodes_of c.args.store.now))) c.args.kind
-          c.args.inner.now.hashes c.args.id.now c.in-Some.below c.branch-inner.result c.loop-b.b _ _ _ _
-          (c.loop-b.invariant.found tells) c.in-Some.ensures.below c.branch-inner.ensures refl (part.found tells);
+          c.args.inner.now.hashes c.args.id.now c.in-Some.below c.branch-hash.result c.loop-b.b _ _ _ _
+          (c.loop-b.invariant.found tells) c.in-Some.ensures.below c.branch-hash.ensures refl (part.found tells);
+    }
+
+-- below an empty branch nothing is found
+pub walk_branches-loop-b-preserved-then-is_zero : goal.walk_branches-loop-b-preserved-then-is_zero
+walk_branches-loop-b-preserved-then-is_zero g t c =
+    let half = g.H.NodeHash.half in
+    let nodes = own_forms half (map.get (nodes_of c.args.store.now)) in
+    let below = c.args.id.now ++ c.loop-b.b ∷ [] in
+    let part : Walks g.Sh.B.Backend.tells half c.args.store.now c.loop-b.store c.loop-b.found c.loop-b.found
+    (found_below half nodes c.args.kind (64 - length below) (Some c.args.inner.now.hashes) below c.branch-hash.result) =
+    walks_none _ _ _ _ _ _ c.loop-b.invariant.read (λ tells. walk_zero _ _ _ _ _ _ _ _ (sym c.if-is_zero.true ∙ c.is_zero.ensures)) in
+    record {
+      read = part.read;
+      header = part.header ∙ c.loop-b.invariant.header;
+      few = λ few. part.few (c.loop-b.invariant.few few);
+      found = λ tells. walk_branch half nodes c.args.kind c.args.inner.now.hashes c.args.id.now below c.branch-hash.result c.loop-b.b _ _ _ _
+          (c.loop-b.invariant.found tells) refl c.branch-hash.ensures refl (part.found tells);
     }

@@ -20,6 +20,7 @@ loop-hash-init g c =
       walked = λ told. begun _ _ c.args.store.now.writable _ added;
       rest = ((refl, refl, refl), refl, refl);
       later = omega arith;
+      gets = omega arith;
     }
 
 -- nothing is left, so all that was found is done
@@ -64,4 +65,5 @@ loop-hash-preserved g c =
           (c.in_ok-kids.ensures.there told) (c.deref-in-Some.ensures.value ∙ c.in_ok-kids.ensures.kids told) c.in_ok-add_all-2.ensures;
       rest = rest_on c.args.store.now c.loop-hash.store c.copy_one.new.store inv.rest c.copy_one.ensures.rest;
       later = omega (arith, inv.later, c.copy_one.ensures.later);
+      gets = omega (arith, inv.gets, c.copy_one.ensures.gets);
     }

@@ -14,6 +14,7 @@ invariant-loop-hash g l = record {
   walked : IsTrue g.Sh.B.Backend.tells → Walked (finite.get (nodes_of l.fn.store)) l.fn.shaded.keys l.store.writable l.queue l.place;
   rest : SameRest l.fn.store l.store;
   later : l.fn.store.faults ≤ l.store.faults;
+  gets : l.fn.store.gets ≤ l.store.gets;
 }
 
 -- the place rises, and a list is shorter than 2 ^ 64

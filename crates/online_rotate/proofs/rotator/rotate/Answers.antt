@@ -4,13 +4,13 @@ use Rattle.online_rotate.proofs.rotator.rotate.Goals as goal
 
 -- what was copied before the refusal stays
 pub returns-in_err-copy_reached-clause-some : goal.returns-in_err-copy_reached-clause-some
-returns-in_err-copy_reached-clause-some g c told = on_err _ c.from_residual.result (c.copy_reached.ensures.some told)
+returns-in_err-copy_reached-clause-some g c told = on_err _ _ (c.copy_reached.ensures.some told)
 
 -- no fresh backend is ready, and what was copied stays
 pub returns-in_err-prepare-clause-some : goal.returns-in_err-prepare-clause-some
 returns-in_err-prepare-clause-some g c told =
     let same = c.prepare.ensures.same told in
-    on_err _ c.from_residual-in_err-prepare.result
+    on_err _ _
     (some_alike c.args.shaded.now.keys c.args.store.now c.copy_reached.new.store c.prepare.new.self (c.copy_reached.ensures.some told)
     same.0 same.1)
 

@@ -1,5 +1,13 @@
-use Rattle.std.proofs.Common.{sym, ◌∙◌}
+use Rattle.std.proofs.Common.{sym, ◌∙◌, refl, Some}
 use Rattle.open_sessions.proofs.Tables.{on_err, set_same}
+use Rattle.std.specs.FinMap as finite
+use Rattle.ledger_spec.specs.Bytes.{Lookup}
+use Rattle.ledger_spec.specs.Maps.{numbered_cmp, get_in}
+use Rattle.rotating_store.specs.Stores.{nodes_of}
+use Rattle.rotating_store.specs.Sources.{own_nodes}
+use Rattle.cow_map.specs.Ways.{removal_stop_of}
+use Rattle.edit_session.specs.Drafts.{Draft}
+use Rattle.open_sessions.proofs.Stopping.{stopped_by, gone_by}
 use Rattle.open_sessions.proofs.open.Open.remove.Goals as goal
 
 -- the lent session was given back as it was
@@ -8,3 +16,20 @@ returns-in_err-there-clause-err g c =
     on_err c.from_residual.result ((c.get_mut.follows.holds c.remove.new.self).0
     ∙ set_same c.args.id c.self.inside.sessions.entries c.in-Some.session.now _ (sym c.in-Some.ensures.value) c.in_err-there.ensures.err
     ∙ c.self.view_is)
+
+-- what stops the map of the session that was lent stops the call
+pub returns-in_err-there-clause-way : goal.returns-in_err-there-clause-way
+returns-in_err-there-clause-way g c told d is =
+    let half = g.H.NodeHash.half in
+    let stored : Lookup = finite.get (own_nodes half (nodes_of c.args.store.now)) in
+    stopped_by half stored (λ (x : Draft) key. removal_stop_of half stored x.state key) c.in-Some.session.now d
+    (get_in numbered_cmp c.args.self.now c.args.id) c.args.key.now c.args.key.now (rw (← c.self.view_is) c.in-Some.ensures.value)
+    is refl _ _ c.in_err-there.field-0.0 c.from_residual.result c.from_residual.ensures.1 (c.in_err-there.ensures.way told)
+
+pub returns-clause-way : goal.returns-clause-way
+returns-clause-way g c told d is =
+    let half = g.H.NodeHash.half in
+    let stored : Lookup = finite.get (own_nodes half (nodes_of c.args.store.now)) in
+    gone_by half stored (λ (x : Draft) key. removal_stop_of half stored x.state key) c.in-Some.session.now d
+    (get_in numbered_cmp c.args.self.now c.args.id) c.args.key.now c.args.key.now (rw (← c.self.view_is) c.in-Some.ensures.value)
+    is refl _ _ c.in_ok-there.there (Some c.in_ok-there.there) (c.in_ok-there.ensures.way told)

@@ -6,6 +6,7 @@ use Rattle.store_core.specs.Telling.{AreTold}
 use Rattle.store_core.proofs.Benches.{lifted, lifted_keeps}
 use Rattle.store_core.proofs.Besides.{beside_steady, tells_open, names_open}
 use Rattle.store_core.proofs.Roots.{told_on}
+use Rattle.store_core.proofs.Refusing.{beside_rest}
 use Rattle.store_core.proofs.bench.Bench.beside.Goals as goal
 
 pub answer-answered-requires-clause-filed : goal.answer-answered-requires-clause-filed
@@ -51,3 +52,19 @@ returns-clause-carries g c told =
     (c.self.invariant told (filed told)) (c.answer-answered.ensures.does told))
     (tells_open half tells s s' drafts c.args.actor c.args.command.now _ c.requires.beside c.known.ensures c.answer-answered.ensures.tells)
     (names_open half tells s s' drafts c.args.command.now _ c.requires.beside c.answer-answered.ensures.names) before)
+
+-- where it is refused, too
+pub returns-clause-refused : goal.returns-clause-refused
+returns-clause-refused g c is =
+    let half = g.H.NodeHash.half in
+    let s = c.self.inside.machine.state in
+    let s' = c.answer-answered.new.self.state in
+    let filed : IsFiled half g.Sh.B.Backend.tells s =
+    subst (λ (d : Desk). IsFiled half g.Sh.B.Backend.tells d.state) (sym c.self.view_is) c.requires.filed in
+    rw (← c.self.view_is)
+    (beside_rest half g.Sh.B.Backend.tells s s' c.self.inside.sessions c.args.actor c.args.command.now _ _ is
+    (c.answer-answered.ensures.refused is)
+    (λ told. lifted half c.a_session_stays_over_its_ledger.ensures c.self.inside.sessions g.Sh.B.Backend.tells s s'
+    c.args.actor c.args.command.now _ _ told c.requires.beside
+    (λ es. c.a_row_is_one_beside_any_sessions.ensures half es s s' c.args.actor c.args.command.now _ _ c.requires.beside)
+    (c.self.invariant told (filed told)) (c.answer-answered.ensures.does told)))

@@ -2,6 +2,7 @@
 use Rattle.std.proofs.Common.{sym, subst}
 use Rattle.store_core.specs.Desks.{Desk, IsFiled}
 use Rattle.store_core.proofs.Publishing.{kept_open, kept_keeps}
+use Rattle.store_core.proofs.Refusing.{kept_beside}
 use Rattle.store_core.proofs.bench.Bench.keep_forms.Goals as goal
 
 pub invariant_of-self : goal.invariant_of-self
@@ -20,3 +21,14 @@ returns-clause-keeps g c told =
     (kept_open g.H.NodeHash.half c.a_session_stays_over_its_ledger.ensures c.self.inside.sessions g.Sh.B.Backend.tells
     c.self.inside.machine.state c.keep_ledger.new.self.state _ c.keep_ledger.result told (c.self.invariant told (filed told))
     (c.keep_ledger.ensures.keeps told))
+
+pub returns-clause-rest : goal.returns-clause-rest
+returns-clause-rest g c =
+    let filed : IsFiled g.H.NodeHash.half g.Sh.B.Backend.tells c.self.inside.machine.state =
+    subst (λ (d : Desk). IsFiled g.H.NodeHash.half g.Sh.B.Backend.tells d.state) (sym c.self.view_is) c.requires.filed in
+    rw (← c.self.view_is)
+    (kept_beside g.H.NodeHash.half g.Sh.B.Backend.tells c.self.inside.machine.state c.keep_ledger.new.self.state c.self.inside.sessions _
+    c.keep_ledger.result c.keep_ledger.ensures.rest
+    (λ told. kept_open g.H.NodeHash.half c.a_session_stays_over_its_ledger.ensures c.self.inside.sessions g.Sh.B.Backend.tells
+    c.self.inside.machine.state c.keep_ledger.new.self.state _ c.keep_ledger.result told (c.self.invariant told (filed told))
+    (c.keep_ledger.ensures.keeps told)))

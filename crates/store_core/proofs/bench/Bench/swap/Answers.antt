@@ -2,7 +2,6 @@
 use Rattle.std.proofs.Common.{IsTrue, sym, subst}
 use Rattle.ledger_spec.specs.Own.{AreStored}
 use Rattle.ledger_machine.specs.State.{form_in}
-use Rattle.store_core.specs.Benches.{with_open}
 use Rattle.store_core.specs.Desks.{Desk, IsFiled}
 use Rattle.store_core.specs.Telling.{AreTold}
 use Rattle.store_core.proofs.Besides.{swap_keeps, swap_after}

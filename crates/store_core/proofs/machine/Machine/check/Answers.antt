@@ -17,6 +17,7 @@ use Rattle.store_core.proofs.States.{on_err}
 use Rattle.store_core.proofs.Tables.{IsOver, same_over, filed_over}
 use Rattle.store_core.proofs.Founds.{check_found, check_settled, check_unsettled, finds_own, found_seq_is}
 use Rattle.store_core.proofs.Listing.{settled_few}
+use Rattle.store_core.proofs.Refusing.{unlisted_rest}
 use Rattle.store_core.proofs.machine.Machine.check.Goals as goal
 
 -- all that is stored are own forms, so the search finds what is missing of the ledger, and that decides the reply
@@ -127,3 +128,19 @@ returns-in_err-settle-clause-tells g c =
     (subst (λ (hs : List Hash). Hears hs (told_at c.args.target.now c.in_ok-reply.reply) c.settle.new.self.state.shaded)
     (c.judge.ensures.told ∙ ap (λ (d : Desk). d.state.shaded) c.self.view_is) c.settle.ensures.hears)
     (subst (λ (x : State). IsAfter x c.settle.new.self.state) same c.in_err-settle.ensures.err.1)
+
+-- a complete ledger that can't be listed stays wanted
+pub returns-in_err-settle-clause-kept : goal.returns-in_err-settle-clause-kept
+returns-in_err-settle-clause-kept g c =
+    let s0 : State = over c.whole.new.store c.args.self.now.state in
+    let same : c.judge.new.self.state ≡ s0 =
+    check_unsettled s0 c.args.target.now s0.floor c.in_ok-found.found c.judge.new.self.state c.in_ok-reply.reply
+    (c.in_ok-reply.ensures.reply
+    ∙ ap (λ (d : Desk). judged_by (get_in hash_cmp d.state.wanted c.args.target.now) d.state.floor c.in_ok-found.found) c.self.view_is)
+    (c.in_ok-reply.ensures.after
+    ∙ ap (λ (d : Desk). with_wanted (over c.whole.new.store d.state) c.args.target.now
+    (λ a. after_verdict a (found_verdict a d.state.floor c.in_ok-found.found))) c.self.view_is)
+    c.in_err-settle.ensures.err.0 in
+    on_err c.from_residual-in_err-settle.result
+    (unlisted_rest c.whole.new.store c.args.self.now.state c.judge.new.self.state c.settle.new.self.state same
+    (c.whole.ensures.read.later.past.0 ∙ ap (λ (d : Desk). d.state.epoch) c.self.view_is) c.in_err-settle.ensures.err.1)

@@ -3,6 +3,7 @@ use Rattle.std.proofs.Common.{◌<◌, length, map, drop, ◌+◌, ◌∙◌, ar
 use Rattle.ledger_spec.specs.Bytes.{Bytes}
 use Rattle.store_core.proofs.KeepingAll.{AreKept, next_form, form_among, one_kept, failed_kept}
 use Rattle.store_core.proofs.Turns.{hears_on}
+use Rattle.store_core.proofs.Refusing.{rest_on}
 use Rattle.store_core.proofs.machine.Machine.keep_all.Goals as goal
 
 pub loop-form-preserved : goal.loop-form-preserved
@@ -17,6 +18,8 @@ loop-form-preserved g c =
           (rw c.in-Ok.is at (c.keep.ensures.keeps told));
       hears = hears_on _ (map (λ f. f.hash) c.args.forms.now) _ _ c.form-item.result.hash c.loop-form.invariant.hears c.keep.ensures.hears
           (form_among c.args.forms.now c.loop-form.form-index c.form-item.result lt c.form-item.is);
+      rest = rest_on c.args.self.now.state c.loop-form.self.state c.keep.new.self.state c.loop-form.invariant.rest
+          c.keep.ensures.rest;
       stays = record {
         later = omega (arith, c.loop-form.invariant.stays.later, c.keep.ensures.stays.later);
         listed = c.keep.ensures.stays.listed ∙ c.loop-form.invariant.stays.listed;

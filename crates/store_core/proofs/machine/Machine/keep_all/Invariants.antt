@@ -1,5 +1,5 @@
 use Rattle.std.proofs.Common.{IsTrue, map, drop}
-use Rattle.store_core.specs.Desks.{Stays}
+use Rattle.store_core.specs.Desks.{Stays, KeepsRest}
 use Rattle.store_core.specs.Telling.{Hears}
 use Rattle.store_core.proofs.KeepingAll.{AreKept}
 use Rattle.store_core.proofs.machine.Machine.keep_all.Given as goal
@@ -10,5 +10,6 @@ invariant-loop-form g l = record {
   kept : IsTrue g.Sh.B.Backend.tells
       → AreKept g.H.NodeHash.half l.fn.self.state (map (λ f. f.form) l.forms) (map (λ f. f.form) (drop l.form-index l.forms)) l.self.state;
   hears : Hears l.fn.self.state.shaded (map (λ f. f.hash) l.forms) l.self.state.shaded;
+  rest : KeepsRest l.fn.self.state l.self.state;
   stays : Stays l.fn.self l.self;
 }

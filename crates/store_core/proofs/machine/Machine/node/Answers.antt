@@ -10,12 +10,13 @@ use Rattle.ledger_machine.specs.Steps.{Does}
 use Rattle.acquire_core.specs.Answers.{forms_in}
 use Rattle.acquire_core.specs.Replies as acquire
 use Rattle.rotating_store.specs.Stores.{Store}
-use Rattle.store_core.specs.Desks.{over}
+use Rattle.store_core.specs.Desks.{over, KeepsRest}
 use Rattle.store_core.specs.Wanting.{AreOpen, node_answer}
 use Rattle.store_core.proofs.Opens.{set_open, found_open, noded_open, taken_desk}
 use Rattle.store_core.proofs.Parts.{does_node, same_blob}
 use Rattle.store_core.proofs.Tables.{IsOver, filed_over}
 use Rattle.store_core.proofs.Turns.{keeps_forms, answers_forms}
+use Rattle.store_core.proofs.Refusing.{node_rest}
 use Rattle.store_core.proofs.machine.Machine.node.Goals as goal
 
 -- a charge is no tick and changes no target
@@ -64,3 +65,17 @@ returns-clause-does g c told actor =
     let same = taken_desk t _ _ c.self.view_is _ st' a' (c.get_mut.follows.holds c.node-taken.new.self).0 in
     rw c.node_answer.ensures
     (subst (λ (x : State). Does half s actor asks (node_answer c.node-taken.result) [] x) (sym same) does)
+
+-- a refusal leaves it as it was
+pub returns-clause-refused : goal.returns-clause-refused
+returns-clause-refused g c is =
+    let s : State = c.args.self.now.state in
+    let t = c.args.target.now in
+    let st' : Store = c.node-taken.new.store in
+    let a : Acquiring = c.in-Some.acquire.now in
+    let a' : Acquiring = c.node-taken.new.self in
+    let at : get_in hash_cmp s.wanted t ≡ Some a = rw (← c.self.view_is) (sym c.in-Some.ensures.value) in
+    let epoch : st'.epoch ≡ s.epoch = rw (← c.self.view_is) c.node-taken.ensures.later.past.0 in
+    let same = taken_desk t _ _ c.self.view_is _ st' a' (c.get_mut.follows.holds c.node-taken.new.self).0 in
+    subst (λ (x : State). KeepsRest s x) (sym same)
+    (node_rest st' s t c.args.peer a a' c.node-taken.result at c.node-taken.ensures.after epoch (rw c.node_answer.ensures at is))

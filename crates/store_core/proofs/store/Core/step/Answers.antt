@@ -180,6 +180,7 @@ returns-clause-answered g c _ =
       actor = refl;
       later = c.answer-reply.ensures.grows.later;
       cause = c.answer-reply.ensures.fault;
+      refused = c.answer-reply.ensures.refused;
       step = λ t. answers g.H.NodeHash.half c.self.inside.script.lines.items c.self.inside.bench.state c.answer-reply.new.self.state
           c.index-line.result.now _ _ _ next c.index-line.ensures refl refl
           (c.answer-reply.ensures.step t);
