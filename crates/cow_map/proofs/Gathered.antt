@@ -1,5 +1,5 @@
 -- A map that needs nothing of its source, and one that is made of items whose keys rise.
-use Rattle.std.proofs.Common.{◌≡◌, ℕ, zero, suc, List, [], ◌∷◌, ◌++◌, refl, sym, ap, ◌∙◌, subst, slice_index_or, append_assoc, take, ◌-◌}
+use Rattle.std.proofs.Common.{◌≡◌, ℕ, zero, suc, List, [], ◌∷◌, ◌++◌, refl, ap, slice_index_or}
 use Rattle.std.specs.List.{AllByRecursion}
 use Rattle.std.specs.List.Sorted.{IsStrictlySortedBy}
 use Rattle.std.specs.Map.{keys_of}
@@ -13,10 +13,10 @@ use Rattle.cow_map.specs.declared.link.Link.{Link}
 use Rattle.cow_map.specs.declared.link.Link.TheVariants.{Empty, Unloaded, Own}
 use Rattle.cow_map.specs.Bodies.{Body, CowTree}
 use Rattle.cow_map.specs.Trees.{lacks, found_at, StandsAt, StandsFor}
-use Rattle.cow_map.specs.Edits.{IsSub, SetsItem}
+use Rattle.cow_map.specs.Edits.{IsSub}
 use Rattle.cow_map.specs.Gathered.{entries_of, nothing_held}
 use Rattle.cow_map.proofs.Standing.{Below, stands_from, stands_into, holds_map}
-use Rattle.cow_map.proofs.Entries.{insert_first, AllCompare}
+use Rattle.cow_map.proofs.Entries.{AllCompare}
 
 module _ (half other : Half) (stored : Lookup) (kind : Kind) (nodes : List Body) where
   found_any : (left : ℕ) (path : List ℕ) (link : Link) (items : List Entry) → StandsAt half nothing_held kind nodes left path link items
@@ -66,30 +66,6 @@ first_less e es h = less es h.0
     less : (fs : List Entry) → AllByRecursion (λ k. hash_cmp e.0 k ≡ Less) (keys_of fs) → AllCompare Less e.0 fs
     less [] h = tt
     less (f ∷ fs) h = (h.0, less fs h.1)
-
--- one item more, before those that are in the map
-pub one_before : (half : Half) (stored : Lookup) (all rest before tail : List Item) (item : Item) (old new : CowTree)
-    → IsMap hash_cmp (entries_of all) → all ≡ before ++ tail → before ≡ rest ++ item ∷ []
-    → SetsItem half stored old new item.key item.value
-    → StandsFor half nothing_held old (entries_of tail) → (all ≡ rest ++ item ∷ tail)
-    × StandsFor half nothing_held new (entries_of (item ∷ tail))
-one_before half stored all rest before tail item old new sorted whole popped sets stands =
-    let is : all ≡ rest ++ item ∷ tail = whole ∙ ap (λ xs. xs ++ tail) popped ∙ append_assoc rest (item ∷ []) tail in
-    let behind : IsMap hash_cmp (entries_of (item ∷ tail)) =
-    sorted_behind (entries_of rest) (entries_of (item ∷ tail))
-    (subst (λ es. IsMap hash_cmp es) (ap entries_of is ∙ entries_append rest (item ∷ tail)) sorted) in (
-      is,
-      subst (λ (es : List Entry). StandsFor half nothing_held new es)
-          (insert_first item.key item.value (entries_of tail) (first_less (item.key, item.value) (entries_of tail) behind))
-          (sets nothing_held (nothing_sub stored) (entries_of tail) stands),
-    )
-
-pub whole_before : (all tail : List Item) → all ≡ [] ++ tail → entries_of tail ≡ entries_of all
-whole_before all tail e = ap entries_of (sym e)
-
--- nothing is left where there is no last one
-pub nothing_left : (xs ys : List Item) (n : ℕ) → n ≡ 0 → xs ≡ ys ++ [] → ys ≡ take (n - 1) xs → xs ≡ []
-nothing_left xs ys n none_of whole front = whole ∙ ap (λ zs. zs ++ []) (front ∙ ap (λ m. take (m - 1) xs) none_of)
 
 -- one item alone is a map
 pub one_rises : (item : Item) → IsMap hash_cmp (entries_of (item ∷ []))

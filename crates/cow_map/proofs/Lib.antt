@@ -24,6 +24,7 @@ pub mod Picking
 pub mod Beside
 pub mod Freeing
 pub mod Gathered
+pub mod Taking
 pub mod Shifting
 pub mod Needing
 pub mod Wholes

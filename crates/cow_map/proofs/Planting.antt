@@ -52,7 +52,7 @@ kid_all P b x c here others = by (c == b) refl
         subst (λ n. P n (with_kid b x (λ d. []) n)) (sym same) (subst (P b) (sym (kid_same b x (λ d. []))) here)
     by false is = let other : c ≢ b = grind (arith, nat_tests) in subst (P c) (sym (kid_other b c x (λ d. []) other)) (others c)
 
-fewest_two : (path : List ℕ) → fewest path ≤ 2
+pub fewest_two : (path : List ℕ) → fewest path ≤ 2
 fewest_two [] = omega arith
 fewest_two (n ∷ path) = omega arith
 

@@ -9,3 +9,4 @@ pub mod Laws
 pub mod Sealing
 pub mod Unloaded
 pub mod Gathered
+pub mod Taking

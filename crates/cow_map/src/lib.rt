@@ -13,6 +13,7 @@ mod node;
 mod put;
 mod remove;
 mod seal;
+mod sorted;
 mod step;
 #[cfg(test)]
 mod tests;

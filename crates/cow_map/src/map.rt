@@ -29,6 +29,7 @@ use crate::get::get_at;
 use crate::put::put_at;
 use crate::remove::{remove_at, settle};
 use crate::seal::{Sealed, seal_link};
+use crate::sorted::inner_of;
 use crate::{Cow, Link, Links, MapFault};
 use half_hash::{Blob, Half512, Hash32, Memory, NodeHash};
 use ledger_spec::Kind;
@@ -102,12 +103,13 @@ impl CowMap {
         ensures kind { IfOk result (λ m. m.kind ≡ kind) }
         ensures stands { IfOk result (λ m. (half : Half) (stored : Lookup) → StandsFor half stored m (entries_of items.items)) }
     {
-        let mut map = CowMap::new(alloc, kind);
-        let mut rest = items;
-        while let Some(item) = rest.pop() {
-            map.put_alone(alloc, item)?;
+        if items.is_empty() {
+            return Ok(CowMap::new(alloc, kind));
         }
-        Ok(map)
+        let mut rest = items;
+        let mut nodes = Arena::new(alloc);
+        let top = inner_of(alloc, &mut nodes, &mut rest, &NodeId::root())?;
+        Ok(CowMap { kind, nodes, top })
     }
 
     /// The union of sixteen maps of this kind that leave nothing to a source, where the keys of each begin with its number as their
@@ -155,19 +157,6 @@ impl CowMap {
                 Cow::Leaf(_) => Link::Empty,
             },
             _ => Link::Empty,
-        }
-    }
-
-    // Sets an item in a map that leaves nothing to a source.
-    fn put_alone(&mut self, alloc: Global, item: Item) -> Result<(), Memory>
-        requires { (items : Items) × StandsFor sha512_half nothing_held self.old items }
-        ensures kind { self.new.kind ≡ self.old.kind }
-        ensures stands { OnOk result (SetsItem sha512_half nothing_held self.old self.new item.key item.value) }
-    {
-        match self.put::<Half512, NoSource>(alloc, &mut NoSource, item) {
-            Ok(()) => Ok(()),
-            // nothing is absent or misshapen in a map of items, and a source that holds nothing doesn't fail
-            Err(fault) => Err(want_of_memory(fault)),
         }
     }
 

@@ -59,14 +59,14 @@ impl Hash32 {
     pub fn is_zero(&self) -> bool
         ensures { result ≡ all_zero self.now }
     {
-        self.bytes.iter().all(|b| *b == 0)
+        self.bytes == [0; 32]
     }
 
     /// Whether the two hashes are one.
     pub fn equals(&self, other: &Hash32) -> bool
         ensures { MatchBool result (self.now ≡ other.now) (self.now ≢ other.now) }
     {
-        self.bytes.as_slice() == other.bytes.as_slice()
+        self.bytes == other.bytes
     }
 
     /// Tells a proof that a hash has 32 bytes.

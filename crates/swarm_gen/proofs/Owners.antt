@@ -1,6 +1,6 @@
 -- The items that no later item has the key of: what they are in each ledger.
 use Rattle.std.specs.Prelude.{◌≡◌, ℕ, zero, suc, ◌+◌, ◌-◌, ◌%◌, ◌≤◌, ◌==◌, Bool, true, false, if◌then◌else◌, List, [], ◌∷◌, ◌++◌}
-use Rattle.std.specs.Prelude.{map, refl}
+use Rattle.std.specs.Prelude.{map, not, refl}
 use Rattle.std.proofs.Common.{sym, ap, ◌∙◌, subst, arith, append_assoc, append-nil}
 use Rattle.std.specs.List.{AllByRecursion, range_with_len}
 use Rattle.std.specs.List.Sorted.{IsStrictlySortedBy}
@@ -10,7 +10,7 @@ use Rattle.std.specs.declared.cmp.Ordering.TheVariants.{Less, Equal, Greater}
 use Rattle.std.specs.Map.{keys_of}
 use Rattle.std.proofs.lemmas.Cmp.{nat_list_cmp_total}
 use Rattle.std.proofs.lemmas.List.{map-append}
-use Rattle.ledger_spec.specs.Bytes.{Bytes, Hash, Half, Items, is_zero}
+use Rattle.ledger_spec.specs.Bytes.{Bytes, Hash, Half, Items, is_zero, is_nonzero}
 use Rattle.ledger_spec.specs.Maps.{hash_cmp, insert_in, IsMap}
 use Rattle.swarm_gen.specs.declared.plan.Plan.{Plan}
 use Rattle.swarm_gen.specs.Ledgers.{key, eight, map_from, owners_of, set_by, state_of}
@@ -135,15 +135,20 @@ nonzero_at (y ∷ ys) e rest a = nonzero_at ys e rest a.1
 
 -- the first ledger: one owner more
 pub first_step : (half : Half) (plan : Plan) (ys rest : List (Hash × ℕ)) (k : Hash) (i : ℕ) (m next : Items)
-    → owners_of half plan ≡ ys ++ (k, i) ∷ rest → IsMap hash_cmp (owners_of half plan)
-    → m ≡ map (on (data_in 1)) ys → next ≡ (if is_zero k then m else insert_in hash_cmp m k (eight 1))
-    → next ≡ map (on (data_in 1)) (ys ++ (k, i) ∷ [])
-first_step half plan ys rest k i m next split s e is =
+    → owners_of half plan ≡ ys ++ (k, i) ∷ rest → m ≡ map (on (data_in 1)) ys
+    → next ≡ m ++ (if is_nonzero k then (k, eight 1) ∷ [] else []) → next ≡ map (on (data_in 1)) (ys ++ (k, i) ∷ [])
+first_step half plan ys rest k i m next split e is =
     let z : is_zero k ≡ false = nonzero_at ys (k, i) rest (subst (λ (x : List (Hash × ℕ)). AreKeys x) split (owners_nonzero half plan)) in
-    let above : Above k ys = above_before ys (k, i) rest (subst (λ (x : List (Hash × ℕ)). IsMap hash_cmp x) split s) in
-    is ∙ ap (λ b. if b then m else insert_in hash_cmp m k (eight 1)) z ∙ ap (λ (x : Items). insert_in hash_cmp x k (eight 1)) e
-    ∙ put_last (map (on (data_in 1)) ys) k (eight 1) (above_mapped (data_in 1) k ys above)
+    is ∙ ap (λ b. m ++ (if not b then (k, eight 1) ∷ [] else [])) z ∙ ap (λ (x : Items). x ++ (k, eight 1) ∷ []) e
     ∙ sym (map-append (on (data_in 1)) ys ((k, i) ∷ []))
+
+keys_mapped : {X : Type 0} (f : ℕ → X) (es : List (Hash × ℕ)) → keys_of (map (on f) es) ≡ keys_of es
+keys_mapped f [] = refl
+keys_mapped f (e ∷ es) = ap (λ ks. e.0 ∷ ks) (keys_mapped f es)
+
+-- other values leave the keys in their order
+pub sorted_mapped : {X : Type 0} (f : ℕ → X) (es : List (Hash × ℕ)) → IsMap hash_cmp es → IsMap hash_cmp (map (on f) es)
+sorted_mapped f es s = subst (λ ks. IsStrictlySortedBy hash_cmp ks) (sym (keys_mapped f es)) s
 
 -- what an item's data are, where the ledger changes it and where it doesn't
 data_due : (i seq : ℕ) → 2 ≤ seq → ((i + seq) % 97 == 0) ≡ true → data_in seq i ≡ eight seq

@@ -17,6 +17,7 @@ use Rattle.cow_map.specs.Gathered.{nothing_held}
 use Rattle.cow_map.specs.Trees.{StandsAt, StandsFor}
 use Rattle.cow_map.proofs.Gathered.{nothing_sub}
 use Rattle.cow_map.proofs.Leading.{weaker}
+use Rattle.cow_map.proofs.Planting.{empty_stands}
 use Rattle.cow_map.proofs.Sealing.{part_root}
 use Rattle.cow_map.proofs.Standing.{stands_grows}
 use Rattle.swarm_gen.specs.declared.tracked.Root.{Root}
@@ -127,6 +128,28 @@ none_of_part half kind all (suc left) path = refl
 
 pub no_nodes : (half : Half) (kind : Kind) (items : Items) → items ≡ [] → nodes_of half kind items ≡ []
 no_nodes half kind items is = ap (nodes_of half kind) is ∙ none_of_part half kind [] 64 []
+
+-- a map of items of which nothing was asked
+module _ (half : Half) (tree : CowTree) (items : Items) (stands : StandsFor half nothing_held tree items) where
+  all_entries : items ≡ items_at tree.nodes tree.top
+  all_entries = entries_law half tree.kind tree.nodes 64 [] tree.top items stands
+
+  pub sorted_items : (hashes : List (Option Hash)) → items_in (record { tree = tree; last = Empty; hashes = hashes }) ≡ items
+  unfolding items_in
+  sorted_items hashes = sym all_entries
+
+  pub sorted_shown : (hashes : List (Option Hash)) → shown_in half (record { tree = tree; last = Empty; hashes = hashes }) ≡ []
+  unfolding shown_in entries_at
+  sorted_shown hashes = no_nodes half tree.kind (items_at tree.nodes Empty) refl
+
+  pub sorted_keeps : (hashes : List (Option Hash)) → hashes ≡ [] → Keeps half (record { tree = tree; last = Empty; hashes = hashes })
+  unfolding entries_at
+  sorted_keeps hashes nothing = record {
+    now = subst (λ (es : Items). StandsFor half nothing_held tree es) all_entries stands;
+    before = empty_stands half nothing_held tree.kind tree.nodes 64 [];
+    below = tt;
+    hashes = subst (AreHashes half tree.kind tree.nodes) (sym nothing) (no_hashes half tree.kind tree.nodes);
+  }
 
 -- a hash more
 pub hash_added : (half : Half) (kind : Kind) (nodes : List Body) (hashes : List (Option Hash)) (hash : Option Hash)

@@ -5,6 +5,8 @@ ghost use Rattle.std.specs.List.{range_with_len, filter, list_all, All};
 ghost use Rattle.ledger_spec.specs.declared.Kind.TheVariants.{State, Tx};
 ghost use Rattle.ledger_spec.specs.Bytes.{is_zero, is_nonzero};
 ghost use Rattle.ledger_spec.specs.Maps.{hash_cmp, insert_in};
+ghost use Rattle.ledger_spec.specs.Forms.{data_limit};
+ghost use Rattle.cow_map.specs.Gathered.{entries_of};
 ghost use Rattle.swarm_gen.specs.Plans.{IsPlan};
 ghost use Rattle.swarm_gen.specs.Ledgers.{key as key_of, eight, owners_of, state_of, txs_of, state_nodes};
 ghost use Rattle.swarm_gen.specs.Ledgers.{are_nonzero, is_made, hash_of_ledger};
@@ -323,11 +325,24 @@ fn first_state<H: NodeHash>(
     ensures { IfOk result (λ state. (leaves_in state ≡ State) × (items_in state ≡ state_of H.half plan.now 1)
         × (shown_in H.half state ≡ [])) }
 {
-    let mut state = TrackedMap::<H>::new(alloc, Kind::State);
+    let mut items = Vec::new(alloc);
     for (key, _) in owners {
-        set_number::<H>(alloc, &mut state, *key, 1)?;
+        let data = Blob::from_slice(alloc, &1u64.to_be_bytes())?;
+        push_item(&mut items, *key, data)?;
     }
-    Ok(state)
+    TrackedMap::from_sorted(alloc, Kind::State, items)
+}
+
+/// Puts an item behind the others, where its key isn't zero.
+fn push_item(items: &mut Vec<Item>, key: Hash32, value: Blob) -> Result<(), Memory>
+    requires { length value ≤ data_limit }
+    ensures { OnOk result (entries_of items.new.items
+        ≡ entries_of items.old.items ++ (if is_nonzero key then (key, value) ∷ [] else [])) }
+{
+    if let Ok(item) = Item::new(key, value) {
+        items.push(item)?;
+    }
+    Ok(())
 }
 
 /// The account state of the next ledger.

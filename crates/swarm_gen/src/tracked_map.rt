@@ -1,8 +1,8 @@
 //! Maps of items that tell which of their nodes are others than when they were last asked.
 ghost use Rattle.std.specs.Prelude.{◌≡◌, ◌≢◌, [], map, IfOk, OnOk, OnErr, MatchOption};
-ghost use Rattle.ledger_spec.specs.Maps.{hash_cmp, insert_in};
+ghost use Rattle.ledger_spec.specs.Maps.{hash_cmp, insert_in, IsMap};
 ghost use Rattle.cow_map.specs.Edits.{GrowsBy, SetsItem};
-ghost use Rattle.cow_map.specs.Gathered.{nothing_held};
+ghost use Rattle.cow_map.specs.Gathered.{nothing_held, entries_of};
 ghost use Rattle.swarm_gen.specs.Placed.{nodes_of, changed};
 ghost use Rattle.swarm_gen.specs.Given.{given, IsRoot};
 ghost use Rattle.swarm_gen.specs.Tracking.{leaves_in, items_in, shown_in};
@@ -89,6 +89,22 @@ impl<H: NodeHash> TrackedMap<H> {
             hashes: Vec::new(alloc),
             of: PhantomData,
         }
+    }
+
+    /// The map of items whose keys rise, of which nothing was asked. Each of its nodes is made once.
+    pub fn from_sorted(alloc: Global, kind: Kind, items: Vec<Item>) -> Result<Self, Memory>
+        requires { IsMap hash_cmp (entries_of items.items) }
+        ensures kind { IfOk result (λ m. leaves_in m ≡ kind) }
+        ensures items { IfOk result (λ m. items_in m ≡ entries_of items.items) }
+        ensures shown { IfOk result (λ m. shown_in H.half m ≡ []) }
+    {
+        let tree = CowMap::from_sorted(alloc, kind, items)?;
+        Ok(TrackedMap {
+            tree,
+            shown: Link::Empty,
+            hashes: Vec::new(alloc),
+            of: PhantomData,
+        })
     }
 
     /// Sets an item. Where memory is refused nothing changes.
