@@ -15,8 +15,8 @@ use nib_path::NodeId;
 use shamap_node::Item;
 use std::alloc::Global;
 
-/// Makes an inner node over the items at the end of a list whose keys lie under a place, and takes them off. There are enough of them for an
-/// inner node to stand there.
+/// Makes an inner node over the items at the end of a list whose keys lie under a place, and takes them off. There are enough of them
+/// for an inner node to stand there.
 #[cycle(gather)]
 pub(crate) fn inner_of(
     alloc: Global,
@@ -44,8 +44,8 @@ pub(crate) fn inner_of(
     arena.push_inner(alloc, links)
 }
 
-/// Makes the nodes of the items at the end of a list whose keys lie under a place below the root, and takes them off: none, a leaf, or an inner
-/// node.
+/// Makes the nodes of the items at the end of a list whose keys lie under a place below the root, and takes them off: none, a leaf,
+/// or an inner node.
 #[cycle(gather)]
 fn link_of(
     alloc: Global,
