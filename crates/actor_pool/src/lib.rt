@@ -7,6 +7,3 @@ mod shared;
 
 pub use gate::{Gate, OpenGate, Point};
 pub use pool::run_actors;
-
-#[cfg(test)]
-mod tests;

@@ -2,35 +2,23 @@
 //! it over an empty store, and prints its journal.
 #![tactic(auto)]
 
-mod asking;
-mod dump;
-#[cfg(test)]
-mod rows;
-mod run;
-#[cfg(test)]
-mod scripts;
-mod status;
-#[cfg(test)]
-mod tests;
-
 ghost use Rattle.std.specs.Prelude.{◌≡◌, ◌↔◌, true, ◌∷◌, [], map, IfOk, IfSome, IsNone, string_bytes};
 ghost use Rattle.std.specs.Process.{exit_status};
 ghost use Rattle.run_words.specs.declared.words.Words.{Words};
 ghost use Rattle.run_words.specs.Words.{Says};
-ghost use Rattle.ledger_run.specs.declared.status.TheConstants.{USAGE, REFUSED, SOURCE_FAILED, STORE_FAILED, NO_MEMORY};
-ghost use Rattle.ledger_run.specs.Asking.{Asks, AreCommand, AskForRun, interval_in};
-ghost use Rattle.ledger_run.specs.Top.{IsOneOf, IsWhole, HasStatus};
+ghost use Rattle.top_call.specs.declared.status.TheConstants.{USAGE, REFUSED, SOURCE_FAILED, STORE_FAILED, NO_MEMORY};
+ghost use Rattle.top_call.specs.Asking.{Asks, AreCommand, AskForRun, interval_in};
+ghost use Rattle.top_call.specs.Top.{IsOneOf, IsWhole, HasStatus};
 
 use actor_pool::OpenGate;
 use half_hash::{Half512, NodeHash};
 use node_backend::MemShelf;
-use run::{Ended, ledger_run, without_core};
 use run_io::{StdSink, StdSource};
-use status::NO_MEMORY;
 use std::alloc::AllocError;
 use std::process::ExitCode;
 use std::sync::Wait;
 use std::thread::Threads;
+use top_call::{Ended, NO_MEMORY, ledger_run, without_core};
 use std::{env, io};
 
 fn main(rt: HostRuntime) -> ExitCode {

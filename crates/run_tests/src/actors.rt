@@ -1,0 +1,129 @@
+//! Actors on threads of their own, and the points at which the gate is passed.
+use actor_pool::{Gate, Point, run_actors};
+use half_hash::TinyHash;
+use ledger_machine::{Reply, WantReply};
+use node_backend::MemShelf;
+use run_io::MemSource;
+use script_form::read_script;
+use std::alloc::Global;
+use std::sync::atomic::{AtomicU64, Ordering};
+use std::test::Fail;
+use store_core::Core;
+
+/// How long an actor is held at most.
+const MOST_TURNS: u32 = 100_000_000;
+
+/// Holds each of the first two actors at its first section until the other has come to its own.
+#[derive(Drop)]
+struct Meeting {
+    came: [AtomicU64; 2],
+    gave_up: AtomicU64,
+}
+
+impl Meeting {
+    fn new() -> Meeting {
+        Meeting {
+            came: [AtomicU64::new(0), AtomicU64::new(0)],
+            gave_up: AtomicU64::new(0),
+        }
+    }
+
+    fn hold(&self, mine: &AtomicU64, other: &AtomicU64) {
+        if mine.swap(1, Ordering::SeqCst) == 1 {
+            return;
+        }
+        for _ in 0..MOST_TURNS {
+            if other.load(Ordering::SeqCst) == 1 {
+                return;
+            }
+        }
+        self.gave_up.store(1, Ordering::SeqCst);
+    }
+}
+
+impl Gate for Meeting {
+    fn pass(&self, actor: u8, point: Point) {
+        let [first, second] = &self.came;
+        match (actor, point) {
+            (0, Point::BeforeCommit) => self.hold(first, second),
+            (1, Point::BeforeCommit) => self.hold(second, first),
+            _ => {}
+        }
+    }
+}
+
+/// Counts the sections that recorded an entry, and the points that no section has yet.
+#[derive(Drop)]
+struct Counts {
+    answered: AtomicU64,
+    others: AtomicU64,
+}
+
+impl Gate for Counts {
+    fn pass(&self, _actor: u8, point: Point) {
+        match point {
+            Point::BeforeCommit => {}
+            Point::Answered => {
+                self.answered.fetch_add(1, Ordering::SeqCst);
+            }
+            _ => {
+                self.others.fetch_add(1, Ordering::SeqCst);
+            }
+        }
+    }
+}
+
+/// A core of these lines, over a shelf that never fails.
+fn opened(alloc: Global, lines: &str) -> Result<Core<TinyHash, MemShelf>, Fail> {
+    let bytes = Vec::from_slice(alloc, lines.as_bytes())?;
+    let mut source = MemSource::new(bytes, 500, Vec::new(alloc));
+    let script = read_script::<TinyHash, MemSource>(alloc, &mut source);
+    let script = script.or(Err("no script"))?;
+    let shelf = MemShelf::new(alloc, Vec::new(alloc), Vec::new(alloc));
+    Ok(Core::open(alloc, TinyHash, script, 256, shelf).or(Err("no core"))?)
+}
+
+/// Two actors with one line each.
+const TWO_WANTS: &str =
+    "0 want 1111111111111111111111111111111111111111111111111111111111111111 10\n\
+      1 want 2222222222222222222222222222222222222222222222222222222222222222 11\n";
+
+/// Two actors that wait for each other in turn.
+const IN_TURN: &str = "1 want 1111111111111111111111111111111111111111111111111111111111111111 10\n\
+      0 after 1 want 1111111111111111111111111111111111111111111111111111111111111111 10\n\
+      1 after 2 want 1111111111111111111111111111111111111111111111111111111111111111 10\n";
+
+#[test]
+fn two_actors_run_on_threads_of_their_own(rt: HostRuntime) -> Result<(), Fail> {
+    let alloc = rt.alloc();
+    let core = opened(alloc, TWO_WANTS)?;
+    let gate = Meeting::new();
+    let core = run_actors(&rt, alloc, core, &gate);
+    assert_eq!(rt; gate.gave_up.load(Ordering::SeqCst), 0);
+    let [first, second] = &gate.came;
+    assert_eq!(rt; first.load(Ordering::SeqCst), 1);
+    assert_eq!(rt; second.load(Ordering::SeqCst), 1);
+    assert_eq!(rt; core.journal().len(), 2);
+    for entry in core.journal() {
+        assert!(rt; matches!(&entry.reply, Reply::Want(WantReply::Opened)));
+    }
+    Ok(())
+}
+
+#[test]
+fn lines_wait_for_their_turn(rt: HostRuntime) -> Result<(), Fail> {
+    let alloc = rt.alloc();
+    let core = opened(alloc, IN_TURN)?;
+    let gate = Counts {
+        answered: AtomicU64::new(0),
+        others: AtomicU64::new(0),
+    };
+    let core = run_actors(&rt, alloc, core, &gate);
+    assert_eq!(rt; core.journal().len(), 3);
+    assert_eq!(rt; gate.answered.load(Ordering::SeqCst), 3);
+    assert_eq!(rt; gate.others.load(Ordering::SeqCst), 0);
+    for (entry, number) in core.journal().iter().zip([1, 2, 3]) {
+        assert_eq!(rt; entry.line, number);
+    }
+    Ok(())
+}

@@ -1,0 +1,29 @@
+-- What words ask for lies in its ranges.
+use Rattle.std.proofs.Common.{◌<◌, ◌≤◌, List, arith}
+use Rattle.ledger_spec.specs.Bytes.{Bytes}
+use Rattle.run_words.specs.Words.{Says, Means}
+use Rattle.run_words.specs.declared.words.Words.{Words}
+use Rattle.run_words.specs.declared.words.Words.TheVariants.{Replay, Swarm}
+use Rattle.top_call.specs.Asking.{interval_in, HasPlan, AskForRun}
+
+-- an interval is at least 1
+pub apart_by : (texts : List Bytes) (w : Words) → Says texts w → 0 < interval_in w
+apart_by texts (Replay interval quiet dump) says =
+    let means : Means says.1 (Replay interval quiet dump) = says.4 in
+    let least : 1 ≤ interval = means.0.interval.1.0 in
+    omega (arith, least)
+apart_by texts (Swarm plan quiet dump) says =
+    let means : Means says.1 (Swarm plan quiet dump) = says.4 in
+    let least : 1 ≤ plan.interval = means.0.interval.1.0 in
+    omega (arith, least)
+
+-- a swarm has a plan
+pub planned_by : (texts : List Bytes) (w : Words) → Says texts w → HasPlan w
+planned_by texts (Replay interval quiet dump) says = tt
+planned_by texts (Swarm plan quiet dump) says =
+    let means : Means says.1 (Swarm plan quiet dump) = says.4 in
+    means.0.ranges
+
+-- words that say nothing ask for nothing
+pub asks_nothing : (texts : List Bytes) → ((v : Words) → Says texts v → ⊥) → AskForRun texts → ⊥
+asks_nothing texts none run = none run.asked run.says

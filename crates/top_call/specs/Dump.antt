@@ -1,0 +1,47 @@
+-- What is printed of a dump.
+use Rattle.std.specs.Prelude.{◌≡◌, ℕ, Bool, IsTrue, [], flat_map, Option, Result, Ok, Err}
+use mathlib.Core.List.{IsPrefix}
+use Rattle.ledger_spec.specs.Bytes.{Bytes, Nodes}
+use Rattle.run_io.specs.Bytes.{Wrote, WrotePart}
+use Rattle.run_io.specs.declared.io.AllFault.{AllFault}
+use Rattle.run_io.specs.declared.io.AllFault.TheVariants as sinks
+use Rattle.node_backend.specs.Counts.{held_sum}
+use Rattle.journal_text.specs.Text.{record_text}
+use Rattle.store_core.specs.declared.store.OpenFault.{OpenFault}
+use Rattle.store_core.specs.declared.store.OpenFault.TheVariants as opens
+use Rattle.store_core.specs.Dumping.{records_of}
+use Rattle.top_call.specs.declared.dump.DumpEnd.{DumpEnd}
+use Rattle.top_call.specs.declared.dump.DumpEnd.TheVariants as ends
+use Rattle.top_call.specs.declared.dump.DumpFault.{DumpFault}
+use Rattle.top_call.specs.declared.dump.DumpFault.TheVariants as faults
+
+-- a line for each stored record, hashes rising
+abbrev pub dump_text : Nodes → Bytes
+dump_text nodes = flat_map record_text (records_of nodes)
+
+-- the dump's name for what the core answers, and for what printing meets
+abbrev pub of_open : OpenFault → DumpFault
+of_open opens.Fault = faults.Store
+of_open opens.Memory = faults.Memory
+
+abbrev pub of_sink : AllFault → DumpFault
+of_sink sinks.Fault = faults.Sink
+of_sink sinks.Memory = faults.Memory
+
+-- how many calls were missed, one more where the store failed
+abbrev pub missed_by : Result (Unit {0}) DumpFault → ℕ → ℕ
+missed_by (Err faults.Store) n = held_sum n 1
+missed_by _ n = n
+
+-- what was printed of a dump, by how it ended: where the store tells what it holds it is the whole text, or a front of it
+abbrev pub IsDumped : Bool → Nodes → DumpEnd → Bytes → Type 0
+IsDumped told nodes ends.NotAsked text = text ≡ []
+IsDumped told nodes ends.Whole text = IsTrue told → text ≡ dump_text nodes
+IsDumped told nodes ends.Faulted text = IsTrue told → IsPrefix text (dump_text nodes)
+IsDumped told nodes ends.Cut text = IsTrue told → IsPrefix text (dump_text nodes)
+
+-- what printing a dump leaves in the sink
+abbrev pub Dumps : Bool → Nodes → Option Bytes → Option Bytes → Result (Unit {0}) DumpFault → Type 0
+Dumps told nodes held now (Ok u) = (text : Bytes) × IsDumped told nodes ends.Whole text × Wrote held now text
+Dumps told nodes held now (Err faults.Store) = (text : Bytes) × IsDumped told nodes ends.Faulted text × Wrote held now text
+Dumps told nodes held now (Err e) = (text : Bytes) × IsDumped told nodes ends.Cut text × WrotePart held now text
