@@ -12,6 +12,3 @@ mod verdict;
 
 pub use acquire::Acquire;
 pub use replies::{BaseReply, CheckReply, NodeReply, PeerReply, TickReply};
-
-#[cfg(test)]
-mod tests;

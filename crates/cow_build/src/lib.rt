@@ -5,8 +5,6 @@ mod cut;
 mod items;
 mod order;
 mod repeated;
-#[cfg(test)]
-mod tests;
 mod threads;
 
 pub use items::build;

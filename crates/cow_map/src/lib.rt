@@ -15,8 +15,6 @@ mod remove;
 mod seal;
 mod sorted;
 mod step;
-#[cfg(test)]
-mod tests;
 
 pub use fault::MapFault;
 pub use laws::{

@@ -6,8 +6,6 @@
 mod close;
 mod laws;
 mod session;
-#[cfg(test)]
-mod tests;
 
 pub use close::{Closed, Fields};
 pub use laws::a_session_stays_over_its_ledger;

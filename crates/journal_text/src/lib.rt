@@ -10,6 +10,3 @@ mod sessions;
 mod words;
 
 pub use entry::{line, stored, summary};
-
-#[cfg(test)]
-mod tests;

@@ -9,6 +9,3 @@ mod visits;
 pub use cursor::page;
 pub use laws::a_whole_map_is_paged;
 pub use paging::Page;
-
-#[cfg(test)]
-mod tests;

@@ -162,6 +162,3 @@ fn walk_maps<H: NodeHash, Sh: Shelf>(
     walk::<H, Sh>(alloc, store, Kind::Tx, None, &root, &header.tx_root, found)?;
     Ok(())
 }
-
-#[cfg(test)]
-mod tests;

@@ -14,6 +14,3 @@ pub use header::offer_header;
 pub use laws::a_wanted_node_is_never_bad;
 pub use node::offer;
 pub use spots::{Spot, place, root_in};
-
-#[cfg(test)]
-mod tests;

@@ -7,6 +7,3 @@ mod queue;
 mod rotator;
 
 pub use rotator::{Begun, Left, Rotator};
-
-#[cfg(test)]
-mod tests;

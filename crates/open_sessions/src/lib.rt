@@ -2,7 +2,5 @@
 #![tactic(auto)]
 
 mod open;
-#[cfg(test)]
-mod tests;
 
 pub use open::Open;

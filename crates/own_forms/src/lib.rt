@@ -6,6 +6,3 @@ mod forms;
 mod own;
 
 pub use own::own_form;
-
-#[cfg(test)]
-mod tests;

@@ -23,6 +23,3 @@ pub enum Outcome {
     /// The path ends at the key's leaf, whose data is the value.
     Value,
 }
-
-#[cfg(test)]
-mod tests;

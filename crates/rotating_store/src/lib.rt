@@ -7,6 +7,3 @@ mod source;
 mod store;
 
 pub use store::{Moved, Parts, Put, RotStore, StoreFault, Unopened};
-
-#[cfg(test)]
-mod tests;

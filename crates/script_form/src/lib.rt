@@ -11,8 +11,6 @@ mod line;
 mod records;
 mod script;
 mod store_line;
-#[cfg(test)]
-mod tests;
 mod words;
 
 pub use cause::Cause;

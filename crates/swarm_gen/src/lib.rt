@@ -10,8 +10,6 @@ mod ledgers;
 mod lines;
 mod nodes;
 mod plan;
-#[cfg(test)]
-mod tests;
 mod tracked;
 mod tracked_map;
 mod walk;

@@ -1,12 +1,12 @@
-//! Scripts that the rules alone give, worked out by `tools/make-swarm`.
+//! Scripts that a plan's rules alone give, whose texts `tools/make-swarm` prints.
 ghost use Rattle.swarm_gen.specs.Plans.{IsPlan};
 
-use super::*;
 use half_hash::{Half512, Hash32, NodeHash, TinyHash};
 use ledger_machine::{Command, Line};
 use shamap_node::Kind;
 use std::alloc::Global;
 use std::test::Fail;
+use swarm_gen::{Plan, make};
 
 fn digits(alloc: Global, bytes: &[u8]) -> Result<String, Fail> {
     Ok(hex::encode_upper(alloc, bytes)?)
@@ -113,9 +113,16 @@ fn digest<H: NodeHash>(alloc: Global, plan: &Plan) -> Result<Hash32, Fail>
 /// The first 32 bytes of the SHA-512 of what `tools/make-swarm 1 3 10 1 3 256` prints.
 const REAL: &[u8; 64] = b"4D1CA6B336766FAAB07E115FDF0418AE76D69D55648583181A98D3EBDE5E83C9";
 
+/// The same of `tools/make-swarm 25 4 96 2 5 2 --sum`, of 288 lines, in which ledgers share nodes and rotations stand.
+const SHARED: &[u8; 64] = b"3DAD31BC806186EE5303B957779ABF64F7058E7397D83F6A71761829CD603FA2";
+
+/// The same of `tools/make-swarm 5 3 4 1 3 1 --sum`: the second ledger has a form with the zero hash, which ends the script.
+const CUT: &[u8; 64] = b"A638EF3959BC4916A3B793B48B2ED6E13BBA2F13461DCD50A9A89F4BBB0BC3CD";
+
 #[test]
-fn a_script_of_three_ledgers(rt: HostRuntime) -> Result<(), Fail> {
-    let plan = Plan {
+fn scripts_of_plans(rt: HostRuntime) -> Result<(), Fail> {
+    let alloc = rt.alloc();
+    let mut plan = Plan {
         number: 1,
         ledgers: 3,
         items: 10,
@@ -123,35 +130,11 @@ fn a_script_of_three_ledgers(rt: HostRuntime) -> Result<(), Fail> {
         actors: 3,
         interval: 256,
     };
-    let found = digest::<Half512>(rt.alloc(), &plan)?;
-    assert_eq!(rt; Ok(found), Hash32::from_hex(REAL));
-    Ok(())
-}
-
-/// The same of `tools/make-swarm 0 3 4 1 3 1 --sum`, of 85 lines.
-const TURNS: &[u8; 64] = b"3E473C7DBA083208821B6BF9BF1EF1E200F440D7E190EE3EF092D70EBC6F0669";
-
-#[test]
-fn a_rotation_behind_each_ledger(rt: HostRuntime) -> Result<(), Fail> {
-    let plan = Plan {
-        number: 0,
-        ledgers: 3,
-        items: 4,
-        liars: 1,
-        actors: 3,
-        interval: 1,
-    };
-    let found = digest::<TinyHash>(rt.alloc(), &plan)?;
-    assert_eq!(rt; Ok(found), Hash32::from_hex(TURNS));
-    Ok(())
-}
-
-/// The same of `tools/make-swarm 25 4 96 2 5 2 --sum`, of 288 lines, in which ledgers share nodes.
-const SHARED: &[u8; 64] = b"3DAD31BC806186EE5303B957779ABF64F7058E7397D83F6A71761829CD603FA2";
-
-#[test]
-fn ledgers_that_share_nodes(rt: HostRuntime) -> Result<(), Fail> {
-    let plan = Plan {
+    assert_eq!(rt;
+        Ok(digest::<Half512>(alloc, &plan)?),
+        Hash32::from_hex(REAL)
+    );
+    plan = Plan {
         number: 25,
         ledgers: 4,
         items: 96,
@@ -159,17 +142,11 @@ fn ledgers_that_share_nodes(rt: HostRuntime) -> Result<(), Fail> {
         actors: 5,
         interval: 2,
     };
-    let found = digest::<TinyHash>(rt.alloc(), &plan)?;
-    assert_eq!(rt; Ok(found), Hash32::from_hex(SHARED));
-    Ok(())
-}
-
-/// The same of `tools/make-swarm 5 3 4 1 3 1 --sum`: the second ledger has a form with the zero hash.
-const CUT: &[u8; 64] = b"A638EF3959BC4916A3B793B48B2ED6E13BBA2F13461DCD50A9A89F4BBB0BC3CD";
-
-#[test]
-fn a_ledger_with_a_zero_hash_ends_the_script(rt: HostRuntime) -> Result<(), Fail> {
-    let plan = Plan {
+    assert_eq!(rt;
+        Ok(digest::<TinyHash>(alloc, &plan)?),
+        Hash32::from_hex(SHARED)
+    );
+    plan = Plan {
         number: 5,
         ledgers: 3,
         items: 4,
@@ -177,7 +154,9 @@ fn a_ledger_with_a_zero_hash_ends_the_script(rt: HostRuntime) -> Result<(), Fail
         actors: 3,
         interval: 1,
     };
-    let found = digest::<TinyHash>(rt.alloc(), &plan)?;
-    assert_eq!(rt; Ok(found), Hash32::from_hex(CUT));
+    assert_eq!(rt;
+        Ok(digest::<TinyHash>(alloc, &plan)?),
+        Hash32::from_hex(CUT)
+    );
     Ok(())
 }

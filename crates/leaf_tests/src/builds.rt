@@ -1,0 +1,107 @@
+//! Maps that are made of items at once: two whose keys differ in the last byte, so that an inner node stands at each depth.
+ghost use Rattle.std.specs.Prelude.{IfOk};
+ghost use Rattle.ledger_spec.specs.Maps.{hash_cmp, IsMap};
+ghost use Rattle.cow_map.specs.Gathered.{entries_of};
+
+use crate::words::{first, item};
+use cow_build::{BuildFault, build};
+use cow_map::CowMap;
+use half_hash::{Blob, Half512, Hash32, NodeHash, TinyHash};
+use shamap_node::{Item, Kind};
+use std::alloc::Global;
+use std::cmp::Ordering;
+use std::test::Fail;
+
+/// The root by the ledger's own hash, worked out by the tools' tree of dictionaries; that by byte sums, from two leaves [FA] and [FB]
+/// under 64 inner nodes of E4; and how many forms there are, and how many of inner nodes.
+const DEEP: &str = "C4F871D623DA149FC4FC6A69A567C163C084F0719B55C6BF4A3D96F9983010F1 F5 66 64";
+
+/// The item of this key's first and last byte, with the data 1 2.
+fn ended(alloc: Global, first: u8, last: u8) -> Result<Item, Fail> {
+    let mut bytes = [0; 32];
+    bytes[0] = first;
+    bytes[31] = last;
+    let value = Blob::from_slice(alloc, &[1, 2])?;
+    Ok(Item::new(Hash32 { bytes }, value).ok().ok_or("no item")?)
+}
+
+/// The two items, whose keys rise.
+fn two(alloc: Global) -> Result<Vec<Item>, Fail>
+    ensures { IfOk result (λ items. IsMap hash_cmp (entries_of items.items)) }
+{
+    let low = ended(alloc, 0x10, 0)?;
+    let high = ended(alloc, 0x10, 1)?;
+    let order = low.key().cmp(high.key());
+    let mut items = Vec::new(alloc);
+    items.push(low)?;
+    if order == Ordering::Less {
+        items.push(high)?;
+    }
+    Ok(items)
+}
+
+/// What is sealed of a map.
+fn sealed(alloc: Global, map: &CowMap) -> Result<String, Fail> {
+    let real = map.seal::<Half512>(alloc).ok().ok_or("no seal")?;
+    let sums = map.seal::<TinyHash>(alloc).ok().ok_or("no seal")?;
+    let mut inner: usize = 0;
+    for form in &sums.forms {
+        if form.form.bytes().len() == 516 {
+            inner = inner.saturating_add(1);
+        }
+    }
+    let root = hex::encode_upper(alloc, &real.root.bytes)?;
+    let sum = first(alloc, &sums.root)?;
+    let forms = sums.forms.len();
+    Ok(format!(in alloc; "{root} {sum} {forms} {inner}")?)
+}
+
+/// The two gathered with fifteen empty maps.
+fn gathered(alloc: Global) -> Result<CowMap, Fail> {
+    let mut parts = Vec::new(alloc);
+    for b in 0..16u8 {
+        parts.push(part(alloc, b)?)?;
+    }
+    if parts.len() != 16 {
+        return Err("no sixteen parts".into());
+    }
+    Ok(CowMap::gather(alloc, Kind::State, parts)?)
+}
+
+fn part(alloc: Global, b: u8) -> Result<CowMap, Fail> {
+    if b != 1 {
+        return Ok(CowMap::new(alloc, Kind::State));
+    }
+    Ok(CowMap::from_sorted(alloc, Kind::State, two(alloc)?)?)
+}
+
+#[test]
+fn one_deep_map_however_it_is_made(rt: HostRuntime) -> Result<(), Fail> {
+    let alloc = rt.alloc();
+    let sorted = CowMap::from_sorted(alloc, Kind::State, two(alloc)?)?;
+    assert_eq!(rt; sealed(alloc, &sorted)?.as_str(), DEEP);
+    assert_eq!(rt; sealed(alloc, &gathered(alloc)?)?.as_str(), DEEP);
+    for workers in [1, 5, 16] {
+        let mut items = Vec::new(alloc);
+        items.push(ended(alloc, 0x10, 1)?)?;
+        items.push(ended(alloc, 0x10, 0)?)?;
+        let built = build(&rt, alloc, Kind::State, items, workers);
+        let built = built.ok().ok_or("not built")?;
+        assert_eq!(rt; sealed(alloc, &built)?.as_str(), DEEP, "{workers}");
+    }
+    Ok(())
+}
+
+#[test]
+fn the_least_key_that_stands_twice_is_named(rt: HostRuntime) -> Result<(), Fail> {
+    let alloc = rt.alloc();
+    let mut items = Vec::new(alloc);
+    for key in ["30", "20", "10", "30", "20"] {
+        items.push(item(alloc, key, "01")?)?;
+    }
+    match build(&rt, alloc, Kind::State, items, 4) {
+        Err(BuildFault::Repeated(key)) => assert_eq!(rt; key.bytes[0], 0x20),
+        _ => return Err("built".into()),
+    }
+    Ok(())
+}

@@ -1,0 +1,65 @@
+//! Lines of a journal that the program's own tests don't print.
+use half_hash::{Blob, Hash32};
+use journal_text::line;
+use ledger_machine::{
+    BeginReply, CloseReply, Command, EditReply, Entry, Reply, ViewReply, WantReply,
+};
+use std::alloc::Global;
+use std::test::Fail;
+
+/// What the first line of actor 0 says.
+const LINES: &str = "want toomany 64
+view toomany 1024
+edit toomany 64
+close below floor 7
+close zerohash 4C575200
+close fault
+begin busy
+begin memory";
+
+#[test]
+fn lines_are_printed(rt: HostRuntime) -> Result<(), Fail> {
+    let alloc = rt.alloc();
+    for says in LINES.lines() {
+        let entry = Entry {
+            line: 1,
+            actor: 0,
+            reply: reply(alloc, says)?,
+            used: Vec::new(alloc),
+        };
+        let printed = line(alloc, &command(says), &entry)?;
+        let want = format!(in alloc; "1 0 {says}\n")?;
+        assert_eq!(rt; printed.bytes(), want.as_bytes(), "{says}");
+    }
+    Ok(())
+}
+
+/// A command with the word that the text begins with.
+fn command(says: &str) -> Command {
+    let target = Hash32::zero();
+    match says.split(' ').next() {
+        Some("want") => Command::Want { target, seq: 10 },
+        Some("view") => Command::View { view: 1, target },
+        Some("edit") => Command::Edit { session: 1, target },
+        Some("close") => Command::Close {
+            session: 1,
+            fields: [0; 4],
+        },
+        _ => Command::Begin,
+    }
+}
+
+/// The reply that the text says.
+fn reply(alloc: Global, says: &str) -> Result<Reply, Fail> {
+    Ok(match says {
+        "want toomany 64" => Reply::Want(WantReply::TooMany),
+        "view toomany 1024" => Reply::View(ViewReply::TooMany),
+        "edit toomany 64" => Reply::Edit(EditReply::TooMany),
+        "close below floor 7" => Reply::Close(CloseReply::BelowFloor(7)),
+        "close zerohash 4C575200" => Reply::ZeroHash(Blob::from_slice(alloc, b"LWR\0")?),
+        "close fault" => Reply::Fault,
+        "begin busy" => Reply::Begin(BeginReply::Busy),
+        "begin memory" => Reply::Memory,
+        _ => return Err("another line".into()),
+    })
+}
