@@ -7,6 +7,7 @@ ghost use Rattle.half_hash.specs.Hex.{IsHexOf, HasCause};
 use crate::{Blob, Memory};
 use hex::FromHexError;
 use std::alloc::Global;
+use std::hash::{Hash, Hasher};
 use std::marker::Model;
 use thiserror::Error;
 
@@ -24,6 +25,21 @@ impl Model for Hash32 {
     ghost view = { λ a. a.bytes };
 
     ghost inverse = { λ bytes. record { bytes = bytes } };
+}
+
+// What a hash table asks: the first eight bytes, which are as good as random.
+impl Hash for Hash32 {
+    ghost use Rattle.std.specs.Prelude.{◌∷◌, [], take};
+    ghost use Rattle.std.specs.Cmp.Rules.{hashing};
+    ghost use Rattle.std.proofs.Common.{rules};
+
+    ghost hash_input = { λ hash. take 8 hash ∷ [] };
+
+    ghost respects_eq = { Prim.search (hashing, rules) };
+
+    fn hash<H: Hasher>(&self, state: &mut H) {
+        state.write(&self.bytes[..8]);
+    }
 }
 
 /// Why a text is no hash.
