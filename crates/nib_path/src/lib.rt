@@ -10,6 +10,7 @@ ghost use Rattle.std.specs.Prelude.{IfOk, IfSome, IsNone, ◌↔◌};
 ghost use Rattle.std.specs.List.{list_all};
 ghost use Rattle.nib_path.specs.Paths.{nibbles, nibble_of, first_set_from};
 
+use std::hash::{Hash, Hasher};
 use std::marker::Model;
 use thiserror::Error;
 
@@ -108,6 +109,23 @@ impl Model for NodeId {
     ghost inverse = { inside_of };
 
     ghost inverse_ok = { inside_of-path_of };
+}
+
+// What a hash table asks: the path's first sixteen nibbles, and its length.
+impl Hash for NodeId {
+    ghost use Rattle.std.specs.Prelude.{◌++◌, ◌∷◌, [], length, take};
+    ghost use Rattle.std.specs.Cmp.Rules.{hashing};
+    ghost use Rattle.std.proofs.Common.{rules};
+    ghost use Rattle.nib_path.specs.Paths.{id_of};
+
+    ghost hash_input = { λ path. take 8 (id_of path) ∷ (length path ∷ []) ∷ [] };
+
+    ghost respects_eq = { Prim.search (hashing, rules) };
+
+    fn hash<H: Hasher>(&self, state: &mut H) {
+        state.write(&self.id[..8]);
+        state.write(&[self.depth]);
+    }
 }
 
 impl NodeId {

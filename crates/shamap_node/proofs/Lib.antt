@@ -1,3 +1,4 @@
+pub mod Crossing
 pub mod Inners
 pub mod Reading
 pub mod Seen
