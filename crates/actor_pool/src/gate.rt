@@ -1,4 +1,5 @@
-//! Places in a run at which whoever hands in a gate is told of each actor.
+//! Points of an actor's run, and the gate that is handed in and told of them. A run passes it before each section on the core and after
+//! each that recorded an entry; the other points are of reads outside the lock and of slices, which no run has yet.
 
 /// Where an actor stands. No lock is held there.
 #[derive(Clone, Copy, Debug, PartialEq, Eq)]

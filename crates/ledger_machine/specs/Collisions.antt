@@ -90,6 +90,3 @@ abbrev pub is_clash : Reply → Bool
 is_clash (says.Clash h old new) = true
 is_clash (says.ZeroHash form) = true
 is_clash _ = false
-
-abbrev pub IsClash : Reply → Type 0
-IsClash reply = IsTrue (is_clash reply)

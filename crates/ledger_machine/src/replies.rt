@@ -131,7 +131,7 @@ pub enum SwapReply {
     Idle,
 }
 
-/// The answer to a command. Any command may meet a fault of the store or want memory; a `Clash` is a
+/// The answer to a command. Any command but `tick`, `unview` and `abandon` may meet a fault of the store or want memory; a `Clash` is a
 /// form under a hash that already has another form, and a `ZeroHash` a form whose hash is zero.
 #[derive(Drop)]
 pub enum Reply {

@@ -1,5 +1,5 @@
-//! `ledger_run replay` reads a script from standard input, `ledger_run swarm` makes one from a plan; it runs
-//! it over an empty store, and prints its journal.
+//! `ledger_run replay` reads a script from standard input, `ledger_run swarm` makes one from a plan. It is run over a store that has the
+//! script's records and nothing else, and its journal is printed.
 #![tactic(auto)]
 
 ghost use Rattle.std.specs.Prelude.{◌≡◌, ◌↔◌, true, ◌∷◌, [], map, IfOk, IfSome, IsNone, string_bytes};

@@ -44,7 +44,3 @@ Means o (Swarm plan quiet dump) = MeansSwarm o plan × (quiet ≡ o.quiet) × (d
 -- the words behind the program's name say these values: the command, and behind it its options
 abbrev pub Says : List Bytes → Words → Type 0
 Says words w = (rest : List Bytes) × (o : Options) × (words ≡ command_word w ∷ rest) × Gives rest no_options o × Means o w
-
--- words of the grammar
-abbrev pub IsCommandLine : List Bytes → Type 0
-IsCommandLine words = (w : Words) × Says words w

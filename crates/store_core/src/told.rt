@@ -1,4 +1,4 @@
-//! The machine's names for what an acquisition answers.
+//! The machine's names for what an acquisition, a search and a rotation answer.
 ghost use Rattle.std.specs.Prelude.{◌≡◌};
 ghost use Rattle.store_core.specs.Refusals.{refusal_of, search_refusal};
 ghost use Rattle.store_core.specs.Wanting as told;
