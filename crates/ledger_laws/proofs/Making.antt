@@ -1,13 +1,15 @@
 -- The forms of a map's tree, where they are stored under their halves and none of these is zero: they are forms of nodes, and the tree
 -- is whole.
-use Rattle.std.proofs.Common.{◌≡◌, ◌≢◌, ℕ, zero, suc, ◌+◌, ◌<◌, ◌≤◌, ◌==◌, ◌||◌, if◌then◌else◌, not, Bool}
-use Rattle.std.proofs.Common.{true, false, IsTrue, List, [], ◌∷◌, ◌++◌}
+use Rattle.std.proofs.Common.{◌≡◌, ◌≢◌, ℕ, zero, suc, ◌+◌, ◌<◌, ◌≤◌, ◌==◌, ◌||◌, ◌&&◌, if◌then◌else◌, not, nat_le, cond, Bool}
+use Rattle.std.proofs.Common.{true, false, IsTrue, List, [], ◌∷◌, ◌++◌, count_by, slice_index_or}
 use Rattle.std.proofs.Common.{length, map, get_or, Option, None, Some, Contains, refl, sym, ap, ◌∙◌, subst, arith, length-append}
+use Rattle.std.proofs.lemmas.Bool.{leb-true}
+use Rattle.std.proofs.lemmas.List.Recursion.{is_count_by}
 use Rattle.std.proofs.lemmas.Bool.{eqb-true, false≢true}
 use Rattle.std.proofs.lemmas.List.FromFn.{get_or-map-range_with_len, get_or-range_with_len}
 use Rattle.std.proofs.lemmas.List.Elements.{Contains-append_left, Contains-append_right, Contains-append_cases}
 use Rattle.std.proofs.Common.{⊎_elim}
-use Rattle.std.specs.List.{AllByRecursion, flat_map, list_any}
+use Rattle.std.specs.List.{AllByRecursion, flat_map, list_any, range_with_len}
 use Rattle.std.specs.List.Sorted.{IsStrictlySortedBy}
 use Rattle.std.specs.Ordering.{is_eq}
 use Rattle.nib_path.specs.Paths.{lies_under}
@@ -15,17 +17,17 @@ use Rattle.ledger_spec.specs.Maps.{hash_cmp, IsMap}
 use Rattle.ledger_spec.specs.declared.Kind.{Kind}
 use Rattle.ledger_spec.specs.declared.Kind.TheVariants.{State, Tx, Set}
 use Rattle.ledger_spec.specs.declared.ShapeFault.{ShapeFault}
-use Rattle.ledger_spec.specs.declared.ShapeFault.TheVariants.{WrongKind, LeafElsewhere, LeafAtRoot, InnerAtBottom}
+use Rattle.ledger_spec.specs.declared.ShapeFault.TheVariants.{WrongKind, LeafElsewhere, LoneLeaf, LeafAtRoot, InnerAtBottom}
 use Rattle.ledger_spec.specs.Bytes.{Bytes, Hash, Half, IsHalf, Lookup, Items, zero_hash, is_zero, is_nonzero, are_bytes, branches}
 use Rattle.ledger_spec.specs.Forms.{Held, inner, leaf, IsHeld, IsItem, IsInner, Form, form_of, leaf_form, leaf_prefix, inner_prefix}
 use Rattle.ledger_spec.specs.Forms.{hash_or_zero}
-use Rattle.ledger_spec.specs.Rules.{fault_of, same_kind}
-use Rattle.ledger_spec.specs.Findings.{sound, sight_of, judged, seen_as}
+use Rattle.ledger_spec.specs.Rules.{fault_of, same_kind, is_lone}
+use Rattle.ledger_spec.specs.Findings.{Finding, sound, sight_of, judged, seen_as}
 use Rattle.ledger_spec.specs.Tree.{Entry, IsByteEntry, AreItems, part, is_alone, form_of_part, forms_of_part, form_at, root_of, forms_of}
 use Rattle.ledger_spec.proofs.ByteForms.{bytes_join}
 use Rattle.ledger_spec.proofs.Readings.{sees}
-use Rattle.tree_laws.specs.Walks.{found_below}
-use Rattle.tree_laws.proofs.Below.{below_zero}
+use Rattle.tree_laws.specs.Walks.{at_place, found_below, found_in}
+use Rattle.tree_laws.proofs.Below.{below_zero, below_end, below_inner}
 use Rattle.tree_laws.proofs.ByteItems.{keys_of_items}
 use Rattle.tree_laws.proofs.Joins.{in_one, in_join, in_range, join_has}
 use Rattle.tree_laws.proofs.MapPages.{all_under, map_kept, part_branches}
@@ -33,12 +35,6 @@ use Rattle.tree_laws.proofs.Parts.{filter_all}
 use Rattle.tree_laws.proofs.Shapes.{key_size}
 use Rattle.tree_laws.proofs.Subtrees.{form_none, form_bottom, form_alone, form_fork, forms_none, forms_bottom, forms_alone, forms_fork}
 use Rattle.tree_laws.proofs.Trees.{alone_nil, at_itself, concat_map, each_in_part, kid_hash, size_or_zero, sizes_map, under_whole}
-use Rattle.cow_map.specs.declared.link.Link.{Link}
-use Rattle.cow_map.specs.declared.link.Link.TheVariants.{Empty, Unloaded}
-use Rattle.cow_map.specs.Bodies.{CowTree}
-use Rattle.cow_map.specs.Trees.{one, fork, found_at, found_held, found_seen, fewest, link_to, StandsAt, StandsFor}
-use Rattle.cow_map.specs.Unloaded.{EachLeft, IsLeftWhole}
-use Rattle.cow_map.proofs.Standing.{stands_from}
 use Rattle.ledger_laws.proofs.SoundForms.{IsByteForm, in_nothing}
 
 -- two keys under a path of 64 nibbles don't rise
@@ -76,13 +72,86 @@ kind_itself State = refl
 kind_itself Tx = refl
 kind_itself Set = refl
 
--- a leaf of the map's kind on its way, below the root, breaks no rule without a parent
-leaf_fits : (a b c : Bool) (w r e : ShapeFault) → a ≡ true → b ≡ false → c ≡ true
-    → (if not a then Some w else if b then Some r else if not c then Some e else None) ≡ None
-leaf_fits true false true w r e x y z = refl
-leaf_fits false b c w r e x y z = cc
-leaf_fits true true c w r e x y z = cc
-leaf_fits true false false w r e x y z = cc
+-- a leaf of the map's kind on its way, below the root and not lone, breaks no rule
+leaf_fits : (a b c d : Bool) (w r e l : ShapeFault) → a ≡ true → b ≡ false → c ≡ true → d ≡ false
+    → (if not a then Some w else if b then Some r else if not c then Some e else if d then Some l else None) ≡ None
+leaf_fits true false true false w r e l x y z u = refl
+leaf_fits true false true true w r e l x y z u = cc
+leaf_fits false b c d w r e l x y z u = cc
+leaf_fits true true c d w r e l x y z u = cc
+leaf_fits true false false d w r e l x y z u = cc
+
+both_true : (a b : Bool) → (a && b) ≡ true → (a ≡ true) × (b ≡ true)
+both_true true true e = (refl, refl)
+both_true true false e = cc
+both_true false b e = cc
+
+-- how many of the hashes aren't zero
+abbrev nonzeros : List Hash → ℕ
+nonzeros [] = 0
+nonzeros (h ∷ hs) = cond (is_nonzero h) (1 + nonzeros hs) (nonzeros hs)
+
+nonzeros_by : (hs : List Hash) → nonzeros hs ≡ count_by is_nonzero hs
+nonzeros_by = is_count_by nonzeros is_nonzero refl (λ x xs. refl)
+
+-- where only branches with a hash have entries: none where no branch has a hash
+none_counted : (f : ℕ → Hash) (k : ℕ → List Entry) (bs : List ℕ)
+    → ((c : ℕ) → Contains bs c → is_nonzero (f c) ≡ false → k c ≡ []) → nonzeros (map f bs) ≡ 0
+    → (flat_map k bs ≡ []) × ((c : ℕ) → Contains bs c → is_nonzero (f c) ≡ false)
+none_counted f k [] each count = (refl, λ c there. absurd (in_nothing there))
+none_counted f k (b ∷ bs) each count =
+    by (is_nonzero (f b)) refl count
+    (none_counted f k bs (λ c there. each c (suc there.0, omega (arith, there.1), there.2)))
+  where
+    Rest : Type 0
+    Rest = nonzeros (map f bs) ≡ 0 → (flat_map k bs ≡ []) × ((c : ℕ) → Contains bs c → is_nonzero (f c) ≡ false)
+
+    at : is_nonzero (f b) ≡ false → ((c : ℕ) → Contains bs c → is_nonzero (f c) ≡ false)
+        → (c n : ℕ) → n < length (b ∷ bs) → get_or (b ∷ bs) n c ≡ c → is_nonzero (f c) ≡ false
+    at is later c zero low is_b = ap (λ x. is_nonzero (f x)) (sym is_b) ∙ is
+    at is later c (suc n) low is_c = later c (n, omega (arith, low), is_c)
+
+    by : (t : Bool) → is_nonzero (f b) ≡ t → cond t (1 + nonzeros (map f bs)) (nonzeros (map f bs)) ≡ 0 → Rest
+        → (flat_map k (b ∷ bs) ≡ []) × ((c : ℕ) → Contains (b ∷ bs) c → is_nonzero (f c) ≡ false)
+    by true is none rest_of = absurd (omega (arith, none))
+    by false is none rest_of =
+        let rest = rest_of none in
+        let first : k b ≡ [] = each b (0, omega arith, refl) is in
+        ((λ i. first i ++ rest.0 i), λ c there. at is rest.1 c there.0 there.1 there.2)
+
+-- and only those of the one branch where one has a hash
+one_counted : (f : ℕ → Hash) (k : ℕ → List Entry) (bs : List ℕ)
+    → ((c : ℕ) → Contains bs c → is_nonzero (f c) ≡ false → k c ≡ []) → nonzeros (map f bs) ≡ 1
+    → (b : ℕ) → Contains bs b → is_nonzero (f b) ≡ true → length (flat_map k bs) ≡ length (k b)
+one_counted f k [] each count b there some = absurd (in_nothing there)
+one_counted f k (a ∷ bs) each count b there some =
+    by (is_nonzero (f a)) refl count there.0 there.1 there.2 (λ one at. one_counted f k bs later one b at some)
+  where
+    later : (c : ℕ) → Contains bs c → is_nonzero (f c) ≡ false → k c ≡ []
+    later c at = each c (suc at.0, omega (arith, at.1), at.2)
+
+    by : (t : Bool) → is_nonzero (f a) ≡ t → cond t (1 + nonzeros (map f bs)) (nonzeros (map f bs)) ≡ 1
+        → (n : ℕ) → n < length (a ∷ bs) → get_or (a ∷ bs) n b ≡ b
+        → (nonzeros (map f bs) ≡ 1 → Contains bs b → length (flat_map k bs) ≡ length (k b))
+        → length (flat_map k (a ∷ bs)) ≡ length (k b)
+    by true is one zero low at deeper =
+        let none = none_counted f k bs later (omega (arith, one)) in
+        let all : flat_map k (a ∷ bs) ≡ k a ++ [] = ap (λ (l : List Entry). k a ++ l) none.0 in
+        ap length all ∙ length-append (k a) [] ∙ omega arith ∙ ap (λ x. length (k x)) at
+    by true is one (suc n) low at deeper =
+        let none = none_counted f k bs later (omega (arith, one)) in
+        absurd (false≢true (sym (none.1 b (n, omega (arith, low), at)) ∙ some))
+    by false is one zero low at deeper = absurd (false≢true (sym is ∙ ap (λ x. is_nonzero (f x)) at ∙ some))
+    by false is one (suc n) low at deeper =
+        let first : k a ≡ [] = each a (0, omega arith, refl) is in
+        ap (λ (l : List Entry). length (l ++ flat_map k bs)) first ∙ deeper one (n, omega (arith, low), at)
+
+flat_none : (f : ℕ → List Finding) (n a : ℕ) → ((b : ℕ) → a ≤ b → b < a + n → f b ≡ []) → flat_map f (range_with_len a n) ≡ []
+flat_none f zero a none_of = refl
+flat_none f (suc n) a none_of =
+    let rest : flat_map f (range_with_len (a + 1) n) ≡ [] =
+    flat_none f n (a + 1) (λ b low high. none_of b (omega arith) (omega arith)) in
+    ap (λ xs. xs ++ flat_map f (range_with_len (a + 1) n)) (none_of a (omega arith) (omega arith)) ∙ rest
 
 not_zero : (n : ℕ) → 0 < n → (n == 0) ≡ false
 not_zero n some = by (n == 0) refl
@@ -116,12 +185,6 @@ nonzero_is h e = by (is_zero h) refl
     by : (t : Bool) → is_zero h ≡ t → t ≡ false
     by true is = let no : not true ≡ true = sym (ap not is) ∙ e in absurd (false≢true no)
     by false is = refl
-
-link_of : (h : Hash) → is_zero h ≡ false → link_to h ≡ Unloaded h
-link_of h z = ap (λ (t : Bool). if t then Empty else Unloaded h) z
-
-link_none : link_to zero_hash ≡ Empty
-link_none = refl
 
 -- all lies under the top
 top_part : (items : Items) → part items [] ≡ items
@@ -346,104 +409,141 @@ module _ (half : Half) (sized : IsHalf half) (kind : Kind) (items : Items) (are 
     AllKept left path =
         (form : Bytes) → Contains (forms_here left path) form → (nodes (half form) ≡ Some form) × IsTrue (is_nonzero (half form))
 
-    abbrev Stands : ℕ → List ℕ → Type 0
-    Stands left path =
-        StandsAt half nodes kind [] left path (link_to (hash_or_zero half (form_here left path))) (here path)
+    -- nothing is missing or broken at a path, below this inner node
+    abbrev Clean : ℕ → Option (List Hash) → List ℕ → Type 0
+    Clean left parent path = found_below half nodes kind left parent path (hash_or_zero half (form_here left path)) ≡ []
 
-    none_stands : (left : ℕ) (path : List ℕ) → here path ≡ [] → Stands left path
-    none_stands left path none =
-        stands_from half nodes kind [] left path (link_to (hash_or_zero half (form_here left path))) (here path) _
-        (ap (λ o. found_at half nodes kind [] path (link_to (hash_or_zero half o)))
-        (ap (form_of_part half kind items left path) none ∙ form_none half kind items left path)) none
+    -- the leaf at a path is lone only where it isn't the one entry
+    abbrev NotLone : Option (List Hash) → List ℕ → Type 0
+    NotLone parent path = is_lone parent path ≡ true → length (here path) ≢ 1
+
+    none_clean : (left : ℕ) (parent : Option (List Hash)) (path : List ℕ) → here path ≡ [] → Clean left parent path
+    none_clean left parent path none =
+        below_zero half nodes kind left parent path (hash_or_zero half (form_here left path))
+        (ap (λ o. is_zero (hash_or_zero half o)) (ap (form_of_part half kind items left path) none ∙ form_none half kind items left path))
 
     -- what is seen where a node's form is stored
-    seen : (path : List ℕ) (form : Bytes) (n : Held) → nodes (half form) ≡ Some form → Form half n form
-        → fault_of n None kind path ≡ None
-        → sight_of half (λ m. fault_of m None kind path) (nodes (half form)) ≡ sound n
-    seen path form n stored is fine =
-        ap (sight_of half (λ m. fault_of m None kind path)) stored
-        ∙ ap (judged (λ m. fault_of m None kind path)) (sees half n form is) ∙ ap (seen_as n) fine
+    seen : (parent : Option (List Hash)) (path : List ℕ) (form : Bytes) (n : Held) → nodes (half form) ≡ Some form → Form half n form
+        → fault_of n parent kind path ≡ None → at_place half nodes kind parent path (half form) ≡ sound n
+    seen parent path form n stored is fine =
+        ap (sight_of half (λ m. fault_of m parent kind path)) stored
+        ∙ ap (judged (λ m. fault_of m parent kind path)) (sees half n form is) ∙ ap (seen_as n) fine
 
-    -- what the link to a stored form leads to
-    found : (left : ℕ) (path : List ℕ) (form : Bytes) (n : Held) → form_here left path ≡ Some form → nodes (half form) ≡ Some form
-        → IsTrue (is_nonzero (half form)) → Form half n form → fault_of n None kind path ≡ None
-        → found_at half nodes kind [] path (link_to (hash_or_zero half (form_here left path)))
-        ≡ found_held n
-    found left path form n is stored nonzero fit fine =
-        ap (λ o. found_at half nodes kind [] path (link_to (hash_or_zero half o))) is
-        ∙ ap (found_at half nodes kind [] path) (link_of (half form) (nonzero_is (half form) nonzero))
-        ∙ ap (found_seen (half form)) (seen path form n stored fit fine)
-
-    leaf_stands : (left : ℕ) (path : List ℕ) (e : Entry) → 0 < length path → here path ≡ e ∷ []
-        → form_here left path ≡ Some (leaf_form kind e.0 e.1) → nodes (half (leaf_form kind e.0 e.1)) ≡ Some (leaf_form kind e.0 e.1)
-        → IsTrue (is_nonzero (half (leaf_form kind e.0 e.1))) → Stands left path
-    leaf_stands left path e low is form_is stored nonzero =
+    leaf_clean : (left : ℕ) (parent : Option (List Hash)) (path : List ℕ) (e : Entry) → 0 < length path → here path ≡ e ∷ []
+        → NotLone parent path → form_here left path ≡ Some (leaf_form kind e.0 e.1)
+        → nodes (half (leaf_form kind e.0 e.1)) ≡ Some (leaf_form kind e.0 e.1)
+        → IsTrue (is_nonzero (half (leaf_form kind e.0 e.1))) → Clean left parent path
+    leaf_clean left parent path e low is apart form_is stored nonzero =
         let held = subst (λ (l : Items). AllByRecursion (λ (x : Entry). IsHeld half (leaf kind x.0 x.1)) l) is (held_here path) in
         let under = subst (λ (l : Items). AllByRecursion (λ (x : Entry). lies_under path x.0 ≡ true) l) is (all_under path items) in
-        stands_from half nodes kind [] left path (link_to (hash_or_zero half (form_here left path))) (here path) (one e.0 e.1)
-        (found left path (leaf_form kind e.0 e.1) (leaf kind e.0 e.1) form_is stored nonzero (held.0, refl)
-        (leaf_fits (same_kind kind kind) (length path == 0) (lies_under path e.0) WrongKind LeafAtRoot (LeafElsewhere e.0)
-        (kind_itself kind) (not_zero (length path) low) under.0))
-        (record { item = item_held half kind e.0 e.1 held.0; under = under.0; alone = is })
-
-    stands : (left : ℕ) (path : List ℕ) → length path + left ≡ 64 → AllKept left path → Stands left path
-    stands zero path size kept = by (here path) refl
+        let fine : fault_of (leaf kind e.0 e.1) parent kind path ≡ None =
+        leaf_fits (same_kind kind kind) (length path == 0) (lies_under path e.0) (is_lone parent path) WrongKind LeafAtRoot
+        (LeafElsewhere e.0) LoneLeaf (kind_itself kind) (not_zero (length path) low) under.0 (by (is_lone parent path) refl) in
+        ap (λ o. found_below half nodes kind left parent path (hash_or_zero half o)) form_is
+        ∙ below_end half nodes kind left parent path (half (leaf_form kind e.0 e.1)) (sound (leaf kind e.0 e.1))
+        (nonzero_is (half (leaf_form kind e.0 e.1)) nonzero)
+        (sym (seen parent path (leaf_form kind e.0 e.1) (leaf kind e.0 e.1) stored (held.0, refl) fine)) (λ each. refl)
       where
-        by : (there : List Entry) → here path ≡ there → Stands zero path
-        by [] is = none_stands zero path is
+        by : (t : Bool) → is_lone parent path ≡ t → is_lone parent path ≡ false
+        by true lone = absurd (apart lone (ap length is))
+        by false fine = fine
+
+    -- a branch with one entry isn't the only one that has a hash, below the root's branches
+    branch_apart : (left : ℕ) (path : List ℕ) (e : Entry) (others : List Entry) → length path + suc left ≡ 64 → here path ≡ e ∷ others
+        → is_alone path others ≡ false → ((b : ℕ) → b < 16 → AllKept left (path ++ b ∷ [])) → (b : ℕ) → b < 16
+        → NotLone (Some (map (kid_hash half kind items left path) branches)) (path ++ b ∷ [])
+    branch_apart left path e others size is many kept_at b low lone alone =
+        let hash : ℕ → Hash = kid_hash half kind items left path in
+        let both = both_true (nat_le 2 (length (path ++ b ∷ []))) (count_by is_nonzero (map hash branches) == 1) lone in
+        let deep : 2 ≤ length path + 1 = omega (arith, leb-true 2 (length (path ++ b ∷ [])) both.0, length-append path (b ∷ [])) in
+        let one : nonzeros (map hash branches) ≡ 1 =
+        nonzeros_by (map hash branches) ∙ eqb-true (count_by is_nonzero (map hash branches)) 1 both.1 in
+        let joined : length (here path) ≡ length (flat_map (λ d. here (path ++ d ∷ [])) branches) =
+        ap length (part_branches path items (omega (arith, size)) are.rising (keys_of_items half kind items are.each are.bytes)) in
+        let only : length (flat_map (λ d. here (path ++ d ∷ [])) branches) ≡ length (here (path ++ b ∷ [])) =
+        one_counted hash (λ d. here (path ++ d ∷ [])) branches
+        (λ c there zero. zero_part left (path ++ c ∷ []) (λ form among. (kept_at c (in_16 c there) form among).1) zero)
+        one b (in_range 16 0 b (omega arith) low) (some (here (path ++ b ∷ [])) refl) in
+        two path others (omega (arith, deep)) many (omega (arith, ap length is, joined, only, alone))
+      where
+        some : (there : List Entry) → here (path ++ b ∷ []) ≡ there → is_nonzero (kid_hash half kind items left path b) ≡ true
+        some [] none = absurd (omega (arith, ap length none, alone))
+        some (x ∷ xs) has =
+            let form = form_there left (path ++ b ∷ []) x xs has in
+            ap (λ o. is_nonzero (hash_or_zero half o)) form.1 ∙ (kept_at b low form.0 form.2).1
+
+        two : (path : List ℕ) (others : List Entry) → 0 < length path → is_alone path others ≡ false → length others ≡ 0 → ⊥
+        two [] others below many none = omega (arith, below)
+        two (n ∷ path) [] below many none = false≢true (sym many)
+        two (n ∷ path) (x ∷ others) below many none = omega (arith, none)
+
+    -- where everything is stored, nothing is found below an inner node
+    fork_clean : (left : ℕ) (parent : Option (List Hash)) (path : List ℕ) (e : Entry) (others : List Entry) → length path + suc left ≡ 64
+        → here path ≡ e ∷ others → is_alone path others ≡ false → AllKept (suc left) path
+        → ((over : Option (List Hash)) (b : ℕ) → b < 16 → AllKept left (path ++ b ∷ []) → NotLone over (path ++ b ∷ [])
+        → Clean left over (path ++ b ∷ [])) → Clean (suc left) parent path
+    unfolding found_in
+    fork_clean left parent path e others size is many kept deeper =
+        let own = kept above (subst (λ (fs : List Bytes). Contains fs above)
+        (sym (ap (forms_of_part half kind items (suc left) path) is ∙ forms_fork half kind items left path e others many))
+        (Contains-append_right (flat_map (λ b. forms_here left (path ++ b ∷ [])) branches) (above ∷ []) above (0, omega arith, refl))) in
+        let form_is : form_here (suc left) path ≡ Some above =
+        ap (form_of_part half kind items (suc left) path) is ∙ form_fork half kind items left path e others many in
+        ap (λ o. found_below half nodes kind (suc left) parent path (hash_or_zero half o)) form_is
+        ∙ below_inner half nodes kind left parent path (half above) hashes (nonzero_is (half above) own.1)
+        (sym (seen parent path above (inner hashes) own.0
+        (inner_is left path e others size is (λ b low f there. (kept_at b low f there).1), inner_form left path)
+        (ap (λ (t : Bool). if t then Some InnerAtBottom else None) (below_64 (length path) (omega (arith, size))))))
+        ∙ in_none
+      where
+        hashes : List Hash
+        hashes = map (kid_hash half kind items left path) branches
+
+        above : Bytes
+        above = inner_prefix ++ flat_map (kid_hash half kind items left path) branches
+
+        kept_at : (b : ℕ) → b < 16 → AllKept left (path ++ b ∷ [])
+        kept_at b low f there = kept f (kid_among left path e others is many b low f there)
+
+        at_branch : (b : ℕ) → b < 16
+            → found_below half nodes kind left (Some hashes) (path ++ b ∷ []) (slice_index_or hashes b zero_hash) ≡ []
+        at_branch b low =
+            ap (found_below half nodes kind left (Some hashes) (path ++ b ∷ []))
+            (get_or-map-range_with_len (kid_hash half kind items left path) 0 16 b b zero_hash low (omega arith))
+            ∙ deeper (Some hashes) b low (kept_at b low) (branch_apart left path e others size is many kept_at b low)
+
+        in_none : found_in half nodes kind left hashes path 16 ≡ []
+        in_none = flat_none
+            (λ b. found_below half nodes kind left (Some hashes) (path ++ b ∷ []) (slice_index_or hashes b zero_hash)) 16 0
+            (λ b from to. at_branch b (omega (arith, to)))
+
+    clean : (left : ℕ) (parent : Option (List Hash)) (path : List ℕ) → length path + left ≡ 64 → AllKept left path → NotLone parent path
+        → Clean left parent path
+    clean zero parent path size kept apart = by (here path) refl
+      where
+        by : (there : List Entry) → here path ≡ there → Clean zero parent path
+        by [] is = none_clean zero parent path is
         by (e ∷ others) is =
             let lone : here path ≡ e ∷ [] =
             is ∙ ap (λ (l : List Entry). e ∷ l) (bottom_alone path e others (omega (arith, size)) is) in
             let form_is = ap (form_of_part half kind items zero path) is ∙ form_bottom half kind items path e others in
             let there = kept (leaf_form kind e.0 e.1) (subst (λ (fs : List Bytes). Contains fs (leaf_form kind e.0 e.1))
             (sym (ap (forms_of_part half kind items zero path) is ∙ forms_bottom half kind items path e others)) (0, omega arith, refl)) in
-            leaf_stands zero path e (omega (arith, size)) lone form_is there.0 there.1
-    stands (suc left) path size kept =
-        by (here path) refl (λ b low there. stands left (path ++ b ∷ []) (omega (arith, size, length-append path (b ∷ []))) there)
+            leaf_clean zero parent path e (omega (arith, size)) lone apart form_is there.0 there.1
+    clean (suc left) parent path size kept apart =
+        by (here path) refl
+        (λ over b low there fine. clean left over (path ++ b ∷ []) (omega (arith, size, length-append path (b ∷ []))) there fine)
       where
         Deeper : Type 0
-        Deeper = (b : ℕ) → b < 16 → AllKept left (path ++ b ∷ []) → Stands left (path ++ b ∷ [])
+        Deeper = (over : Option (List Hash)) (b : ℕ) → b < 16 → AllKept left (path ++ b ∷ []) → NotLone over (path ++ b ∷ [])
+            → Clean left over (path ++ b ∷ [])
 
-        forked : (e : Entry) (others : List Entry) → here path ≡ e ∷ others → is_alone path others ≡ false → Deeper
-            → Stands (suc left) path
-        forked e others is many deeper =
-            let hashes : List Hash = map (kid_hash half kind items left path) branches in
-            let above : Bytes = inner_prefix ++ flat_map (kid_hash half kind items left path) branches in
-            let kept_at : (b : ℕ) → b < 16 → AllKept left (path ++ b ∷ []) =
-            λ b low f there. kept f (kid_among left path e others is many b low f there) in
-            let form_is : form_here (suc left) path ≡ Some above =
-            ap (form_of_part half kind items (suc left) path) is ∙ form_fork half kind items left path e others many in
-            let own = kept above (subst (λ (fs : List Bytes). Contains fs above)
-            (sym (ap (forms_of_part half kind items (suc left) path) is ∙ forms_fork half kind items left path e others many))
-            (Contains-append_right (flat_map (λ b. forms_here left (path ++ b ∷ [])) branches) (above ∷ []) above
-            (0, omega arith, refl))) in
-            stands_from half nodes kind [] (suc left) path (link_to (hash_or_zero half (form_here (suc left) path))) (here path)
-            (fork (map link_to hashes))
-            (found (suc left) path above (inner hashes) form_is own.0 own.1
-            (inner_is left path e others size is (λ b low f there. (kept_at b low f there).1), inner_form left path)
-            (ap (λ (t : Bool). if t then Some InnerAtBottom else None) (below_64 (length path) (omega (arith, size)))))
-            (record {
-              width = refl;
-              kids = λ b. here (path ++ b ∷ []);
-              joined = part_branches path items (omega (arith, size)) are.rising (keys_of_items half kind items are.each are.bytes);
-              each = λ b low. subst (λ (l : Link). StandsAt half nodes kind [] left (path ++ b ∷ []) l (here (path ++ b ∷ [])))
-                  (sym (get_or-map-range_with_len (λ c. link_to (kid_hash half kind items left path c)) 0 16 b b Empty low (omega arith)))
-                  (deeper b low (kept_at b low));
-              enough = enough path e others is many;
-            })
-          where
-            enough : (path : List ℕ) (e : Entry) (others : List Entry) → here path ≡ e ∷ others → is_alone path others ≡ false
-                → fewest path ≤ length (here path)
-            enough [] e others is many = omega (arith, ap length is)
-            enough (n ∷ path) e [] is many = absurd (false≢true (sym many))
-            enough (n ∷ path) e (x ∷ others) is many = omega (arith, ap length is)
-
-        by : (there : List Entry) → here path ≡ there → Deeper → Stands (suc left) path
-        by [] is deeper = none_stands (suc left) path is
+        by : (there : List Entry) → here path ≡ there → Deeper → Clean (suc left) parent path
+        by [] is deeper = none_clean (suc left) parent path is
         by (e ∷ others) is deeper = cases (is_alone path others) refl
           where
-            cases : (t : Bool) → is_alone path others ≡ t → Stands (suc left) path
-            cases false many = forked e others is many deeper
+            cases : (t : Bool) → is_alone path others ≡ t → Clean (suc left) parent path
+            cases false many = fork_clean left parent path e others size is many kept deeper
             cases true lone =
                 let only : here path ≡ e ∷ [] = is ∙ ap (λ (l : List Entry). e ∷ l) (alone_nil path others lone) in
                 let form_is = ap (form_of_part half kind items (suc left) path) is
@@ -451,31 +551,15 @@ module _ (half : Half) (sized : IsHalf half) (kind : Kind) (items : Items) (are 
                 let there = kept (leaf_form kind e.0 e.1) (subst (λ (fs : List Bytes). Contains fs (leaf_form kind e.0 e.1))
                 (sym (ap (forms_of_part half kind items (suc left) path) is ∙ forms_alone half kind items left path e others lone))
                 (0, omega arith, refl)) in
-                leaf_stands (suc left) path e (some path others lone) only form_is there.0 there.1
+                leaf_clean (suc left) parent path e (some path others lone) only apart form_is there.0 there.1
               where
                 some : (path : List ℕ) (others : List Entry) → is_alone path others ≡ true → 0 < length path
                 some [] others e = absurd (false≢true e)
                 some (n ∷ path) others e = omega arith
 
     -- so the tree below the root hash is whole
-    pub forms_whole : IsLeftWhole → ((form : Bytes) → Contains (forms_of half kind items) form
+    pub forms_whole : ((form : Bytes) → Contains (forms_of half kind items) form
         → (nodes (half form) ≡ Some form) × IsTrue (is_nonzero (half form)))
         → found_below half nodes kind 64 None [] (root_of half kind items) ≡ []
-    unfolding EachLeft form_at
-    forms_whole law kept = by (is_zero (root_of half kind items)) refl
-      where
-        root : Hash
-        root = root_of half kind items
-
-        tree : CowTree
-        tree = record { kind = kind; nodes = []; top = link_to root }
-
-        stood : StandsFor half nodes tree items
-        stood = subst (λ (l : Items). StandsAt half nodes kind [] 64 [] (link_to root) l)
-            (top_part items) (stands 64 [] refl kept)
-
-        by : (t : Bool) → is_zero root ≡ t → found_below half nodes kind 64 None [] root ≡ []
-        by true z = below_zero half nodes kind 64 None [] root z
-        by false z =
-            subst (λ (l : Link). EachLeft (λ left path h. found_below half nodes kind left None path h ≡ []) [] 64 [] l)
-            (link_of root z) (law half nodes tree items stood).0
+    unfolding form_at
+    forms_whole kept = clean 64 None [] refl kept (λ lone. absurd (false≢true lone))

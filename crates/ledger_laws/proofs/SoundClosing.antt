@@ -32,7 +32,6 @@ use Rattle.ledger_spec.proofs.Readings.{holds_header}
 use Rattle.tree_laws.specs.Walks.{found_below}
 use Rattle.tree_laws.proofs.Joins.{in_one}
 use Rattle.tree_laws.proofs.Trees.{size_or_zero}
-use Rattle.cow_map.specs.Unloaded.{IsLeftWhole}
 use Rattle.ledger_header.specs.declared.Header.{Header as Head}
 use Rattle.ledger_header.specs.Fields.{fields, Reads}
 use Rattle.ledger_header.proofs.Joined.{parted, length-header_bytes}
@@ -208,7 +207,7 @@ has_closed false false false None (Some x) h h' f e = cc
 has_closed false false false None None h h' f e =
     let same : h ≡ h' = cc in record { some = refl; above = refl; nonzero = refl; apart = refl; hash = same }
 
-module _ (half : Half) (sized : IsHalf half) (law : IsLeftWhole) (s : State) (sound : Sound half s) (e : Session) (fit : IsFit half s e)
+module _ (half : Half) (sized : IsHalf half) (s : State) (sound : Sound half s) (e : Session) (fit : IsFit half s e)
     (given : List ℕ) (are : AreFields given) where
   parent : Bytes
   parent = unwrap_or (header_in (form_in s) e.base) []
@@ -340,10 +339,10 @@ module _ (half : Half) (sized : IsHalf half) (law : IsLeftWhole) (s : State) (so
         header = subst (λ (o : Option Bytes). IsSomeAnd o (λ p. IsTrue (is_nonzero (state_root_of p)))) (sym there) nonzero;
         whole = whole_from half (form_in s1) h bytes (stored (header_prefix ++ bytes) header_in_forms) back
             (subst (λ (r : Hash). found_below half (form_in s1) kinds.State 64 None [] r ≡ []) (sym read.state_root)
-            (forms_whole half sized kinds.State e.accounts fit.accounts (form_in s1) law
+            (forms_whole half sized kinds.State e.accounts fit.accounts (form_in s1)
             (λ f c. (stored f (in_accounts f c), none_zero half forms none f (in_accounts f c)))))
             (subst (λ (r : Hash). found_below half (form_in s1) kinds.Tx 64 None [] r ≡ []) (sym read.tx_root)
-            (forms_whole half sized kinds.Tx e.txs fit.txs (form_in s1) law
+            (forms_whole half sized kinds.Tx e.txs fit.txs (form_in s1)
             (λ f c. (stored f (in_txs f c), none_zero half forms none f (in_txs f c)))));
       } in
       listed_sound half s1 h (seq_of bytes) (keeps_sound half s s1 sound keeps) whole
@@ -355,9 +354,9 @@ not_nil [] e none = absurd (false≢true (sym e))
 not_nil (x ∷ items) e none = cc
 
 -- each answer to `close` keeps a state sound
-pub close_sound : (half : Half) (sized : IsHalf half) (law : IsLeftWhole) (s : State) (x : ℕ × ℕ) (given : List ℕ) (reply : Reply)
+pub close_sound : (half : Half) (sized : IsHalf half) (s : State) (x : ℕ × ℕ) (given : List ℕ) (reply : Reply)
     → AreFields given → close_reply half s x given ≡ reply → Sound half s → Sound half (after_close half s x given reply)
-close_sound half sized law s x given (says.Close (close.Closed h)) are is sound = at (get_in numbered_cmp s.sessions x) refl is
+close_sound half sized s x given (says.Close (close.Closed h)) are is sound = at (get_in numbered_cmp s.sessions x) refl is
   where
     at : (o : Option Session) → get_in numbered_cmp s.sessions x ≡ o → close_given half s given o ≡ says.Close (close.Closed h)
         → Sound half (closed half s x given h o)
@@ -372,14 +371,14 @@ close_sound half sized law s x given (says.Close (close.Closed h)) are is sound 
         (find (λ form. is_zero (half form)) forms) (first_clash half s forms) (half (header_prefix ++ bytes)) h s.floor eq in
         without_sound half (listed_with (with_forms half s forms) h (seq_of bytes)) x
         (subst (λ (k : Hash). Sound half (listed_with (with_forms half s forms) k (seq_of bytes))) tests.hash
-        (closed_sound half sized law s sound e fit given are (not_nil e.accounts tests.some)
+        (closed_sound half sized s sound e fit given are (not_nil e.accounts tests.some)
         (ltb-false (seq_of bytes) s.floor tests.above) tests.nonzero tests.apart))
-close_sound half sized law s x given _ are is sound = sound
+close_sound half sized s x given _ are is sound = sound
 
 -- the own forms of a close are forms of bytes
-pub close_own : (half : Half) (sized : IsHalf half) (law : IsLeftWhole) (s : State) (x : ℕ × ℕ) (given : List ℕ) (form : Bytes)
+pub close_own : (half : Half) (sized : IsHalf half) (s : State) (x : ℕ × ℕ) (given : List ℕ) (form : Bytes)
     → AreFields given → Sound half s → Contains (close_forms half s x given) form → IsByteForm half form
-close_own half sized law s x given form are sound c = at (get_in numbered_cmp s.sessions x) refl c
+close_own half sized s x given form are sound c = at (get_in numbered_cmp s.sessions x) refl c
   where
     Own : Option Session → Option Bytes → Type 0
     Own o z = Contains (unless_zero z (closes_into half s given o)) form
@@ -387,7 +386,7 @@ close_own half sized law s x given form are sound c = at (get_in numbered_cmp s.
     by : (e : Session) → IsFit half s e → (z : Option Bytes)
         → find (λ f. is_zero (half f)) (closing_forms half e (new_header half s e given)) ≡ z → Own (Some e) z → IsByteForm half form
     by e fit (Some f) is c = absurd (in_nothing c)
-    by e fit None is c = closing_fit half sized law s sound e fit given are is form c
+    by e fit None is c = closing_fit half sized s sound e fit given are is form c
 
     at : (o : Option Session) → get_in numbered_cmp s.sessions x ≡ o → Own o (find (λ f. is_zero (half f)) (closes_into half s given o))
         → IsByteForm half form

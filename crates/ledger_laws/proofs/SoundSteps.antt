@@ -45,7 +45,6 @@ use Rattle.ledger_machine.specs.Steps.{Gets, Pages, Swaps, IsAfter}
 use Rattle.ledger_laws.proofs.SoundRotation.{begin_sound, swap_sound}
 use Rattle.ledger_laws.proofs.SoundViews.{view_sound, unview_sound}
 use Rattle.shamap_node.specs.declared.parts.Item.{Item}
-use Rattle.cow_map.specs.Unloaded.{IsLeftWhole}
 use Rattle.ledger_machine.specs.Scripts.{AreFields}
 use Rattle.ledger_machine.specs.Sessions.{edit_reply, after_edit, has_session, after_put, after_tx, del_reply, after_del, without_session}
 use Rattle.ledger_machine.specs.Closing.{close_reply, after_close}
@@ -228,13 +227,13 @@ del_step_sound half s s' a x key reply used sound step =
     (outcome_cases half s a (command.Del x key) reply used s' step.outcome)
 
 -- a step of `close`
-close_step_sound : (half : Half) (sized : IsHalf half) (law : IsLeftWhole) (s s' : State) (a x : ℕ) (given : List ℕ) (reply : Reply)
+close_step_sound : (half : Half) (sized : IsHalf half) (s s' : State) (a x : ℕ) (given : List ℕ) (reply : Reply)
     (used : List Held) → AreFields given → Sound half s → Step half s a (command.Close x given) reply used s' → Sound half s'
-close_step_sound half sized law s s' a x given reply used are sound step =
+close_step_sound half sized s s' a x given reply used are sound step =
     ⊎_elim (λ r. keeps_sound half s s' sound
-    (refused_keeps half s a (command.Close x given) s' (λ form i. close_own half sized law s (a, x) given form are sound i) r))
+    (refused_keeps half s a (command.Close x given) s' (λ form i. close_own half sized s (a, x) given form are sound i) r))
     (λ g. gives_same half (after_close half s (a, x) given reply) s' (close_reply half s (a, x) given) reply
-    (close_sound half sized law s (a, x) given reply are (sym g.says) sound) g)
+    (close_sound half sized s (a, x) given reply are (sym g.says) sound) g)
     (outcome_cases half s a (command.Close x given) reply used s' step.outcome)
 
 -- a step of `abandon`
@@ -266,57 +265,57 @@ swap_step_sound half s s' a reply used sound step =
     at (Some v) g = swap_sound half s s' g.1 sound
 
 -- each step of a command in range leads from a sound state to a sound state
-pub step_sound : (half : Half) (sized : IsHalf half) (law : IsLeftWhole) (s s' : State) (a : ℕ) (c : Command) (reply : Reply)
+pub step_sound : (half : Half) (sized : IsHalf half) (s s' : State) (a : ℕ) (c : Command) (reply : Reply)
     (used : List Held)
     → IsInRange c → Sound half s → Step half s a c reply used s'
     → Sound half s'
-step_sound half sized law s s' a (command.Want t seq) reply used range sound step =
+step_sound half sized s s' a (command.Want t seq) reply used range sound step =
     want_sound half s s' a t seq reply used sound step
-step_sound half sized law s s' a (command.Peer p t) reply used range sound step =
+step_sound half sized s s' a (command.Peer p t) reply used range sound step =
     peer_sound half s s' a p t reply used sound step
-step_sound half sized law s s' a (command.Base p t bytes state tx) reply used range sound step =
+step_sound half sized s s' a (command.Base p t bytes state tx) reply used range sound step =
     base_sound half sized s s' a p t bytes state tx reply used range sound step
-step_sound half sized law s s' a (command.Node p t kind path blob) reply used range sound step =
+step_sound half sized s s' a (command.Node p t kind path blob) reply used range sound step =
     node_sound half sized s s' a p t kind path blob reply used range.2 sound step
-step_sound half sized law s s' a (command.Check t) reply used range sound step =
+step_sound half sized s s' a (command.Check t) reply used range sound step =
     check_step_sound half s s' a t reply used sound step
-step_sound half sized law s s' a (command.Tick t) reply used range sound step =
+step_sound half sized s s' a (command.Tick t) reply used range sound step =
     tick_sound half s s' a t reply used sound step
-step_sound half sized law s s' a (command.View v t) reply used range sound step =
+step_sound half sized s s' a (command.View v t) reply used range sound step =
     view_step_sound half s s' a v t reply used sound step
-step_sound half sized law s s' a (command.Unview v) reply used range sound step =
+step_sound half sized s s' a (command.Unview v) reply used range sound step =
     unview_step_sound half s s' a v reply used sound step
-step_sound half sized law s s' a (command.Get v kind key) reply used range sound step =
+step_sound half sized s s' a (command.Get v kind key) reply used range sound step =
     get_step_sound half s s' a v kind key reply used sound step
-step_sound half sized law s s' a (command.Page v kind key n) reply used range sound step =
+step_sound half sized s s' a (command.Page v kind key n) reply used range sound step =
     page_step_sound half s s' a v kind key n reply used sound step
-step_sound half sized law s s' a (command.Edit x t) reply used range sound step =
+step_sound half sized s s' a (command.Edit x t) reply used range sound step =
     edit_step_sound half sized s s' a x t reply used sound step
-step_sound half sized law s s' a (command.Put x item) reply used range sound step =
+step_sound half sized s s' a (command.Put x item) reply used range sound step =
     put_step_sound half s s' a x item reply used range sound step
-step_sound half sized law s s' a (command.Tx x item) reply used range sound step =
+step_sound half sized s s' a (command.Tx x item) reply used range sound step =
     tx_step_sound half s s' a x item reply used range sound step
-step_sound half sized law s s' a (command.Del x key) reply used range sound step =
+step_sound half sized s s' a (command.Del x key) reply used range sound step =
     del_step_sound half s s' a x key reply used sound step
-step_sound half sized law s s' a (command.Close x given) reply used range sound step =
-    close_step_sound half sized law s s' a x given reply used range sound step
-step_sound half sized law s s' a (command.Abandon x) reply used range sound step =
+step_sound half sized s s' a (command.Close x given) reply used range sound step =
+    close_step_sound half sized s s' a x given reply used range sound step
+step_sound half sized s s' a (command.Abandon x) reply used range sound step =
     abandon_step_sound half s s' a x reply used sound step
-step_sound half sized law s s' a command.Begin reply used range sound step = begin_step_sound half s s' a reply used sound step
-step_sound half sized law s s' a command.Swap reply used range sound step = swap_step_sound half s s' a reply used sound step
+step_sound half sized s s' a command.Begin reply used range sound step = begin_step_sound half s s' a reply used sound step
+step_sound half sized s s' a command.Swap reply used range sound step = swap_step_sound half s s' a reply used sound step
 
 -- a line at a place is a line of the script
 pub line_at : (lines : List Line) (place : ℕ) (l : Line) → slice_get lines place ≡ Some l → Contains lines l
 line_at lines place l e = (place, slice_get_within lines place l e, get_or_from_slice_get lines place l l e)
 
 -- each run over such commands leads from a sound state to a sound state
-pub run_sound : (half : Half) (sized : IsHalf half) (law : IsLeftWhole) (lines : List Line) (s : State) (entries : List Entry)
+pub run_sound : (half : Half) (sized : IsHalf half) (lines : List Line) (s : State) (entries : List Entry)
     (s' : State)
     → ((l : Line) → Contains lines l → IsInRange l.command) → Sound half s → Run half lines s entries s'
     → Sound half s'
-run_sound half sized law lines s [] s' each sound run = subst (λ x. Sound half x) (sym run) sound
-run_sound half sized law lines s (e ∷ rest) s' each sound run =
+run_sound half sized lines s [] s' each sound run = subst (λ x. Sound half x) (sym run) sound
+run_sound half sized lines s (e ∷ rest) s' each sound run =
     let line : Line = run.1.line in
     let fit : IsInRange line.command = each line (line_at lines run.1.place line run.1.stands) in
-    run_sound half sized law lines run.0 rest s' each
-    (step_sound half sized law s run.0 e.actor line.command e.reply (used_by e) fit sound run.1.step) run.2
+    run_sound half sized lines run.0 rest s' each
+    (step_sound half sized s run.0 e.actor line.command e.reply (used_by e) fit sound run.1.step) run.2

@@ -28,8 +28,6 @@ ghost use Rattle.ledger_machine.specs.declared.journal.Entry.{Entry};
 ghost use Rattle.ledger_machine.specs.declared.replies.CheckReply.{CheckReply};
 ghost use Rattle.ledger_machine.specs.declared.replies.Reply.{Reply};
 
-use cow_map::what_is_left_is_whole;
-
 /// A store that has only records, each a form under its own hash, is sound.
 pub fn the_opening_is_sound()
     ensures { (half : List ℕ → List ℕ) (records : Nodes) (interval : ℕ)
@@ -53,18 +51,14 @@ pub fn a_run_goes_on()
 pub fn steps_keep_the_store_sound()
     ensures { (half : List ℕ → List ℕ) → IsHalf half → (s s' : State) (a : ℕ) (c : Command) (reply : Reply) (used : List Held)
         → IsInRange c → Sound half s → Step half s a c reply used s' → Sound half s' }
-{
-    what_is_left_is_whole();
-}
+{}
 
 /// So does each run along a journal, where the script's commands are in range.
 pub fn a_run_keeps_the_store_sound()
     ensures { (half : List ℕ → List ℕ) → IsHalf half → (lines : List Line) (s : State) (entries : List Entry) (s' : State)
         → ((l : Line) → Contains lines l → IsInRange l.command)
         → Sound half s → Run half lines s entries s' → Sound half s' }
-{
-    what_is_left_is_whole();
-}
+{}
 
 /// What a command that names no session, and sees none, does is the same whatever sessions are open.
 pub fn a_row_is_one_beside_any_sessions()

@@ -2,4 +2,4 @@ use Rattle.ledger_laws.proofs.SoundSteps.{run_sound}
 use Rattle.ledger_laws.proofs.laws.a_run_keeps_the_store_sound.Goals as goal
 
 pub returns : goal.returns
-returns c = λ half is. run_sound half is c.what_is_left_is_whole.ensures
+returns c = λ half is. run_sound half is

@@ -2,4 +2,4 @@ use Rattle.ledger_laws.proofs.SoundSteps.{step_sound}
 use Rattle.ledger_laws.proofs.laws.steps_keep_the_store_sound.Goals as goal
 
 pub returns : goal.returns
-returns c = λ half is. step_sound half is c.what_is_left_is_whole.ensures
+returns c = λ half is. step_sound half is
