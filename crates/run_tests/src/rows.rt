@@ -1,5 +1,5 @@
-//! Worked scripts of all commands over the hash that adds the bytes: as they are, cut at each byte, with one call of one device failing,
-//! and with a dump that is read again.
+//! Worked scripts of every command but `page`, over the hash that adds the bytes: as they are, cut at each byte, with one call of one
+//! device failing, and with a dump that is read again.
 use crate::endings::status_of_run;
 use crate::scripts::{
     AGAIN, AGAIN_SAYS, DUMP, DUMPING, ROTATIONS, ROWS, SMALL, TURNED_TWICE, TURNED_TWICE_SAYS,
