@@ -1,4 +1,4 @@
--- Nodes may go to another thread, and may be read there. Each type by those that it is made of: asked of a node at once, the search gives up.
+-- Nodes may go to another thread, and may be read there. Without the lemmas on hashes and bytes the search gives up.
 use denote.Param.Send.{IsSend, IsSync, sendable}
 use Rattle.half_hash.proofs.Crossing.{Hash32-send, Hash32-sync, Blob-send, Blob-sync}
 use Rattle.shamap_node.specs.contracts.parts.Item as Item
@@ -19,13 +19,13 @@ pub Inner-sync : IsSync Inner.the_row
 Inner-sync = search (Hash32-sync, sendable) depth 30
 
 pub Leaf-send : IsSend Leaf.the_row
-Leaf-send = search (Item-send, sendable) depth 30
+Leaf-send = search (Hash32-send, Blob-send, sendable) depth 30
 
 pub Leaf-sync : IsSync Leaf.the_row
-Leaf-sync = search (Item-sync, sendable) depth 30
+Leaf-sync = search (Hash32-sync, Blob-sync, sendable) depth 30
 
 pub Node-send : IsSend Node.the_row
-Node-send = search (Inner-send, Leaf-send, sendable) depth 30
+Node-send = search (Hash32-send, Blob-send, sendable) depth 30
 
 pub Node-sync : IsSync Node.the_row
-Node-sync = search (Inner-sync, Leaf-sync, sendable) depth 30
+Node-sync = search (Hash32-sync, Blob-sync, sendable) depth 30

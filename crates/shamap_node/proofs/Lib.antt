@@ -1,3 +1,4 @@
+pub mod Branches
 pub mod Crossing
 pub mod Inners
 pub mod Reading
