@@ -8,7 +8,7 @@ use Rattle.std.specs.FinMap as finite
 use Rattle.std.specs.FinMap.{get-insert}
 use Rattle.node_backend.proofs.Tables.{hashes_antisymmetric}
 use Rattle.ledger_spec.specs.Bytes.{Bytes, Hash, Nodes}
-use Rattle.rotating_store.specs.Stores.{Store, nodes_of, Counted}
+use Rattle.rotating_store.specs.Stores.{Store, nodes_of}
 use Rattle.rotating_store.specs.Moves.{Moves, IsOld}
 use Rattle.rotating_store.specs.declared.store.Moved.{Moved}
 use Rattle.rotating_store.specs.declared.store.Moved.TheVariants as moved
@@ -73,7 +73,7 @@ moved_one h s s1 form nodes archive old put = record {
       | inr is ↦ inr (is.0, ap (finite.get (nodes_of s)) is.0 ∙ there ∙ ap Some is.1)
     ]
 
--- a copy forward, and then only counts that change
+-- a copy forward
 pub copied_one : {E : Type 0} (h : Hash) (s s1 : Store) (r : Result Moved E) → nodes_of s1 ≡ nodes_of s → s1.archive ≡ s.archive
     → Moves s.writable s.archive h r s1.writable → CopiesOne h s s1
 copied_one h s s1 (Ok moved.Copied) nodes archive is = moved_one h s s1 is.0 nodes archive is.1 is.2
@@ -84,12 +84,10 @@ copied_one h s s1 (Err e) nodes archive is = elim is [
   | inr put ↦ moved_one h s s1 put.0 nodes archive put.1 put.2
 ]
 
--- and counts that change after it
-pub counted_one : (h : Hash) (s s1 s2 : Store) → CopiesOne h s s1 → Counted s1 s2 → CopiesOne h s s2
-counted_one h s s1 s2 one same =
-    subst (λ (t : Store). CopiesOne h s t) (sym same)
-    record { nodes = one.nodes; archive = one.archive; others = one.others; kept = one.kept }
-
 -- one step after another
 pub rest_on : (s t u : Store) → SameRest s t → SameRest t u → SameRest s u
-rest_on s t u a b = ((b.0.0 ∙ a.0.0, b.0.1 ∙ a.0.1, b.0.2 ∙ a.0.2), b.1 ∙ a.1, b.2 ∙ a.2)
+rest_on s t u a b = (
+  (b.0.0 ∙ a.0.0, b.0.1 ∙ a.0.1, b.0.2 ∙ a.0.2, b.0.3 ∙ a.0.3, b.0.4 ∙ a.0.4),
+  b.1 ∙ a.1,
+  b.2 ∙ a.2,
+)

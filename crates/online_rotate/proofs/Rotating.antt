@@ -1,17 +1,19 @@
 -- What a swap leaves after a copy.
-use Rattle.std.proofs.Common.{◌≡◌, ◌≢◌, ◌⊎◌, ◌↔◌, ◌+◌, inl, inr, ℕ, true, is_some, List, Option, Some, None}
+use Rattle.std.proofs.Common.{◌≡◌, ◌≢◌, ◌⊎◌, ◌↔◌, ◌+◌, inl, inr, ℕ, IsTrue, true, is_some, List, Option, Some, None}
 use Rattle.std.proofs.Common.{Result, Ok, Err, IfErr, OnOk, OnErr, Contains, sym, ap, ◌∙◌, subst, refl}
 use Rattle.std.specs.FinMap as finite
+use Rattle.std.specs.FinSet as set
+use Rattle.ledger_spec.specs.Maps.{SetOf}
 use Rattle.ledger_spec.specs.Bytes.{Bytes, Hash, Nodes}
 use Rattle.ledger_spec.specs.Reach.{Reach}
 use Rattle.ledger_spec.specs.Retaining.{Retention, AreRootsFrom, IsRootFrom, floor_behind}
 use Rattle.run_io.specs.Bytes.{Rose}
 use Rattle.rotating_store.specs.Puts.{IsPlain}
-use Rattle.rotating_store.specs.Stores.{Store, merged, nodes_of}
+use Rattle.rotating_store.specs.Stores.{Store, merged, nodes_of, SamePast, HasNoNewNotes, KeepsNotes, AddsAtMostOne}
 use Rattle.rotating_store.specs.declared.store.StoreFault.{StoreFault}
 use Rattle.rotating_store.specs.declared.store.StoreFault.TheVariants as fault
 use Rattle.rotating_store.proofs.Merging.{swap_fewer, swap_only}
-use Rattle.online_rotate.specs.Copying.{CopiesSome, HasReached, IsFit, Rotated, OnlyReachedOrBorn, RefusedBy}
+use Rattle.online_rotate.specs.Copying.{SameRest, CopiesSome, HasReached, IsFit, Rotated, OnlyReachedOrBorn, RefusedBy}
 
 pub on_err : {X E : Type 0} (P : Type 0) (r : Result X E) → P → OnErr r P
 on_err P (Ok x) p = tt
@@ -84,6 +86,21 @@ only_born shaded s v fit r h form e = elim (r.written h form e) [
     | inr born ↦ inr born
   ]
 ]
+
+-- what a swap leaves of the epoch, the notes and the shelf's numbers, where nothing else changed them
+pub swapped_rest : (s t u v : Store) → SameRest s t → SamePast t u → u.noted ≡ t.noted → v.epoch ≡ u.epoch + 1 → HasNoNewNotes u v
+    → v.spare ≡ u.spare → AddsAtMostOne u.undone v.undone
+    → (v.epoch ≡ s.epoch + 1) × HasNoNewNotes s v × (v.spare ≡ s.spare) × AddsAtMostOne s.undone v.undone
+swapped_rest s t u v a b notes epoch fewer spare undone = (
+  epoch ∙ ap (λ (n : ℕ). n + 1) (b.0 ∙ a.0.0),
+  λ h has. subst (λ (ns : SetOf). IsTrue (set.contains ns h)) (notes ∙ a.2) (fewer h has),
+  spare ∙ b.3 ∙ a.0.3,
+  subst (λ (ns : List ℕ). AddsAtMostOne ns v.undone) (b.4 ∙ a.0.4) undone,
+)
+
+pub swapped_notes : (s t u v : Store) → SameRest s t → u.noted ≡ t.noted → KeepsNotes u v → KeepsNotes s v
+swapped_notes s t u v a notes keeps h has held =
+    keeps h (subst (λ (ns : SetOf). IsTrue (set.contains ns h)) (sym (notes ∙ a.2)) has) held
 
 pub on_ok : {X E : Type 0} (P : Type 0) (r : Result X E) → P → OnOk r P
 on_ok P (Ok x) p = p

@@ -1,13 +1,11 @@
 -- Hashes in the order in which they were found.
 use Rattle.std.specs.Prelude.{◌≡◌, ◌⊎◌, ◌↔◌, ◌++◌, ◌∷◌, [], List, IsTrue}
-use Rattle.std.specs.List.{Contains}
-use Rattle.std.specs.BTreeSet.{contains}
-use Rattle.ledger_spec.specs.Bytes.{Hash}
-use Rattle.ledger_spec.specs.Maps.{hash_cmp}
+use Rattle.std.specs.List.{Contains, list_any}
+use Rattle.ledger_spec.specs.Bytes.{Hash, same_bytes}
 
 -- what is seen was found
 abbrev pub AreFound : List Hash → List Hash → Type 0
-AreFound seen found = (h : Hash) → IsTrue (contains hash_cmp (record { keys = seen }) h) → Contains found h
+AreFound seen found = (h : Hash) → IsTrue (list_any (same_bytes h) seen) → Contains found h
 
 -- the hash was found, or is added
 abbrev pub Adds : List Hash → Hash → List Hash → Type 0

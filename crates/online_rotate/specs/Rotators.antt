@@ -3,7 +3,7 @@ use Rattle.std.specs.Prelude.{◌≡◌, ◌↔◌, ◌⊎◌, ◌+◌, ℕ, Boo
 use Rattle.std.specs.List.{Contains}
 use Rattle.ledger_spec.specs.Bytes.{Hash}
 use Rattle.ledger_spec.specs.Retaining.{Retention, IsRootFrom, after_begin, after_finish, floor_behind}
-use Rattle.rotating_store.specs.Stores.{Store}
+use Rattle.rotating_store.specs.Stores.{Store, HasNoNewNotes, AddsAtMostOne}
 use Rattle.rotating_store.specs.declared.store.StoreFault.{StoreFault}
 use Rattle.online_rotate.specs.declared.rotator.Begun.{Begun}
 use Rattle.online_rotate.specs.declared.rotator.Begun.TheVariants as begun
@@ -41,22 +41,27 @@ pub record Shades (t : Turning) (h : Hash) (t' : Turning) : Type 0 where
   pub told : (q : Hash) → Contains t'.shaded q ↔ (Contains t.shaded q ⊎ (q ≡ h))
   pub rest : t' ≡ record t { shaded = t'.shaded }
 
--- the rotation is over, and with it the epoch: in the new one nothing is noted yet
+-- The rotation is over, and with it the epoch. Nothing is noted that wasn't, no number of the shelf but those of the store's backends
+-- left the first list, and at most one went into the second.
 pub record Ends (t : Turning) (b : Retention) (s : Store) (answer : ℕ) (t' : Turning) (b' : Retention) (s' : Store) : Type 0 where
   pub rotator : t' ≡ record t { turning = false; shaded = [] }
   pub book : b' ≡ after_finish b
   pub new : answer ≡ s.epoch + 1
   pub epoch : s'.epoch ≡ answer
-  pub notes : s'.noted ≡ []
+  pub notes : HasNoNewNotes s s'
+  pub spare : s'.spare ≡ s.spare
+  pub undone : AddsAtMostOne s.undone s'.undone
 
 -- The rotation is under way as before, in the same epoch. A backend that was made ready for the next swap still is, and none is where
--- none was; no backend was discarded, so what is counted of such ones is as before.
+-- none was; no backend was discarded, so what is counted of such ones is as before, and none was taken from the shelf but for the store.
 pub record GoesOn (t : Turning) (b : Retention) (s : Store) (t' : Turning) (b' : Retention) (s' : Store) : Type 0 where
   pub rotator : t' ≡ t
   pub book : b' ≡ b
   pub epoch : s'.epoch ≡ s.epoch
   pub ready : s'.ready ≡ s.ready
   pub past : (s'.past_faults ≡ s.past_faults) × (s'.past_gets ≡ s.past_gets)
+  pub spare : s'.spare ≡ s.spare
+  pub undone : s'.undone ≡ s.undone
   pub notes : s'.noted ≡ s.noted
 
 -- what `finish` leaves of the rotator, of the book, and of the store's epoch and notes

@@ -10,7 +10,7 @@ use crate::kids::kids_of;
 use crate::queue::{Queue, add_all};
 use half_hash::{Hash32, Memory};
 use node_backend::Shelf;
-use rotating_store::{Moved, RotStore, StoreFault};
+use rotating_store::{RotStore, StoreFault};
 use std::alloc::Global;
 use std::collections::BTreeSet;
 
@@ -54,8 +54,8 @@ fn copy_one<Sh: Shelf>(
     ensures gets { store.old.gets ≤ store.new.gets }
     ensures cause { (result ≡ Err StoreFault.Fault → Rose store.old.faults store.new.faults) × IfErr result IsPlain }
 {
-    store.forward(alloc, h)?;
-    match store.get(alloc, h)? {
+    let moved = store.forward_form(alloc, h)?;
+    match moved.1 {
         Some(form) => Ok(kids_of(alloc, form.bytes())?),
         None => Ok(Vec::new(alloc)),
     }

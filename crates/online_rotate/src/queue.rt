@@ -5,14 +5,14 @@ ghost use Rattle.online_rotate.specs.Queues.{Adds, AddsAll};
 
 use half_hash::{Hash32, Memory};
 use std::alloc::Global;
-use std::collections::BTreeSet;
+use std::collections::HashSet;
 use std::marker::Model;
 
 /// The hashes. Contracts see them as a list.
 #[derive(Drop)]
 pub(crate) struct Queue {
     found: Vec<Hash32>,
-    seen: BTreeSet<Hash32>,
+    seen: HashSet<Hash32>,
 }
 
 impl Model for Queue {
@@ -33,7 +33,7 @@ impl Queue {
     {
         Queue {
             found: Vec::new(alloc),
-            seen: BTreeSet::new(alloc),
+            seen: HashSet::new(alloc),
         }
     }
 

@@ -3,6 +3,7 @@ ghost use Rattle.std.specs.Prelude.{◌≡◌, ◌≤◌, ◌<◌, ◌+◌, ◌-
 ghost use Rattle.std.specs.Prelude.{IsSome, IfOk, IfErr, IsOk, OnOk, OnErr, Ok, Err};
 ghost use Rattle.run_io.specs.Bytes.{Rose};
 ghost use Rattle.rotating_store.specs.Puts.{IsPlain};
+ghost use Rattle.rotating_store.specs.Stores.{HasNoNewNotes, KeepsNotes, AddsAtMostOne};
 ghost use Rattle.ledger_spec.specs.Retaining.{due};
 ghost use Rattle.online_rotate.specs.Queues.{Inserts};
 ghost use Rattle.online_rotate.specs.Copying.{IsFit, CopiesSome, SameRest, Rotated, AfterRotation, AfterFit, RefusedBy};
@@ -139,6 +140,7 @@ impl Rotator {
         ensures after { AfterFinish self.old book.old store.old result self.new book.new store.new }
         ensures nodes { IsTrue Sh.B.tells → AfterRotation self.old.shaded store.old result store.new }
         ensures fit { IsTrue Sh.B.tells → IsFit self.old.shaded store.old → AfterFit self.old.shaded store.old result store.new }
+        ensures notes { IsTrue Sh.B.tells → OnOk result (KeepsNotes store.old store.new) }
         ensures later { store.old.faults ≤ store.new.faults }
         ensures gets { store.old.gets ≤ store.new.gets }
         ensures cause { IfErr result (λ e. RefusedBy store.old e store.new) }
@@ -174,7 +176,9 @@ fn rotate<Sh: Shelf>(
     requires { store.old.epoch < 2 ^ 64 - 1 }
     ensures rotated { IsTrue Sh.B.tells → OnOk result (Rotated shaded.now.keys store.old store.new) }
     ensures some { IsTrue Sh.B.tells → OnErr result (CopiesSome shaded.now.keys store.old store.new) }
-    ensures ok { OnOk result ((store.new.epoch ≡ store.old.epoch + 1) × (store.new.noted ≡ [])) }
+    ensures ok { OnOk result ((store.new.epoch ≡ store.old.epoch + 1) × HasNoNewNotes store.old store.new
+        × (store.new.spare ≡ store.old.spare) × AddsAtMostOne store.old.undone store.new.undone) }
+    ensures notes { IsTrue Sh.B.tells → OnOk result (KeepsNotes store.old store.new) }
     ensures err { OnErr result (SameRest store.old store.new) }
     ensures later { store.old.faults ≤ store.new.faults }
     ensures gets { store.old.gets ≤ store.new.gets }

@@ -1,9 +1,9 @@
 -- Calls that only read a store, one after the other.
-use Rattle.std.proofs.Common.{◌≡◌, ◌≤◌, ℕ, Bool, IsTrue, List, Some, inl, inr, refl, sym, ap, subst, ◌∙◌, arith}
-use Rattle.std.specs.BTreeSet.{contains}
+use Rattle.std.proofs.Common.{◌≡◌, ◌≤◌, ℕ, Bool, IsTrue, Some, inl, inr, refl, sym, ap, subst, ◌∙◌, arith}
+use Rattle.std.specs.FinSet as set
 use Rattle.std.specs.FinMap as map
 use Rattle.ledger_spec.specs.Bytes.{Bytes, Hash, Half}
-use Rattle.ledger_spec.specs.Maps.{hash_cmp}
+use Rattle.ledger_spec.specs.Maps.{SetOf}
 use Rattle.ledger_spec.specs.Own.{AreStored, is_own}
 use Rattle.ledger_spec.proofs.Owning.{own_is}
 use Rattle.run_io.specs.Bytes.{Rose}
@@ -18,11 +18,11 @@ pub counted_then : (a b c : Store) → Counted a b → Counted b c → Counted a
 counted_then a b c first second = second ∙ ap (λ (x : Store). record x { faults = c.faults; gets = c.gets; noted = c.noted }) first
 
 pub later_same : (s : Store) → IsLater s s
-later_same s = record { past = (refl, refl, refl); ready = refl; faults = omega arith; gets = omega arith }
+later_same s = record { past = (refl, refl, refl, refl, refl); ready = refl; faults = omega arith; gets = omega arith }
 
 pub later_then : (a b c : Store) → IsLater a b → IsLater b c → IsLater a c
 later_then a b c p q = record {
-  past = (q.past.0 ∙ p.past.0, q.past.1 ∙ p.past.1, q.past.2 ∙ p.past.2);
+  past = (q.past.0 ∙ p.past.0, q.past.1 ∙ p.past.1, q.past.2 ∙ p.past.2, q.past.3 ∙ p.past.3, q.past.4 ∙ p.past.4);
   ready = q.ready ∙ p.ready;
   faults = omega (arith, p.faults, q.faults);
   gets = omega (arith, p.gets, q.gets);
@@ -46,7 +46,7 @@ stored_notes half s all = record { own = λ h form noted held. own_is half h for
 pub notes_stay : (half : Half) (s s' : Store) → nodes_of s' ≡ nodes_of s → s'.noted ≡ s.noted → AreNotedOwn half s → AreNotedOwn half s'
 notes_stay half s s' nodes notes true_then = record {
   own = λ h form noted held. true_then.own h form
-      (subst (λ (ns : List Hash). IsTrue (contains hash_cmp (record { keys = ns }) h)) notes noted)
+      (subst (λ (ns : SetOf). IsTrue (set.contains ns h)) notes noted)
       (sym (ap (λ n. map.get n h) nodes) ∙ held);
 }
 
@@ -85,7 +85,7 @@ module _ (half : Half) (s s' : Store) (h : Hash) (form : Bytes) (own : IsTrue (i
 
   pub note_is_later : IsLater s s'
   note_is_later = subst (λ (x : Store). IsLater s x) (sym noted.rest)
-      (record { past = (refl, refl, refl); ready = refl; faults = omega arith; gets = omega arith })
+      (record { past = (refl, refl, refl, refl, refl); ready = refl; faults = omega arith; gets = omega arith })
 
 -- a note, where the form was own
 pub may_note : (tells : Bool) (half : Half) (s s' : Store) (h : Hash) (form : Bytes)

@@ -2,4 +2,5 @@ pub mod Sources
 pub mod Merging
 pub mod Keeping
 pub mod Nexts
-pub mod Notes
+pub mod Noting
+pub mod Spares

@@ -1,3 +1,4 @@
+pub mod Notes
 pub mod Stores
 pub mod Puts
 pub mod Moves

@@ -17,6 +17,11 @@ Moves w a h (Ok moved.There) w' = IsSome (finite.get w h) × (w' ≡ w)
 Moves w a h (Ok moved.Nowhere) w' = (finite.get w h ≡ None) × (finite.get a h ≡ None) × (w' ≡ w)
 Moves w a h (Err e) w' = (w' ≡ w) ⊎ ((form : Bytes) × IsOld w a h form × (w' ≡ finite.insert w h form))
 
+-- the answer without the form
+abbrev pub moved_of : {E : Type 0} → Result (Moved × Option Bytes) E → Result Moved E
+moved_of (Ok r) = Ok r.0
+moved_of (Err e) = Err e
+
 -- the backend that is written, and its pair in doubt, are as before, or after a put of what the archive alone has
 abbrev pub Writes : Nodes → Nodes → Option Pair → Hash → Nodes → Option Pair → Type 0
 Writes w a doubt h w' doubt' = ((w' ≡ w) × (doubt' ≡ doubt)) ⊎ ((form : Bytes) × IsOld w a h form × FailedPut w doubt (h, form) w' doubt')

@@ -2,6 +2,7 @@
 //! archive: what was copied forward, or written since the last swap, stays, and nothing else.
 #![tactic(auto)]
 
+mod notes;
 mod pair;
 mod source;
 mod store;

@@ -6,7 +6,7 @@ ghost use Rattle.node_backend.specs.Order.{IsNext};
 ghost use Rattle.run_io.specs.Bytes.{Rose};
 ghost use Rattle.node_backend.specs.Counts.{held_sum};
 ghost use Rattle.rotating_store.specs.Stores.{merged, lesser_of};
-ghost use Rattle.rotating_store.specs.Moves.{Moves, Writes};
+ghost use Rattle.rotating_store.specs.Moves.{Moves, Writes, moved_of};
 
 use crate::store::Moved;
 use half_hash::{Blob, Hash32};
@@ -73,14 +73,15 @@ pub(crate) fn next_of_either<B: Backend>(
     Ok(lesser(a, b))
 }
 
-/// Copies a form from the second to the first, where that lacks it.
-pub(crate) fn copy_over<B: Backend>(
+/// Copies a form from the second to the first, where that lacks it, and hands it out.
+pub(crate) fn copy_form<B: Backend>(
     first: &mut B,
     second: &mut B,
     alloc: Global,
     h: &Hash32,
-) -> Result<Moved, BackFault>
-    ensures moves { IsTrue B.tells → Moves (B.held first.old) (B.held second.old) h.now result (B.held first.new) }
+) -> Result<(Moved, Option<Blob>), BackFault>
+    ensures moves { IsTrue B.tells → Moves (B.held first.old) (B.held second.old) h.now (moved_of result) (B.held first.new) }
+    ensures form { IsTrue B.tells → IfOk result (λ r. r.1 ≡ map.get (merged (B.held first.old) (B.held second.old)) h.now) }
     ensures writes { IsTrue B.tells
         → Writes (B.held first.old) (B.held second.old) (B.doubt first.old) h.now (B.held first.new) (B.doubt first.new) }
     ensures second { IsTrue B.tells → B.held second.new ≡ B.held second.old }
@@ -93,12 +94,12 @@ pub(crate) fn copy_over<B: Backend>(
     ensures cause { result ≡ Err BackFault.Fault
         → Rose (B.faults first.old) (B.faults first.new) ⊎ Rose (B.faults second.old) (B.faults second.new) }
 {
-    if first.get(alloc, h)?.is_some() {
-        return Ok(Moved::There);
+    if let Some(form) = first.get(alloc, h)? {
+        return Ok((Moved::There, Some(form)));
     }
     let Some(form) = second.get(alloc, h)? else {
-        return Ok(Moved::Nowhere);
+        return Ok((Moved::Nowhere, None));
     };
     first.put(alloc, h, form.bytes())?;
-    Ok(Moved::Copied)
+    Ok((Moved::Copied, Some(form)))
 }

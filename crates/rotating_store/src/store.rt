@@ -3,20 +3,22 @@
 ghost use Rattle.std.specs.Prelude.{◌≡◌, ◌≢◌, ◌≤◌, ◌<◌, ◌^◌, ◌+◌, ◌-◌, IsTrue, true, false, is_some, Err, []};
 ghost use Rattle.std.specs.Prelude.{IfOk, IfErr, OnOk, OnErr, IsOk};
 ghost use Rattle.std.specs.FinMap as map;
+ghost use Rattle.std.specs.FinSet as set;
 ghost use Rattle.std.specs.Option.{option_copied, option_map, option_map_or};
 ghost use Rattle.node_backend.specs.Order.{IsNext};
 ghost use Rattle.run_io.specs.Bytes.{Rose};
 ghost use Rattle.node_backend.specs.Counts.{held_sum};
-ghost use Rattle.rotating_store.specs.Stores.{Store, nodes_of, Counted, Agree, SamePast, sum_of, is_noted, IsNoted};
+ghost use Rattle.rotating_store.specs.Stores.{Store, nodes_of, Counted, Agree, SamePast, sum_of, spare_of, is_noted, IsNoted};
+ghost use Rattle.rotating_store.specs.Stores.{AddsAtMostOne, RoseByShelf, KeepsNotes, HasNoNewNotes};
 ghost use Rattle.rotating_store.specs.Puts.{Puts, TellsWrongHash, Compares, IsPlain};
-ghost use Rattle.rotating_store.specs.Moves.{Moves};
+ghost use Rattle.rotating_store.specs.Moves.{Moves, moved_of};
 ghost use Rattle.rotating_store.specs.Keeps.{Numbered, Keeps};
 
-use crate::pair::{copy_over, get_either, next_of_either};
+use crate::notes::Notes;
+use crate::pair::{copy_form, get_either, next_of_either};
 use half_hash::{Blob, Hash32, Memory, NodeHash};
 use node_backend::{BackFault, Backend, Shelf};
 use std::alloc::Global;
-use std::collections::BTreeSet;
 use std::marker::Model;
 
 /// What a put came to.
@@ -64,7 +66,7 @@ pub enum Unopened<Sh: Shelf> {
 }
 
 /// One map over two backends of a shelf, the writable one and the archive. Contracts see the two
-/// maps, whether a fresh backend is ready, the epoch and the counts.
+/// maps, whether a fresh backend is ready, the epoch, the counts, and the shelf's other numbers.
 #[derive(Drop)]
 pub struct RotStore<Sh: Shelf> {
     shelf: Sh,
@@ -74,7 +76,7 @@ pub struct RotStore<Sh: Shelf> {
     epoch: u64,
     past_faults: u64,
     past_gets: u64,
-    noted: BTreeSet<Hash32>,
+    noted: Notes,
 }
 
 /// The very shelf and backends of a store.
@@ -94,14 +96,15 @@ impl<Sh: Shelf> Model for RotStore<Sh> {
     ghost use Rattle.std.specs.Option.{option_map, option_map_or};
     ghost use Rattle.std.specs.FinMap as map;
     ghost use Rattle.std.specs.Coded.{codes};
-    ghost use Rattle.ledger_spec.specs.Maps.{map_code};
+    ghost use Rattle.ledger_spec.specs.Maps.{map_code, set_code};
     ghost use Rattle.node_backend.specs.Counts.{held_sum};
-    ghost use Rattle.rotating_store.specs.Stores.{Store, sum_of};
+    ghost use Rattle.rotating_store.specs.Stores.{Store, sum_of, spare_of};
     ghost use Rattle.rotating_store.specs.Keeps.{Numbered, Keeps};
+    ghost use Rattle.rotating_store.specs.Notes.{noted_of, AreCarried};
 
     ghost Value = { Store };
 
-    ghost coded = { Prim.hlevel (codes, map_code) };
+    ghost coded = { Prim.hlevel (codes, map_code, set_code) };
 
     ghost view = { λ r. record {
       writable = Sh.B.held r.writable;
@@ -113,13 +116,17 @@ impl<Sh: Shelf> Model for RotStore<Sh> {
       gets = sum_of r.past_gets (Sh.B.gets r.writable) (Sh.B.gets r.archive) (option_map_or Sh.B.gets r.ready 0);
       past_faults = r.past_faults;
       past_gets = r.past_gets;
-      noted = r.noted.keys;
+      shelf_faults = Sh.faults r.shelf;
+      spare = spare_of (Sh.live r.shelf) (Sh.B.number r.archive) (Sh.B.number r.writable) (option_map Sh.B.number r.ready);
+      undone = Sh.undone r.shelf;
+      noted = noted_of r.noted;
     } };
 
     ghost invariant = { λ r. Numbered (Sh.live r.shelf) (Sh.undone r.shelf)
         (Sh.B.number r.archive) (Sh.B.number r.writable) (option_map Sh.B.number r.ready)
         × (IsTrue Sh.B.tells → Keeps (Sh.B.held r.writable) (Sh.B.held r.archive)
-        (Sh.B.doubt r.writable) (Sh.B.doubt r.archive) (option_map Sh.B.held r.ready) (option_map Sh.B.doubt r.ready)) };
+        (Sh.B.doubt r.writable) (Sh.B.doubt r.archive) (option_map Sh.B.held r.ready) (option_map Sh.B.doubt r.ready))
+        × (IsTrue Sh.B.tells → AreCarried (Sh.B.held r.writable) r.noted) };
 }
 
 impl<Sh: Shelf> RotStore<Sh> {
@@ -127,14 +134,14 @@ impl<Sh: Shelf> RotStore<Sh> {
     pub fn open(alloc: Global, shelf: Sh) -> Result<RotStore<Sh>, Unopened<Sh>>
         ensures empty { IsTrue Sh.B.tells → IfOk result (λ s. (s.writable ≡ map.empty) × (s.archive ≡ map.empty)) }
         ensures state { IfOk result (λ s. (s.epoch ≡ 0) × (s.ready ≡ false)) }
-        ensures count { IfOk result (λ s. Sh.faults shelf ≤ s.faults) }
+        ensures count { IfOk result (λ s. (Sh.faults shelf ≤ s.shelf_faults) × (s.faults ≡ s.shelf_faults)) }
+        ensures lists { IfOk result (λ s. (s.spare ≡ Sh.live shelf) × (s.undone ≡ Sh.undone shelf)) }
         ensures gets { IfOk result (λ s. s.gets ≡ 0) }
-        ensures past { IfOk result (λ s. (s.past_faults ≡ 0) × (s.past_gets ≡ 0) × (s.noted ≡ [])) }
+        ensures past { IfOk result (λ s. (s.past_faults ≡ 0) × (s.past_gets ≡ 0) × (s.noted ≡ set.empty)) }
         ensures cause { (s : Sh) → result ≡ Err (Unopened.Shelf s) → Rose (Sh.faults shelf) (Sh.faults s) }
         ensures never { (s : Store) → result ≢ Err (Unopened.Store s) }
     {
         let mut shelf = shelf;
-        let _count = shelf.faults();
         let archive = match shelf.fresh(alloc) {
             Ok(archive) => archive,
             Err(BackFault::Fault) => return Err(Unopened::Shelf(shelf)),
@@ -145,6 +152,7 @@ impl<Sh: Shelf> RotStore<Sh> {
             Err(BackFault::Fault) => return Err(Unopened::Shelf(shelf)),
             Err(BackFault::Memory) => return Err(Unopened::Memory),
         };
+        let _count = shelf.faults();
         Ok(RotStore {
             shelf,
             writable,
@@ -153,7 +161,7 @@ impl<Sh: Shelf> RotStore<Sh> {
             epoch: 0,
             past_faults: 0,
             past_gets: 0,
-            noted: BTreeSet::new(alloc),
+            noted: Notes::new(alloc),
         })
     }
 
@@ -223,6 +231,7 @@ impl<Sh: Shelf> RotStore<Sh> {
         if let Some(old) = get_either(&mut self.writable, &mut self.archive, alloc, h)? {
             return compare(alloc, h, old, form);
         }
+        self.noted.carry(h)?;
         self.writable.put(alloc, h, form)?;
         Ok(Put::New)
     }
@@ -239,7 +248,28 @@ impl<Sh: Shelf> RotStore<Sh> {
         ensures cause { result ≡ Err StoreFault.Fault → Rose self.old.faults self.new.faults }
         ensures kind { IfErr result IsPlain }
     {
-        let moved = copy_over(&mut self.writable, &mut self.archive, alloc, h)?;
+        let (moved, _) = self.forward_form(alloc, h)?;
+        Ok(moved)
+    }
+
+    /// The same, and it hands out the form that was copied or found there, which is looked for once.
+    pub fn forward_form(
+        &mut self,
+        alloc: Global,
+        h: &Hash32,
+    ) -> Result<(Moved, Option<Blob>), StoreFault>
+        ensures nodes { IsTrue Sh.B.tells → nodes_of self.new ≡ nodes_of self.old }
+        ensures moves { IsTrue Sh.B.tells → Moves self.old.writable self.old.archive h.now (moved_of result) self.new.writable }
+        ensures form { IsTrue Sh.B.tells → IfOk result (λ r. r.1 ≡ map.get (nodes_of self.old) h.now) }
+        ensures there { IsTrue Sh.B.tells → OnOk result (map.get self.new.writable h.now ≡ map.get (nodes_of self.old) h.now) }
+        ensures archive { IsTrue Sh.B.tells → self.new.archive ≡ self.old.archive }
+        ensures rest { SamePast self.old self.new × (self.new.ready ≡ self.old.ready) × (self.new.noted ≡ self.old.noted) }
+        ensures later { (self.old.faults ≤ self.new.faults) × (self.old.gets ≤ self.new.gets) }
+        ensures cause { result ≡ Err StoreFault.Fault → Rose self.old.faults self.new.faults }
+        ensures kind { IfErr result IsPlain }
+    {
+        self.noted.carry(h)?;
+        let moved = copy_form(&mut self.writable, &mut self.archive, alloc, h)?;
         Ok(moved)
     }
 
@@ -271,6 +301,7 @@ impl<Sh: Shelf> RotStore<Sh> {
         ensures was_ready { self.old.ready ≡ true → OnOk result (self.new ≡ self.old) × IsOk result }
         ensures rest { SamePast self.old self.new × (self.new.gets ≡ self.old.gets) × (self.new.noted ≡ self.old.noted) }
         ensures later { self.old.faults ≤ self.new.faults }
+        ensures counted { RoseByShelf self.old self.new }
         ensures cause { result ≡ Err StoreFault.Fault → Rose self.old.faults self.new.faults }
         ensures kind { IfErr result IsPlain }
     {
@@ -294,7 +325,12 @@ impl<Sh: Shelf> RotStore<Sh> {
         ensures epoch { self.new.epoch ≡ self.old.epoch + 1 }
         ensures later { self.old.faults ≤ self.new.faults }
         ensures gets { self.new.gets ≡ self.old.gets }
-        ensures notes { self.new.noted ≡ [] }
+        ensures counted { RoseByShelf self.old self.new }
+        ensures spare { self.new.spare ≡ self.old.spare }
+        // Where the shelf can't discard the old backend, its number goes into the second list.
+        ensures undone { AddsAtMostOne self.old.undone self.new.undone }
+        ensures notes { IsTrue Sh.B.tells → KeepsNotes self.old self.new }
+        ensures no_notes { HasNoNewNotes self.old self.new }
         ensures past { (self.old.past_faults ≤ self.new.past_faults) × (self.old.past_gets ≤ self.new.past_gets) }
     {
         let Some(fresh) = self.ready.take() else {
@@ -306,22 +342,22 @@ impl<Sh: Shelf> RotStore<Sh> {
         self.past_gets = self.past_gets.saturating_add(old.gets());
         let _ = self.shelf.discard(old);
         self.epoch += 1;
-        self.noted.clear();
+        self.noted.turn();
     }
 
-    /// Notes that a caller has checked the form that is held under a hash, which is forgotten with the next swap. Where memory is
-    /// refused nothing is noted.
+    /// Notes that a caller has checked the form that is held under a hash, which is forgotten when a swap drops the form. Where memory
+    /// is refused nothing is noted.
     pub fn note(&mut self, h: &Hash32)
         ensures noted { IsNoted self.old h.now self.new }
     {
-        let _ = self.noted.insert(*h);
+        self.noted.note(h);
     }
 
-    /// Whether the form of a hash was noted as checked since the last swap.
+    /// Whether the form of a hash was noted as checked.
     pub fn is_noted(&self, h: &Hash32) -> bool
         ensures { result ≡ is_noted self.now h.now }
     {
-        self.noted.contains(h)
+        self.noted.has(h)
     }
 
     /// Tells a proof that a hash that stands in both backends has the same bytes in them.
@@ -347,6 +383,10 @@ impl<Sh: Shelf> RotStore<Sh> {
             (option_map_or (λ b. Sh.B.faults b.now) result.ready 0) }
         ensures gets { self.now.gets ≡ sum_of self.now.past_gets (Sh.B.gets result.writable.now)
             (Sh.B.gets result.archive.now) (option_map_or (λ b. Sh.B.gets b.now) result.ready 0) }
+        ensures shelf { self.now.shelf_faults ≡ Sh.faults result.shelf.now }
+        ensures lists { (self.now.spare ≡ spare_of (Sh.live result.shelf.now) (Sh.B.number result.archive.now)
+            (Sh.B.number result.writable.now) (option_map (λ b. Sh.B.number b.now) result.ready))
+            × (self.now.undone ≡ Sh.undone result.shelf.now) }
     {
         Parts {
             shelf: &self.shelf,

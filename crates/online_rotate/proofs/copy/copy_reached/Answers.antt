@@ -18,7 +18,7 @@ loop-hash-init g c =
       some = λ told. some_none c.args.shaded.now.keys c.args.store.now;
       all = λ h is. added.all h is;
       walked = λ told. begun _ _ c.args.store.now.writable _ added;
-      rest = ((refl, refl, refl), refl, refl);
+      rest = ((refl, refl, refl, refl, refl), refl, refl);
       later = omega arith;
       gets = omega arith;
     }

@@ -10,5 +10,5 @@ returns-then-contains c =
 -- the hash is pushed before it is seen
 pub invariant_of-self-2 : goal.invariant_of-self-2
 invariant_of-self-2 c =
-    found_more c.self.inside.seen c.insert.new.self c.self.inside.found.items c.push.new.self.items c.args.h.now c.self.invariant
+    found_more c.self.inside.seen c.insert.new.self c.args.h.now c.self.inside.found.items c.push.new.self.items c.self.invariant
     c.in_ok-push.ensures.items c.insert.result c.insert.ensures.updates c.insert.ensures.err

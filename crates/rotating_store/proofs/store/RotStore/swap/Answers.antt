@@ -1,5 +1,9 @@
-use Rattle.std.proofs.Common.{sym, ◌∙◌}
-use Rattle.rotating_store.proofs.Keeping.{swapped_numbers, swapped_keeps, swapped_nodes, either_way, numbered_live}
+use Rattle.std.proofs.Common.{sym, ◌∙◌, ap, subst}
+use Rattle.std.specs.Option.{IsSome}
+use Rattle.std.specs.FinMap as map
+use Rattle.ledger_spec.specs.Bytes.{Nodes}
+use Rattle.rotating_store.proofs.Keeping.{swapped_numbers, swapped_keeps, swapped_nodes, either_way, numbered_live, ready_empty_of}
+use Rattle.rotating_store.proofs.Noting.{turned_none, turned_kept, turned_fewer}
 use Rattle.rotating_store.proofs.store.RotStore.swap.Goals as goal
 
 -- the ready backend is empty and has the greatest number, so as each moves down one place the numbers rise and the maps agree
@@ -17,6 +21,9 @@ invariant_of-self-2 g c = (
       c.in-Some.fresh c.replace-full.new.dest c.replace-old.new.dest
       c.self.inside.ready c.take.new.self (c.self.invariant.1 tells) (sym c.take.ensures.value ∙ c.in-Some.is) c.take.ensures.after
       c.replace-full.ensures.after (c.replace-old.ensures.after ∙ c.replace-full.ensures.value),
+  λ tells. turned_none _ _ (ap g.Sh.B.Backend.held c.replace-full.ensures.after
+      ∙ ready_empty_of g.Sh.B.Backend.number g.Sh.B.Backend.held g.Sh.B.Backend.doubt _ _ _ _ c.self.inside.ready c.in-Some.fresh _
+      (c.self.invariant.1 tells) (sym c.take.ensures.value ∙ c.in-Some.is)),
 )
 
 -- the new writable backend is empty, so all that is held is what the old writable one held
@@ -27,3 +34,16 @@ returns-clause-nodes g c tells = rw (← c.self.view_is) (
     (sym c.take.ensures.value ∙ c.in-Some.is) c.replace-full.ensures.after
     (c.replace-old.ensures.after ∙ c.replace-full.ensures.value)
     )
+
+-- what the old writable backend holds had its notes carried, and they are the earlier ones now
+pub returns-clause-notes : goal.returns-clause-notes
+returns-clause-notes g c tells = rw (← c.self.view_is) (λ h has held. turned_kept (g.Sh.B.Backend.held c.self.inside.writable)
+    c.self.inside.noted c.turn.new.self h (c.self.invariant.2 tells) c.turn.ensures has
+    (subst (λ (m : Nodes). IsSome (map.get m h)) (swapped_nodes g.Sh.B.Backend.number g.Sh.B.Backend.held g.Sh.B.Backend.doubt
+    c.self.inside.writable c.self.inside.archive
+    c.in-Some.fresh c.replace-full.new.dest c.replace-old.new.dest c.self.inside.ready (c.self.invariant.1 tells)
+    (sym c.take.ensures.value ∙ c.in-Some.is) c.replace-full.ensures.after
+    (c.replace-old.ensures.after ∙ c.replace-full.ensures.value)) held))
+
+pub returns-clause-no_notes : goal.returns-clause-no_notes
+returns-clause-no_notes g c = rw (← c.self.view_is) (λ h has. turned_fewer c.self.inside.noted c.turn.new.self h c.turn.ensures has)
