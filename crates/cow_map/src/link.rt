@@ -102,7 +102,7 @@ impl Links {
     pub(crate) fn of_inner(alloc: Global, inner: &Inner) -> Result<Links, Memory>
         ensures { IfOk result (λ links. links ≡ map link_to inner.now.hashes) }
     {
-        let mut links = Vec::new(alloc);
+        let mut links = Vec::with_capacity(alloc, 16)?;
         for b in 0..16u8 {
             links.push(Link::to(&inner.branch(b)))?;
         }
@@ -122,7 +122,7 @@ impl Links {
         ensures { IfOk result (λ links. links ≡ map (moved_link n) self.now) }
     {
         self.known();
-        let mut links = Vec::new(alloc);
+        let mut links = Vec::with_capacity(alloc, 16)?;
         for b in 0..16u8 {
             links.push(self.get(b).moved(n)?)?;
         }

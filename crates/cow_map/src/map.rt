@@ -1,6 +1,6 @@
 //! A map that shares its nodes with its snapshots.
 ghost use Rattle.std.specs.Prelude.{◌≡◌, ◌≢◌, ◌≤◌, ◌<◌, ◌++◌, ℕ, [], length, vec_len, Some, IsTrue, IfErr, IfOk, OnErr, OnOk, MatchBool};
-ghost use Rattle.std.specs.Prelude.{MatchOption};
+ghost use Rattle.std.specs.Prelude.{MatchOption, false};
 ghost use Rattle.std.specs.List.{flat_map, slice_get, slice_index_or};
 ghost use Rattle.std.specs.FinMap as map;
 ghost use Rattle.run_io.specs.Bytes.{Rose};
@@ -342,6 +342,9 @@ impl CowMap {
         // where the map stands for something, only a failure of the source or want of memory comes
         ensures free { IsTrue S.tells → (items : Items) →
             StandsFor H.half (map.get (S.stored source.old)) self.old items → IfErr result IsFailure }
+
+        // a map without the key stays as it is, its nodes too
+        ensures absent { IfOk result (λ there. there ≡ false → self.new ≡ self.old) }
         ensures err { OnErr result (self.new ≡ self.old) }
         ensures same { IsTrue S.tells → S.stored source.new ≡ S.stored source.old }
         ensures rest { S.rest source.new ≡ S.rest source.old }

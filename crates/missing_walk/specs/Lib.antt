@@ -1,2 +1,3 @@
-pub mod Sees
 pub mod Faults
+pub mod Founds
+pub mod Sees

@@ -15,6 +15,7 @@ ghost use Rattle.ledger_spec.specs.Own.{own_forms};
 ghost use Rattle.ledger_header.specs.Fields.{fields, Reads};
 ghost use Rattle.rotating_store.specs.Stores.{nodes_of};
 ghost use Rattle.own_forms.specs.Reading.{WasRead, IsReadable};
+ghost use Rattle.missing_walk.specs.Founds.{HasNoHeader, IsFound};
 ghost use Rattle.missing_walk.specs.Sees.{Finds, IsHeaderOf, Walks, shown, nothing_seen, sees, is_over as has_ended, noted, found_in_maps};
 
 mod descent;
@@ -86,8 +87,7 @@ impl Found {
 
 /// The stored header under the target, and the missing places of its ledger or the broken place at
 /// which the search ended. Where the target isn't stored its header is missing, and where what is
-/// stored there is no header, the header is broken by what is foreign. It asks each backend at most
-/// once for each place that it sees.
+/// stored there is no header, the header is broken by what is foreign.
 pub fn whole<H: NodeHash, Sh: Shelf>(
     alloc: Global,
     store: &mut RotStore<Sh>,
@@ -95,7 +95,7 @@ pub fn whole<H: NodeHash, Sh: Shelf>(
 ) -> Result<Found, SearchFault>
     ensures found { IsReadable Sh.B.tells H.half store.old
         → IfOk result (Finds H.half (own_forms H.half (map.get (nodes_of store.old))) target.now) }
-    ensures size { IfOk result (λ f. length f.missing ≤ 256) }
+    ensures known { IfOk result IsFound }
     ensures read { WasRead Sh.B.tells H.half store.old store.new }
     ensures fault { IfErr result (λ e. e ≡ SearchFault.Fault → Rose store.old.faults store.new.faults) }
 {
@@ -118,6 +118,7 @@ fn walk_ledger<H: NodeHash, Sh: Shelf>(
     ensures found { IsReadable Sh.B.tells H.half store.old → OnOk result
         (shown found.new ≡ sees nothing_seen (findings H.half (own_forms H.half (map.get (nodes_of store.old))) target.now)) }
     ensures few { OnOk result (length found.new.missing ≤ 256) }
+    ensures none { OnOk result (found.new.header ≡ None → HasNoHeader found.new.missing found.new.broken) }
     ensures read { WasRead Sh.B.tells H.half store.old store.new }
     ensures fault { IfErr result (λ e. e ≡ BackFault.Fault → Rose store.old.faults store.new.faults) }
 {

@@ -3,3 +3,4 @@ pub mod Storing
 pub mod Kept
 pub mod Wanted
 pub mod Notes
+pub mod Outcomes

@@ -4,10 +4,11 @@ use Rattle.ledger_spec.specs.Bytes.{Bytes, Hash, is_zero}
 use Rattle.ledger_spec.specs.Spots as way
 use Rattle.ledger_spec.specs.Spots.{into}
 use Rattle.shamap_node.specs.declared.parts.Inner.{Inner}
-use Rattle.ledger_spec.specs.declared.outcomes.Offered.{Offered}
-use Rattle.ledger_spec.specs.declared.outcomes.Offered.TheVariants as offered
+use Rattle.ledger_spec.specs.declared.ShapeFault.{ShapeFault}
 use Rattle.ledger_spec.specs.declared.outcomes.HeadOffered.{HeadOffered}
 use Rattle.ledger_spec.specs.declared.outcomes.HeadOffered.TheVariants as head
+use Rattle.node_offer.specs.declared.outcome.Offered.{Offered}
+use Rattle.node_offer.specs.declared.outcome.Offered.TheVariants as offered
 use Rattle.node_offer.specs.declared.store.Stored.{Stored}
 use Rattle.node_offer.specs.declared.store.Stored.TheVariants as stored
 use Rattle.node_offer.specs.declared.spots.Spot.{Spot}
@@ -35,11 +36,11 @@ step_of (Ok inner) on = on inner.hashes
 step_of (Err s) on = spot s
 
 -- what became of a node that was to have this hash, and the rule that it breaks
-abbrev pub offered_as : Hash → Option ℕ → Stored → Offered
+abbrev pub offered_as : Hash → Option ShapeFault → Stored → Offered
 offered_as wanted rule (stored.WrongHash found) = offered.BadHash wanted found
 offered_as wanted rule stored.Same = offered.Duplicate
 offered_as wanted None stored.New = offered.Good
-offered_as wanted (Some number) stored.New = offered.Malformed number
+offered_as wanted (Some fault) stored.New = offered.Malformed fault
 
 -- what became of a header of the right length
 abbrev pub head_as : Stored → HeadOffered

@@ -6,6 +6,7 @@ mod fault;
 mod header;
 mod laws;
 mod node;
+mod outcome;
 mod spots;
 mod store;
 
@@ -13,4 +14,5 @@ pub use fault::OfferFault;
 pub use header::offer_header;
 pub use laws::a_wanted_node_is_never_bad;
 pub use node::offer;
+pub use outcome::Offered;
 pub use spots::{Spot, place, root_in};

@@ -1,11 +1,11 @@
 //! A node that a peer offers for a place.
 ghost use Rattle.std.specs.Prelude.{◌≡◌, IsTrue, IfErr, IfOk, Ok, is_some};
 ghost use Rattle.std.specs.FinMap as map;
-ghost use Rattle.std.specs.Option.{option_map};
 ghost use Rattle.ledger_spec.specs.Findings.{held_of};
-ghost use Rattle.ledger_spec.specs.Forms.{form_of};
-ghost use Rattle.ledger_spec.specs.Rules.{fault_of, rule_number};
+ghost use Rattle.ledger_spec.specs.Forms.{Held, form_of};
+ghost use Rattle.ledger_spec.specs.Rules.{fault_of};
 ghost use Rattle.ledger_spec.specs.Spots as way;
+ghost use Rattle.ledger_spec.specs.Spots.{spot_of};
 ghost use Rattle.ledger_spec.specs.Wire.{read_wire};
 ghost use Rattle.shamap_node.specs.Nodes.{held};
 ghost use Rattle.ledger_spec.specs.Offers.{node_outcome, spot_outcome, stored_by};
@@ -14,16 +14,18 @@ ghost use Rattle.ledger_spec.specs.Own.{AreStored};
 ghost use Rattle.rotating_store.specs.Stores.{nodes_of};
 ghost use Rattle.own_forms.specs.Reading.{IsLater, IsReadable};
 ghost use Rattle.node_offer.specs.Stored.{HasForms, Refuses};
+ghost use Rattle.node_offer.specs.Outcomes.{numbered, HasCause, HasRule};
 ghost use Rattle.node_offer.specs.Ways.{hashes_of_parent, offered_as, spot as spot_means};
 
 use crate::fault::OfferFault;
+use crate::outcome::Offered;
 use crate::spots::{Spot, place};
 use crate::store::{Stored, put};
 use half_hash::{Hash32, NodeHash, known_half};
-use ledger_spec::Offered;
+use ledger_spec::ShapeFault;
 use nib_path::NodeId;
 use node_backend::Shelf;
-use node_wire::{WireFault, decode_wire, wire_code};
+use node_wire::{WireFault, decode_wire};
 use rotating_store::RotStore;
 use shamap_node::{Inner, Kind, Node, encode_form, shape};
 use std::alloc::Global;
@@ -42,11 +44,16 @@ pub fn offer<H: NodeHash, Sh: Shelf>(
     blob: &[u8],
 ) -> Result<Offered, OfferFault>
     ensures outcome { IsTrue Sh.B.tells → AreStored H.half (map.get (nodes_of store.old))
-        → IfOk result (λ o. node_outcome H.half (map.get (nodes_of store.old)) target.now kind id.now blob.now ≡ Ok o) }
+        → IfOk result (λ o. node_outcome H.half (map.get (nodes_of store.old)) target.now kind id.now blob.now ≡ Ok (numbered o)) }
+
+    // a cause is one of the bytes, and a rule one that the node breaks
+    ensures cause { IfOk result (HasCause H.half blob.now) }
+    ensures rule { IsTrue Sh.B.tells → AreStored H.half (map.get (nodes_of store.old)) → (n : Held) → read_wire H.half blob.now ≡ Ok n
+        → IfOk result (HasRule n (spot_of (map.get (nodes_of store.old)) target.now kind id.now) kind id.now) }
 
     // a node that is good, or that breaks a rule, is stored under its hash, and nothing else changes
     ensures stored { IsTrue Sh.B.tells
-        → IfOk result (λ o. HasForms H.half (stored_by (read_wire H.half blob.now) (Ok o)) store.old store.new) }
+        → IfOk result (λ o. HasForms H.half (stored_by (read_wire H.half blob.now) (Ok (numbered o))) store.old store.new) }
     ensures err { IsTrue Sh.B.tells → AreStored H.half (map.get (nodes_of store.old))
         → IfErr result (λ e. Refuses H.half (node_outcome H.half (map.get (nodes_of store.old)) target.now kind id.now blob.now)
         (stored_by (read_wire H.half blob.now) (node_outcome H.half (map.get (nodes_of store.old)) target.now kind id.now blob.now))
@@ -58,7 +65,7 @@ pub fn offer<H: NodeHash, Sh: Shelf>(
     let node = match decode_wire::<H>(alloc, blob) {
         Ok(node) => node,
         Err(WireFault::Memory) => return Err(OfferFault::Memory),
-        Err(fault) => return Ok(Offered::BadWire(wire_code(&fault))),
+        Err(fault) => return Ok(Offered::BadWire(fault)),
     };
     let spot = place::<H, Sh>(alloc, store, target, kind, id)?;
     known_half::<H>();
@@ -75,8 +82,10 @@ fn offer_to<H: NodeHash, Sh: Shelf>(
     id: &NodeId,
 ) -> Result<Offered, OfferFault>
     ensures outcome { IsTrue Sh.B.tells → IfOk result (λ o.
-        spot_outcome H.half (map.get (nodes_of store.old)) kind id.now (held node.now) (spot_means spot) ≡ Ok o) }
-    ensures stored { IsTrue Sh.B.tells → IfOk result (λ o. HasForms H.half (stored_by (Ok (held node.now)) (Ok o)) store.old store.new) }
+        spot_outcome H.half (map.get (nodes_of store.old)) kind id.now (held node.now) (spot_means spot) ≡ Ok (numbered o)) }
+    ensures rule { IfOk result (HasRule (held node.now) (spot_means spot) kind id.now) }
+    ensures stored { IsTrue Sh.B.tells
+        → IfOk result (λ o. HasForms H.half (stored_by (Ok (held node.now)) (Ok (numbered o))) store.old store.new) }
     ensures err { IsTrue Sh.B.tells → IfErr result (λ e. Refuses H.half
         (spot_outcome H.half (map.get (nodes_of store.old)) kind id.now (held node.now) (spot_means spot))
         (stored_by (Ok (held node.now)) (spot_outcome H.half (map.get (nodes_of store.old)) kind id.now (held node.now) (spot_means spot)))
@@ -109,8 +118,10 @@ fn offer_at<H: NodeHash, Sh: Shelf>(
 ) -> Result<Offered, OfferFault>
     ensures outcome { IsTrue Sh.B.tells → IfOk result (λ o.
         spot_outcome H.half (map.get (nodes_of store.old)) kind id.now (held node.now)
-        (way.wanted wanted.now (hashes_of_parent parent)) ≡ Ok o) }
-    ensures stored { IsTrue Sh.B.tells → IfOk result (λ o. HasForms H.half (stored_by (Ok (held node.now)) (Ok o)) store.old store.new) }
+        (way.wanted wanted.now (hashes_of_parent parent)) ≡ Ok (numbered o)) }
+    ensures rule { IfOk result (HasRule (held node.now) (way.wanted wanted.now (hashes_of_parent parent)) kind id.now) }
+    ensures stored { IsTrue Sh.B.tells
+        → IfOk result (λ o. HasForms H.half (stored_by (Ok (held node.now)) (Ok (numbered o))) store.old store.new) }
     ensures err { IsTrue Sh.B.tells → IfErr result (λ e. Refuses H.half
         (spot_outcome H.half (map.get (nodes_of store.old)) kind id.now (held node.now) (way.wanted wanted.now (hashes_of_parent parent)))
         (stored_by (Ok (held node.now))
@@ -128,20 +139,20 @@ fn offer_at<H: NodeHash, Sh: Shelf>(
 }
 
 // What became of a node that was to have this hash.
-fn stored_as(stored: Stored, wanted: Hash32, rule: Option<u8>) -> Offered
+fn stored_as(stored: Stored, wanted: Hash32, rule: Option<ShapeFault>) -> Offered
     ensures { result ≡ offered_as wanted rule stored }
 {
     match (stored, rule) {
         (Stored::WrongHash(found), _) => Offered::BadHash { wanted, found },
         (Stored::Same, _) => Offered::Duplicate,
         (Stored::New, None) => Offered::Good,
-        (Stored::New, Some(number)) => Offered::Malformed(number),
+        (Stored::New, Some(fault)) => Offered::Malformed(fault),
     }
 }
 
-// The number of the rule that the node breaks at its place.
-fn rule_broken(node: &Node, parent: Option<Inner>, kind: Kind, id: &NodeId) -> Option<u8>
-    ensures { result ≡ option_map rule_number (fault_of (held node.now) (hashes_of_parent parent) kind id.now) }
+// The rule that the node breaks at its place.
+fn rule_broken(node: &Node, parent: Option<Inner>, kind: Kind, id: &NodeId) -> Option<ShapeFault>
+    ensures { result ≡ fault_of (held node.now) (hashes_of_parent parent) kind id.now }
 {
     let judged = match &parent {
         None => shape(node, None, kind, id),
@@ -149,6 +160,6 @@ fn rule_broken(node: &Node, parent: Option<Inner>, kind: Kind, id: &NodeId) -> O
     };
     match judged {
         Ok(()) => None,
-        Err(fault) => Some(fault.number()),
+        Err(fault) => Some(fault),
     }
 }

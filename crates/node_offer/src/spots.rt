@@ -1,5 +1,5 @@
 //! The way from a ledger's header to a place in one of its maps.
-ghost use Rattle.std.specs.Prelude.{◌≡◌, [], None, List, IfOk, IfErr};
+ghost use Rattle.std.specs.Prelude.{◌≡◌, ◌+◌, ◌*◌, ◌≤◌, [], None, List, length, IfOk, IfErr};
 ghost use Rattle.std.specs.FinMap as map;
 ghost use Rattle.std.specs.Option.{option_map, option_map_or};
 ghost use Rattle.ledger_spec.specs.Forms.{header_of, inner_of as inner_form};
@@ -39,7 +39,7 @@ pub enum Spot {
 }
 
 /// What the place is, by the nodes that are held. The first thing in the way, from the root on, is the answer. It asks each backend
-/// at most once for each place on the way.
+/// at most once for the header and for each place on the way.
 pub fn place<H: NodeHash, Sh: Shelf>(
     alloc: Global,
     store: &mut RotStore<Sh>,
@@ -50,6 +50,7 @@ pub fn place<H: NodeHash, Sh: Shelf>(
     ensures spot { IsReadable Sh.B.tells H.half store.old
         → IfOk result (λ s. spot s ≡ spot_of (own_forms H.half (map.get (nodes_of store.old))) target.now kind id.now) }
     ensures read { WasRead Sh.B.tells H.half store.old store.new }
+    ensures few { store.new.gets ≤ store.old.gets + 2 * (length id.now + 1) }
     ensures fault { IfErr result (λ e. e ≡ OfferFault.Fault → Rose store.old.faults store.new.faults) }
     ensures kind { IfErr result IsPlain }
 {
@@ -70,6 +71,7 @@ pub fn root_in<H: NodeHash, Sh: Shelf>(
     ensures root { IsReadable Sh.B.tells H.half store.old → IfOk result (λ root. root
         ≡ option_map (header_root kind) (header_in (own_forms H.half (map.get (nodes_of store.old))) target.now)) }
     ensures read { WasRead Sh.B.tells H.half store.old store.new }
+    ensures few { store.new.gets ≤ store.old.gets + 2 }
     ensures fault { IfErr result (λ e. e ≡ BackFault.Fault → Rose store.old.faults store.new.faults) }
 {
     match own_form::<H, Sh>(alloc, store, target)? {
@@ -100,6 +102,7 @@ fn walk<H: NodeHash, Sh: Shelf>(
     ensures spot { IsReadable Sh.B.tells H.half store.old
         → IfOk result (λ s. spot s ≡ spot_from (own_forms H.half (map.get (nodes_of store.old))) [] None root id.now) }
     ensures read { WasRead Sh.B.tells H.half store.old store.new }
+    ensures few { store.new.gets ≤ store.old.gets + 2 * length id.now }
     ensures fault { IfErr result (λ e. e ≡ BackFault.Fault → Rose store.old.faults store.new.faults) }
 {
     id.known();
@@ -132,6 +135,7 @@ fn step<H: NodeHash, Sh: Shelf>(
     ensures step { IsReadable Sh.B.tells H.half store.old → IfOk result (λ s. (on : List Hash → way.Spot)
         → step_of s on ≡ step_down at on hash.now (own_forms H.half (map.get (nodes_of store.old)) hash.now)) }
     ensures read { WasRead Sh.B.tells H.half store.old store.new }
+    ensures few { store.new.gets ≤ store.old.gets + 2 }
     ensures fault { IfErr result (λ e. e ≡ BackFault.Fault → Rose store.old.faults store.new.faults) }
 {
     if hash.is_zero() {

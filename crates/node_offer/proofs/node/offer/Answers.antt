@@ -1,11 +1,15 @@
-use Rattle.std.proofs.Common.{◌∙◌, ap, refl}
+use Rattle.std.proofs.Common.{◌∙◌, ap, refl, sym}
+use Rattle.std.specs.FinMap as map
 use Rattle.ledger_spec.specs.Forms.{IsHeld, form_of}
-use Rattle.ledger_spec.proofs.OfferLaws.{read_wire_held}
+use Rattle.ledger_spec.specs.Spots.{spot_of}
+use Rattle.ledger_spec.proofs.OfferLaws.{read_wire_held, ok_same}
+use Rattle.ledger_spec.proofs.Owning.{all_own}
 use Rattle.shamap_node.specs.Nodes.{held}
 use Rattle.rotating_store.specs.Stores.{nodes_of}
 use Rattle.own_forms.proofs.Reading.{stored_notes}
 use Rattle.node_offer.specs.Ways.{spot}
 use Rattle.node_offer.proofs.Notes.{held_back}
+use Rattle.node_offer.proofs.Outcomes.{no_cause, rule_there}
 use Rattle.node_offer.proofs.Storing.{by_place, refused_there, handed_on}
 use Rattle.node_offer.proofs.node.offer.Goals as goal
 
@@ -42,3 +46,20 @@ returns-clause-notes g c told =
     let n = held c.in-Ok.node in
     let is : IsHeld half n = read_wire_held half c.args.blob.now n c.known_half.ensures c.in-Ok.ensures.node in
     c.in_ok-offer_to.ensures.notes (held_back half n (form_of n) (is, refl)) (c.place.ensures.read.notes told)
+
+-- bytes that were read are judged as a node, and of that no cause is told
+pub returns-clause-cause : goal.returns-clause-cause
+returns-clause-cause g c =
+    no_cause g.H.NodeHash.half c.args.blob.now (held c.in-Ok.node) (spot c.in_ok-spot.spot) c.args.kind c.args.id.now
+    c.in_ok-offer_to.field-0 c.in_ok-offer_to.ensures.rule
+
+-- the node that was read is judged at the place that the definitions find
+pub returns-clause-rule : goal.returns-clause-rule
+returns-clause-rule g c tells all n read =
+    let half = g.H.NodeHash.half in
+    let nodes = map.get (nodes_of c.args.store.now) in
+    rule_there (held c.in-Ok.node) n (spot c.in_ok-spot.spot) (spot_of nodes c.args.target.now c.args.kind c.args.id.now)
+    c.args.kind c.args.id.now c.in_ok-offer_to.field-0 (ok_same (sym c.in-Ok.ensures.node ∙ read))
+    (c.in_ok-spot.ensures.spot (tells, stored_notes half c.args.store.now all)
+    ∙ ap (λ l. spot_of l c.args.target.now c.args.kind c.args.id.now) (all_own half nodes all))
+    c.in_ok-offer_to.ensures.rule

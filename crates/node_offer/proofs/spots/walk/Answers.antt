@@ -41,4 +41,5 @@ loop-depth-preserved g c = (
       (c.in_ok-inner.ensures.step
       (c.loop-depth.invariant.0.notes tells)))
       (c.loop-depth.invariant.1 tells),
+  omega (arith, c.loop-depth.invariant.2, c.in_ok-inner.ensures.few),
 )
