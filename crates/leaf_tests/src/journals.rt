@@ -1,19 +1,23 @@
 //! Lines of a journal that the program's own tests don't print.
+use crate::words::item;
 use half_hash::{Blob, Hash32};
 use journal_text::line;
 use ledger_machine::{
-    BeginReply, CloseReply, Command, EditReply, Entry, Reply, ViewReply, WantReply,
+    BeginReply, CloseReply, Command, EditReply, Entry, PageReply, Reply, ViewReply, WantReply,
 };
+use shamap_node::{Kind, Leaf, Node};
 use std::alloc::Global;
+use std::sync::Arc;
 use std::test::Fail;
 
-/// What the first line of actor 0 says.
+/// What the first line of actor 0 says; `]` stands for 62 zeros.
 const LINES: &str = "want toomany 64
 view toomany 1024
 edit toomany 64
 close below floor 7
 close zerohash 4C575200
 close fault
+page items 2 10]=0102 20]=-
 begin busy
 begin memory";
 
@@ -28,7 +32,8 @@ fn lines_are_printed(rt: HostRuntime) -> Result<(), Fail> {
             used: Vec::new(alloc),
         };
         let printed = line(alloc, &command(says), &entry)?;
-        let want = format!(in alloc; "1 0 {says}\n")?;
+        let zeros = format!(in alloc; "{:062}", 0)?;
+        let want = format!(in alloc; "1 0 {says}\n")?.replace("]", &zeros)?;
         assert_eq!(rt; printed.bytes(), want.as_bytes(), "{says}");
     }
     Ok(())
@@ -41,6 +46,12 @@ fn command(says: &str) -> Command {
         Some("want") => Command::Want { target, seq: 10 },
         Some("view") => Command::View { view: 1, target },
         Some("edit") => Command::Edit { session: 1, target },
+        Some("page") => Command::Page {
+            view: 1,
+            kind: Kind::State,
+            after: target,
+            n: 2,
+        },
         Some("close") => Command::Close {
             session: 1,
             fields: [0; 4],
@@ -58,8 +69,22 @@ fn reply(alloc: Global, says: &str) -> Result<Reply, Fail> {
         "close below floor 7" => Reply::Close(CloseReply::BelowFloor(7)),
         "close zerohash 4C575200" => Reply::ZeroHash(Blob::from_slice(alloc, b"LWR\0")?),
         "close fault" => Reply::Fault,
+        "page items 2 10]=0102 20]=-" => page(alloc)?,
         "begin busy" => Reply::Begin(BeginReply::Busy),
         "begin memory" => Reply::Memory,
         _ => return Err("another line".into()),
     })
+}
+
+/// A page of two items, the second of no data.
+fn page(alloc: Global) -> Result<Reply, Fail> {
+    let mut leaves = Vec::new(alloc);
+    for (key, data) in [("10", "0102"), ("20", "-")] {
+        let leaf = Leaf {
+            kind: Kind::State,
+            item: item(alloc, key, data)?,
+        };
+        leaves.push(Arc::new(alloc, Node::Leaf(leaf))?)?;
+    }
+    Ok(Reply::Page(PageReply::Items(leaves)))
 }
