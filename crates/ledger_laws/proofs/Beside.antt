@@ -103,7 +103,7 @@ module _ (half : Half) (es : ForActor Session) where
       → Pages half s kind key n root reply used s' → Pages half (beside s) kind key n root reply used (beside s')
   pages_beside s kind key n None reply used s' g = gives_beside _ s (beside s) reply s' refl g
   pages_beside s kind key n (Some root) reply used s' g = (
-    record { page = g.0.page; says = g.0.says; own = g.0.own; stored = g.0.stored; every = g.0.every },
+    record { page = g.0.page; says = g.0.says; own = g.0.own; read = g.0.read; stored = g.0.stored; every = g.0.every },
     after_beside s (beside s) s' refl g.1,
   )
 

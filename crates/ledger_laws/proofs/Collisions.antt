@@ -42,8 +42,8 @@ use Rattle.ledger_machine.specs.Base.{base_said, base_for, base_reply, node_said
 use Rattle.ledger_spec.specs.Offers.{head_forms}
 use Rattle.ledger_machine.specs.Steps.{Step, IsRow, own_forms}
 use Rattle.ledger_machine.specs.Runs.{Run, IsRunOf, used_by, opening_of}
-use Rattle.ledger_machine.specs.Collisions.{form_read, part_form, head_form, offered_by, offered_in, Collides, made_by, made_along}
-use Rattle.ledger_machine.specs.Collisions.{brought_by, HasZero, ShowsIn}
+use Rattle.ledger_machine.specs.Collisions.{form_read, part_form, head_form, offered_by, offered_in, Clashes, made_by, made_along}
+use Rattle.ledger_machine.specs.Collisions.{brought_by, ShowsIn}
 use Rattle.ledger_machine.specs.declared.replies.CloseReply.TheVariants as close
 use Rattle.ledger_machine.specs.Closing.{new_header, closing_forms, clash_under, first_clash, closed_or_clash, zero_or, close_given}
 use Rattle.ledger_machine.specs.Closing.{closes_into, unless_zero}
@@ -188,10 +188,14 @@ find_holds test (y ∷ xs) x e = by (test y) refl e (λ later. find_holds test x
         (subst (λ z. Contains (y ∷ xs) z) same (in_head y xs), subst (λ z. IsTrue (test z)) same is)
     by false is e later = let there = later e in (in_tail y x xs there.0, there.1)
 
--- what isn't a duplicate differs
-differs : {A : Type 0} (b : Bool) (x : A) (d c : Clash) → (if b then Ok x else Err d) ≡ Err c → b ≡ false
+-- what isn't a duplicate differs, and is the clash
+differs : {A : Type 0} (b : Bool) (x : A) (d c : Clash) → (if b then Ok x else Err d) ≡ Err c → (b ≡ false) × (d ≡ c)
 differs true x d c e = cc
-differs false x d c e = refl
+differs false x d c e = (refl, cc)
+
+-- the clash is one of two of these forms
+abbrev IsClashIn : Half → List Bytes → Clash → Type 0
+IsClashIn half forms c = Clashes half forms c.hash c.old c.new
 
 module _ (half : Half) (forms : List Bytes) where
   -- after each step all that is stored is offered or made
@@ -205,20 +209,27 @@ module _ (half : Half) (forms : List Bytes) where
 
   -- a form that isn't the one under its hash is another with that hash
   found_other : (nodes : Lookup) (h : Hash) (old new : Bytes) → AreFrom half forms nodes → nodes h ≡ Some old → half new ≡ h
-      → Contains forms new → same_bytes old new ≡ false → Collides half forms
+      → Contains forms new → same_bytes old new ≡ false → Clashes half forms h old new
   found_other nodes h old new from stored own offers apart = record {
-    one = old;
-    other = new;
     first = (from h old stored).1;
     second = offers;
     different = other_text old new (sym apart);
-    same = sym (from h old stored).0 ∙ sym own;
+    old_hash = sym (from h old stored).0;
+    new_hash = own;
   }
+
+  -- so does one that isn't a duplicate of it
+  not_duplicate : {A : Type 0} (nodes : Lookup) (h : Hash) (old new : Bytes) (x : A) (c : Clash) → AreFrom half forms nodes
+      → nodes h ≡ Some old → half new ≡ h → Contains forms new
+      → (if same_bytes old new then Ok x else Err (record { hash = h; old = old; new = new })) ≡ Err c → IsClashIn half forms c
+  not_duplicate nodes h old new x c from stored own offers e =
+      let d = differs (same_bytes old new) x (record { hash = h; old = old; new = new }) c e in
+      subst (IsClashIn half forms) d.1 (found_other nodes h old new from stored own offers d.0)
 
   -- a clash of a header
   head_clash : (nodes : Lookup) (t : Hash) (bytes : Bytes) (c : Clash) → AreFrom half forms nodes
       → ((form : Bytes) → Contains (head_form bytes) form → Contains forms form)
-      → head_outcome half nodes t bytes ≡ Err c → Collides half forms
+      → head_outcome half nodes t bytes ≡ Err c → IsClashIn half forms c
   head_clash nodes t bytes c from each e =
       let form : Bytes = header_prefix ++ bytes in
       let past : (length bytes == 118 ≡ true) × (same_bytes (half form) t ≡ true) × (head_given t form (nodes t) ≡ Err c) =
@@ -235,29 +246,26 @@ module _ (half : Half) (forms : List Bytes) where
       past_tests true true n found r e = (refl, refl, e)
 
       held : (o : Option Bytes) → nodes t ≡ o → half (header_prefix ++ bytes) ≡ t → Contains forms (header_prefix ++ bytes)
-          → head_given t (header_prefix ++ bytes) o ≡ Err c → Collides half forms
+          → head_given t (header_prefix ++ bytes) o ≡ Err c → IsClashIn half forms c
       held None is own offers e = cc
       held (Some old) is own offers e =
-          found_other nodes t old (header_prefix ++ bytes) from is own offers
-          (differs (same_bytes old (header_prefix ++ bytes)) head.Duplicate
-          (record { hash = t; old = old; new = header_prefix ++ bytes }) c e)
+          not_duplicate nodes t old (header_prefix ++ bytes) head.Duplicate c from is own offers e
 
   -- a clash of a node with the wanted hash
   given_clash : (nodes : Lookup) (n : Held) (h : Hash) (fault : Option ShapeFault) (o : Option Bytes) (c : Clash) → AreFrom half forms nodes
       → Contains forms (form_of n) → nodes h ≡ o → hash_of half n ≡ h
-      → node_given fault h (form_of n) o ≡ Err c → Collides half forms
+      → node_given fault h (form_of n) o ≡ Err c → IsClashIn half forms c
   given_clash nodes n h None None c from offers is own e = cc
   given_clash nodes n h (Some fault) None c from offers is own e = cc
-  given_clash nodes n h None (Some old) c from offers is own e = found_other nodes h old (form_of n) from is own offers
-      (differs (same_bytes old (form_of n)) offered.Duplicate (record { hash = h; old = old; new = form_of n }) c e)
+  given_clash nodes n h None (Some old) c from offers is own e =
+      not_duplicate nodes h old (form_of n) offered.Duplicate c from is own offers e
   given_clash nodes n h (Some fault) (Some old) c from offers is own e =
-      found_other nodes h old (form_of n) from is own offers
-      (differs (same_bytes old (form_of n)) offered.Duplicate (record { hash = h; old = old; new = form_of n }) c e)
+      not_duplicate nodes h old (form_of n) offered.Duplicate c from is own offers e
 
   -- a clash of a node at a place
   spot_clash : (nodes : Lookup) (kind : Kind) (path : List ℕ) (n : Held) (x : Spot) (c : Clash) → AreFrom half forms nodes
       → Contains forms (form_of n) → spot_outcome half nodes kind path n x ≡ Err c
-      → Collides half forms
+      → IsClashIn half forms c
   spot_clash nodes kind path n no_base c from offers e = cc
   spot_clash nodes kind path n (no_parent p) c from offers e = cc
   spot_clash nodes kind path n (empty_branch p) c from offers e = cc
@@ -275,7 +283,7 @@ module _ (half : Half) (forms : List Bytes) where
   -- a clash of what is read
   read_clash : (nodes : Lookup) (t : Hash) (kind : Kind) (path : List ℕ) (r : Result Held ℕ) (c : Clash) → AreFrom half forms nodes
       → ((form : Bytes) → Contains (form_read r) form → Contains forms form)
-      → wire_outcome half nodes t kind path r ≡ Err c → Collides half forms
+      → wire_outcome half nodes t kind path r ≡ Err c → IsClashIn half forms c
   read_clash nodes t kind path (Err cause) c from each e = cc
   read_clash nodes t kind path (Ok n) c from each e =
       spot_clash nodes kind path n (spot_of nodes t kind path) c from (each (form_of n) (in_head (form_of n) [])) e
@@ -283,7 +291,7 @@ module _ (half : Half) (forms : List Bytes) where
   -- a clash of a root
   root_clash : (nodes : Lookup) (t : Hash) (kind : Kind) (blob : Option Bytes) (c : Clash) → AreFrom half forms nodes
       → ((form : Bytes) → Contains (part_form half blob) form → Contains forms form)
-      → root_outcome half nodes t kind blob ≡ Err c → Collides half forms
+      → root_outcome half nodes t kind blob ≡ Err c → IsClashIn half forms c
   root_clash nodes t kind None c from each e = cc
   root_clash nodes t kind (Some blob) c from each e = read_clash nodes t kind [] (read_wire half blob) c from each
       (at (node_outcome half nodes t kind [] blob) e)
@@ -312,27 +320,28 @@ parts_clash (Ok x) (Ok y) (Ok z) c e = cc
 base_present : (half : Half) (s : State) (p : ℕ) (t : Hash) (bytes : Bytes) (state tx : Option Bytes) (o : Option Acquiring) (h : Hash)
     (old new : Bytes)
     → base_for half s p t bytes state tx o ≡ says.Clash h old new
-    → (c : Clash) × (base_outcome half (form_in s) t bytes state tx ≡ Err c)
+    → (c : Clash) × (base_outcome half (form_in s) t bytes state tx ≡ Err c) × (says.Clash c.hash c.old c.new ≡ says.Clash h old new)
 base_present half s p t bytes state tx None h old new e = cc
 base_present half s p t bytes state tx (Some a) h old new e = at (is_present a.peers p) (base_outcome half (form_in s) t bytes state tx) e
   where
     at : (z : Bool) (r : Result Judged Clash) → (if z then base_said r else says.Base base.Unasked) ≡ says.Clash h old new
-        → (c : Clash) × (r ≡ Err c)
+        → (c : Clash) × (r ≡ Err c) × (says.Clash c.hash c.old c.new ≡ says.Clash h old new)
     at true (Ok j) e = cc
-    at true (Err c) e = (c, refl)
+    at true (Err c) e = (c, refl, e)
     at false r e = cc
 
 -- the same of a node
 node_present : (half : Half) (s : State) (p : ℕ) (t : Hash) (kind : Kind) (path : List ℕ) (blob : Bytes) (o : Option Acquiring)
     (h : Hash) (old new : Bytes)
-    → node_for half s p t kind path blob o ≡ says.Clash h old new → (c : Clash) × (node_outcome half (form_in s) t kind path blob ≡ Err c)
+    → node_for half s p t kind path blob o ≡ says.Clash h old new
+    → (c : Clash) × (node_outcome half (form_in s) t kind path blob ≡ Err c) × (says.Clash c.hash c.old c.new ≡ says.Clash h old new)
 node_present half s p t kind path blob None h old new e = cc
 node_present half s p t kind path blob (Some a) h old new e = at (is_present a.peers p) (node_outcome half (form_in s) t kind path blob) e
   where
     at : (z : Bool) (r : Result Offered Clash) → (if z then node_said r else says.Node node.Unasked) ≡ says.Clash h old new
-        → (c : Clash) × (r ≡ Err c)
+        → (c : Clash) × (r ≡ Err c) × (says.Clash c.hash c.old c.new ≡ says.Clash h old new)
     at true (Ok o) e = cc
-    at true (Err c) e = (c, refl)
+    at true (Err c) e = (c, refl, e)
     at false r e = cc
 
 -- no answer has a zero hash
@@ -363,14 +372,17 @@ module _ (half : Half) (forms : List Bytes) where
   -- a clash in the answer to a base reply
   base_clash : (s : State) (p : ℕ) (t : Hash) (bytes : Bytes) (state tx : Option Bytes) (h : Hash) (old new : Bytes)
       → ((form : Bytes) → Contains (head_form bytes ++ part_form half state ++ part_form half tx) form → Contains forms form)
-      → IsFrom half forms s → base_reply half s p t bytes state tx ≡ says.Clash h old new → Collides half forms
+      → IsFrom half forms s → base_reply half s p t bytes state tx ≡ says.Clash h old new → Clashes half forms h old new
   base_clash s p t bytes state tx h old new each from e =
-      let r : (c : Clash) × (base_outcome half (form_in s) t bytes state tx ≡ Err c) =
+      let r : (c : Clash) × (base_outcome half (form_in s) t bytes state tx ≡ Err c)
+      × (says.Clash c.hash c.old c.new ≡ says.Clash h old new) =
       base_present half s p t bytes state tx (get_in hash_cmp s.wanted t) h old new e in
+      let shown : IsClashIn half forms r.0 =
       ⊎_elim (λ one. head_clash half forms (form_in s) t bytes r.0 from of_first one)
       (λ other. ⊎_elim (λ two. root_clash half forms first t kinds.State state r.0 first_from of_one two)
       (λ three. root_clash half forms second t kinds.Tx tx r.0 second_from of_other three) other)
-      (parts_clash _ _ _ r.0 r.1)
+      (parts_clash _ _ _ r.0 r.1) in
+      subst (ShowsIn half forms) r.2 shown
     where
       first : Lookup
       first = behind_header half (form_in s) t bytes state tx
@@ -407,7 +419,7 @@ module _ (half : Half) (forms : List Bytes) where
 
   -- the first clash of several forms
   forms_clash : (s : State) (more : List Bytes) (c : Clash) → ((form : Bytes) → Contains more form → Contains forms form)
-      → IsFrom half forms s → first_clash half s more ≡ Some c → Collides half forms
+      → IsFrom half forms s → first_clash half s more ≡ Some c → IsClashIn half forms c
   forms_clash s [] c each from e = cc
   forms_clash s (form ∷ more) c each from e =
       by (form_in s (half form)) refl e (λ rest. forms_clash (with_form half s form) more c (λ f i. each f (in_tail form f more i))
@@ -417,13 +429,16 @@ module _ (half : Half) (forms : List Bytes) where
       rest = first_clash half (with_form half s form) more
 
       by : (o : Option Bytes) → form_in s (half form) ≡ o → option_or (clash_under (half form) form o) rest ≡ Some c
-          → (rest ≡ Some c → Collides half forms) → Collides half forms
+          → (rest ≡ Some c → IsClashIn half forms c) → IsClashIn half forms c
       by None is e later = later e
-      by (Some old) is e later = at (same_bytes old form) (record { hash = half form; old = old; new = form }) refl e
+      by (Some old) is e later =
+          at (same_bytes old form) (record { hash = half form; old = old; new = form })
+          (λ apart. found_other half forms (form_in s) (half form) old form from is refl (each form (in_head form more)) apart) e
         where
-          at : (t : Bool) (d : Clash) → same_bytes old form ≡ t → option_or (if t then None else Some d) rest ≡ Some c → Collides half forms
-          at true d same e = later e
-          at false d apart e = found_other half forms (form_in s) (half form) old form from is refl (each form (in_head form more)) apart
+          at : (t : Bool) (d : Clash) → (t ≡ false → IsClashIn half forms d)
+              → option_or (if t then None else Some d) rest ≡ Some c → IsClashIn half forms c
+          at true d shown e = later e
+          at false d shown e = let same : d ≡ c = cc in subst (IsClashIn half forms) same (shown refl)
 
   -- a clash or a zero hash of a close is one of its forms'
   close_shows : (s : State) (x : ℕ × ℕ) (fields : List ℕ) (o : Option Session) (reply : Reply)
@@ -449,7 +464,7 @@ module _ (half : Half) (forms : List Bytes) where
       at false true z zero d c clash is = subst (ShowsIn half forms) is tt
       at false false (Some form) zero d c clash is =
           let found : Contains whole form × IsTrue (is_zero (half form)) = find_holds (λ f. is_zero (half f)) whole form zero in
-          subst (ShowsIn half forms) is (record { form = form; among = made form found.0; zero = found.1 })
+          subst (ShowsIn half forms) is (made form found.0, found.1)
       at false false None zero true c clash is = subst (ShowsIn half forms) is tt
       at false false None zero false None clash is = subst (ShowsIn half forms) is tt
       at false false None zero false (Some c) clash is = subst (ShowsIn half forms) is (forms_clash s whole c made from clash)
@@ -458,13 +473,15 @@ module _ (half : Half) (forms : List Bytes) where
   row_clash : (s : State) (a : ℕ) (c : Command) (h : Hash) (old new : Bytes)
       → ((form : Bytes) → Contains (offered_by half c) form → Contains forms form)
       → ((form : Bytes) → Contains (made_by half s a c) form → Contains forms form) → IsFrom half forms s
-      → IsRow half s a c (says.Clash h old new) → Collides half forms
+      → IsRow half s a c (says.Clash h old new) → Clashes half forms h old new
   row_clash s a (command.Base p t bytes state tx) h old new each made from e =
       base_clash s p t bytes state tx h old new each from (sym e)
   row_clash s a (command.Node p t kind path blob) h old new each made from e =
-      let r : (c : Clash) × (node_outcome half (form_in s) t kind path blob ≡ Err c) =
+      let r : (c : Clash) × (node_outcome half (form_in s) t kind path blob ≡ Err c)
+      × (says.Clash c.hash c.old c.new ≡ says.Clash h old new) =
       node_present half s p t kind path blob (get_in hash_cmp s.wanted t) h old new (sym e) in
-      read_clash half forms (form_in s) t kind path (read_wire half blob) r.0 from each r.1
+      let shown : IsClashIn half forms r.0 = read_clash half forms (form_in s) t kind path (read_wire half blob) r.0 from each r.1 in
+      subst (ShowsIn half forms) r.2 shown
   row_clash s a (command.Close x given) h old new each made from e =
       close_shows s (a, x) given (get_in numbered_cmp s.sessions (a, x)) (says.Clash h old new) made from (sym e)
   row_clash s a _ h old new each made from e = absurd e
@@ -472,7 +489,7 @@ module _ (half : Half) (forms : List Bytes) where
   -- only a close has a zero hash in its answer
   row_zero : (s : State) (a : ℕ) (c : Command) (form : Bytes)
       → ((form : Bytes) → Contains (made_by half s a c) form → Contains forms form) → IsFrom half forms s
-      → IsRow half s a c (says.ZeroHash form) → HasZero half forms
+      → IsRow half s a c (says.ZeroHash form) → ShowsIn half forms (says.ZeroHash form)
   row_zero s a (command.Base p t bytes state tx) form made from e =
       absurd (no_zero_base half s p t bytes state tx (get_in hash_cmp s.wanted t) form (sym e))
   row_zero s a (command.Node p t kind path blob) form made from e =

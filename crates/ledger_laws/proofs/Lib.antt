@@ -25,3 +25,4 @@ pub mod Carrying
 pub mod Sweeping
 pub mod Alike
 pub mod SoundRotation
+pub mod Throughout

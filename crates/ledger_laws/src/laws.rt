@@ -21,6 +21,7 @@ ghost use Rattle.ledger_machine.specs.Exact.{AreEveryMaps};
 ghost use Rattle.ledger_machine.specs.Complete.{IsAllStored, IsExact, AreExact};
 ghost use Rattle.ledger_machine.specs.Collisions.{brought_by, ShowsIn};
 ghost use Rattle.ledger_machine.specs.Swaps.{AllSwapsKeep};
+ghost use Rattle.ledger_machine.specs.Throughout.{AreInOrder};
 ghost use Rattle.ledger_machine.specs.declared.commands.Command.{Command};
 ghost use Rattle.ledger_machine.specs.declared.commands.Line.{Line};
 ghost use Rattle.ledger_machine.specs.declared.commands.Record.{Record};
@@ -59,6 +60,16 @@ pub fn a_run_keeps_the_store_sound()
         → ((l : Line) → Contains lines l → IsInRange l.command)
         → Sound half s → Run half lines s entries s' → Sound half s' }
 {}
+
+/// Each state of a run from a sound state, the first and the last too, is sound; each node that a retained ledger reaches is stored in it,
+/// and each map of an open view is a finite map of items, which the stored nodes commit to.
+pub fn each_state_of_a_run_is_in_order()
+    ensures { (half : List ℕ → List ℕ) → IsHalf half → (lines : List Line) → ((l : Line) → Contains lines l → IsInRange l.command)
+        → (s : State) (entries : List Entry) (s' : State) (run : Run half lines s entries s') → Sound half s
+        → AreInOrder half lines s entries s' run }
+{
+    what_is_left_is_whole();
+}
 
 /// What a command that names no session, and sees none, does is the same whatever sessions are open.
 pub fn a_row_is_one_beside_any_sessions()

@@ -124,6 +124,7 @@ get_from_the_pinned_ledger n is = record {
         says = sym (ap value_in is);
         some = λ none. absurd
             (let e : Some (value (1 ∷ 2 ∷ [])) ≡ None = sym (ap value_in is) ∙ none in cc);
+        last = sym (ap (λ (u : Held). Some u) is);
       };
   uses = tt;
   carries = tt;

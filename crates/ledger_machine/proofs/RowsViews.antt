@@ -53,6 +53,7 @@ get_gives_the_value n is = record {
         says = sym (ap value_in is);
         some = λ none. absurd
             (let e : Some (value (1 ∷ 2 ∷ [])) ≡ None = sym (ap value_in is) ∙ none in cc);
+        last = sym (ap (λ (u : Held). Some u) is);
       };
   uses = tt;
   carries = tt;
@@ -63,7 +64,7 @@ get_of_no_item : Reads (store viewed10 nodes10) (command.Get 7 accounts (at 0x20
 unfolding header_of
 get_of_no_item = record {
   outcome = gets_from viewed10 (entries_of nodes10) (hashes_of nodes10) accounts (at 0x20) (0, 7) (at 0xDE) _ _ refl record
-      { says = refl; some = λ none. absurd cc };
+      { says = refl; some = λ none. absurd cc; last = tt };
   uses = tt;
   carries = tt;
 }
@@ -73,7 +74,7 @@ get_in_an_empty_map : Reads (store viewed10 nodes10) (command.Get 7 txs (at 0x10
 unfolding header_of
 get_in_an_empty_map = record {
   outcome = gets_from viewed10 (entries_of nodes10) (hashes_of nodes10) txs (at 0x10) (0, 7) zero_hash _ _ refl record
-      { says = refl; some = λ none. absurd cc };
+      { says = refl; some = λ none. absurd cc; last = tt };
   uses = tt;
   carries = tt;
 }
@@ -110,6 +111,7 @@ page_lists_the_items leaves are every = record {
     says = ap (λ (p : Items). Some p) are;
     own = sym (read_off (λ nodes. after_key zero_hash 2 (items_of byte_sum_half nodes accounts (at 0xDE))) (entries_of nodes10)
         page10 refl);
+    read = page_is_said;
     stored = λ u used. All-contains IsStored10 (root10 ∷ leaf10 ∷ []) u both_are_stored used;
     every = every;
   };
@@ -157,6 +159,7 @@ get_in_the_transaction_map n is = record {
         says = sym (ap value_in is);
         some = λ none. absurd
             (let e : Some (value (2 ∷ [])) ≡ None = sym (ap value_in is) ∙ none in cc);
+        last = sym (ap (λ (u : Held). Some u) is);
       };
   uses = tt;
   carries = tt;
@@ -167,7 +170,7 @@ get_of_no_account : Reads (store viewed_tx nodes_tx) (command.Get 1 accounts (at
 unfolding header_of
 get_of_no_account = record {
   outcome = gets_from viewed_tx (entries_of nodes_tx) (hashes_of nodes_tx) accounts (at 0x30) (0, 1) (at 0xDE) _ _ refl record
-      { says = refl; some = λ none. absurd cc };
+      { says = refl; some = λ none. absurd cc; last = tt };
   uses = tt;
   carries = tt;
 }

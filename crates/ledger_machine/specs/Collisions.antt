@@ -3,7 +3,7 @@ use Rattle.std.specs.Prelude.{◌≡◌, ◌≢◌, ◌⊎◌, ℕ, ◌==◌, Bo
 use Rattle.std.specs.Prelude.{Some, Result, Ok, Err}
 use Rattle.std.specs.List.{flat_map, Contains}
 use Rattle.ledger_spec.specs.Maps.{numbered_cmp, get_in}
-use Rattle.ledger_spec.specs.Bytes.{Bytes, Half, is_zero}
+use Rattle.ledger_spec.specs.Bytes.{Bytes, Hash, Half, is_zero}
 use Rattle.ledger_spec.specs.Forms.{Held, form_of, header_prefix}
 use Rattle.ledger_spec.specs.Wire.{read_wire}
 use Rattle.ledger_machine.specs.declared.commands.Command.{Command}
@@ -75,10 +75,19 @@ pub record HasZero (half : Half) (forms : List Bytes) : Type 0 where
   pub among : Contains forms form
   pub zero : IsTrue (is_zero (half form))
 
--- what a reply shows of forms: a clash two different ones of them with one hash, a zero hash that one of them has it
+-- two different ones of these forms have this hash
+pub record Clashes (half : Half) (forms : List Bytes) (h : Hash) (old new : Bytes) : Type 0 where
+  pub first : Contains forms old
+  pub second : Contains forms new
+  pub different : old ≢ new
+  pub old_hash : half old ≡ h
+  pub new_hash : half new ≡ h
+
+-- what a reply shows of forms: a clash that its two forms are among them, differ and have its hash, a zero hash that its form is one of
+-- them and has it
 abbrev pub ShowsIn : Half → List Bytes → Reply → Type 0
-ShowsIn half forms (says.Clash h old new) = Collides half forms
-ShowsIn half forms (says.ZeroHash form) = HasZero half forms
+ShowsIn half forms (says.Clash h old new) = Clashes half forms h old new
+ShowsIn half forms (says.ZeroHash form) = Contains forms form × IsTrue (is_zero (half form))
 ShowsIn half forms _ = Unit {0}
 
 -- two different ones of these forms have one hash, or one of them has the zero hash

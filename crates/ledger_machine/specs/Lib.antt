@@ -19,3 +19,4 @@ pub mod Complete
 pub mod Collisions
 pub mod Exact
 pub mod Swaps
+pub mod Throughout
