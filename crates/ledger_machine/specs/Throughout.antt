@@ -14,8 +14,8 @@ use Rattle.ledger_machine.specs.Scripts.{IsLedgerMap}
 use Rattle.ledger_machine.specs.Sound.{Sound}
 use Rattle.ledger_machine.specs.State.{State, form_in, retained}
 
--- The state is sound, nothing that a retained ledger reaches is absent, and each map of an open view has its root in the ledger's header, and
--- is a finite map of items with that root, which the stored nodes commit to.
+-- The state is sound, nothing that a retained ledger reaches is absent, and each map of an open view has its root in the ledger's header,
+-- and is a finite map of items with that root, which the stored nodes commit to.
 pub record IsInOrder (half : Half) (s : State) : Type 0 where
   pub sound : Sound half s
   pub present : (t : Hash) → Contains (retained s) t → IsAllStored (form_in s) t

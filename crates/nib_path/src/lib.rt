@@ -5,8 +5,8 @@
 //! depth.
 #![tactic(auto)]
 
-ghost use Rattle.std.specs.Prelude.{◌≡◌, ℕ, ◌+◌, ◌-◌, ◌*◌, ◌<◌, ◌≤◌, List, [], ◌∷◌, ◌++◌, length, take, replicate, slice_set, nat_lt, IsTrue};
-ghost use Rattle.std.specs.Prelude.{IfOk, IfSome, IsNone, ◌↔◌};
+ghost use Rattle.std.specs.Prelude.{◌≡◌, ℕ, ◌+◌, ◌-◌, ◌*◌, ◌<◌, ◌≤◌, List, [], ◌∷◌, ◌++◌, length, take, replicate, slice_set, nat_lt};
+ghost use Rattle.std.specs.Prelude.{IsTrue, IfOk, IfSome, IsNone, ◌↔◌};
 ghost use Rattle.std.specs.List.{list_all};
 ghost use Rattle.nib_path.specs.Paths.{nibbles, nibble_of, first_set_from};
 
