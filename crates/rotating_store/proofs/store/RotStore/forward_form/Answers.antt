@@ -6,8 +6,8 @@ use Rattle.rotating_store.proofs.Noting.{carried_copy, carried_more, carried_her
 use Rattle.rotating_store.proofs.store.RotStore.forward_form.Goals as goal
 
 -- also a copy that failed stores, or leaves in doubt, only the archive's own form, so the two maps still agree
-pub invariant_of-self-2 : goal.invariant_of-self-2
-invariant_of-self-2 g c = (
+pub invariant_of-self-in_err-moved : goal.invariant_of-self-in_err-moved
+invariant_of-self-in_err-moved g c = (
   numbered_as _ _ _ _ _ _ _ c.self.invariant.0 c.copy_form.ensures.numbers.1 c.copy_form.ensures.numbers.0,
   λ tells. keeps_as _ _ _ _ _ _ _ _ _ _ (keeps_copy _ _ _ _ _ _ _ _ c.args.h.now (c.self.invariant.1 tells)
       (c.copy_form.ensures.writes tells)) refl (c.copy_form.ensures.second tells) refl c.copy_form.ensures.doubt,
@@ -23,8 +23,8 @@ returns-in_err-moved-clause-nodes g c tells = rw (← c.self.view_is)
     (moved_keeps _ _ _ _ c.args.h.now (moved_of c.copy_form.result) (c.copy_form.ensures.moves tells) (c.copy_form.ensures.second tells))
 
 -- what is copied to the writable backend is the archive's own form, so the two maps still agree
-pub invariant_of-self-3 : goal.invariant_of-self-3
-invariant_of-self-3 g c = (
+pub invariant_of-self-2 : goal.invariant_of-self-2
+invariant_of-self-2 g c = (
   numbered_as _ _ _ _ _ _ _ c.self.invariant.0 c.copy_form.ensures.numbers.1 c.copy_form.ensures.numbers.0,
   λ tells. keeps_as _ _ _ _ _ _ _ _ _ _ (keeps_copy _ _ _ _ _ _ _ _ c.args.h.now (c.self.invariant.1 tells)
       (c.copy_form.ensures.writes tells)) refl (c.copy_form.ensures.second tells) refl c.copy_form.ensures.doubt,
