@@ -4,11 +4,11 @@ ghost use Rattle.std.specs.Prelude.{◌≡◌, IfOk};
 
 use super::*;
 use half_hash::{Hash32, TinyHash};
-use ledger_spec::{HeadOffered, Kind, Offered};
+use ledger_spec::{HeadOffered, Kind};
 use missing_walk::whole;
 use nib_path::NodeId;
 use node_backend::MemShelf;
-use node_offer::OfferFault;
+use node_offer::{OfferFault, Offered};
 use rotating_store::RotStore;
 use std::alloc::Global;
 use std::test::Fail;
