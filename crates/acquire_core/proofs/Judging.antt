@@ -20,7 +20,9 @@ use Rattle.node_offer.specs.declared.fault.OfferFault.{OfferFault}
 use Rattle.node_offer.specs.declared.fault.OfferFault.TheVariants as faults
 use Rattle.node_offer.specs.Stored.{HasForms, Refuses}
 use Rattle.acquire_core.specs.declared.parts.Parts.{Parts}
-use Rattle.acquire_core.specs.Parts.{judged as judged_by}
+use Rattle.node_offer.specs.declared.outcome.Offered.{Offered as Told}
+use Rattle.node_offer.specs.Outcomes.{numbered}
+use Rattle.acquire_core.specs.Parts.{said, said_root, judged as judged_by}
 use Rattle.acquire_core.specs.Answers.{forms_in, HasFront, Answers}
 use Rattle.acquire_core.proofs.Growing.{holds, has_more, front_more, front_of}
 
@@ -45,6 +47,14 @@ one_part half outcome forms s s' (Err (faults.Clash h old new)) none is has refu
 one_part half outcome forms s s' (Err faults.Fault) none is has refused = part_front half (forms outcome) s s' refused
 one_part half outcome forms s s' (Err faults.Memory) none is has refused = part_front half (forms outcome) s s' refused
 
+-- the same of a node, whose outcome is said with numbers
+pub one_node : (half : Half) (outcome : Result Offered Clash) (forms : Result Offered Clash → List Bytes) (s s' : Store)
+    (r : Result Told OfferFault)
+    → ((c : Clash) → forms (Err c) ≡ []) → IfOk r (λ o. outcome ≡ Ok (numbered o)) → IfOk r (λ o. HasForms half (forms (Ok (numbered o))) s s')
+    → IfErr r (λ e. Refuses half outcome (forms outcome) s e s') → Answers half outcome (forms outcome) s (said r) s'
+one_node half outcome forms s s' (Ok o) none is has refused = one_part half outcome forms s s' (Ok (numbered o)) none is has refused
+one_node half outcome forms s s' (Err e) none is has refused = one_part half outcome forms s s' (Err e) none tt tt refused
+
 -- bytes that are read store nothing where there is a clash
 pub clash_stores : (read : Result Held ℕ) (c : Clash) → stored_by read (Err c) ≡ []
 clash_stores (Ok n) c = refl
@@ -56,6 +66,16 @@ pub handed : {X : Type 0} (half : Half) (outcome : Result X Clash) (forms : List
     → IsErrAnd r (λ y. y ≡ e) → Answers {X = X} half outcome forms s (Err e) s' → Answers half outcome forms s r s'
 handed half outcome forms s s' (Ok x) e is a = absurd is
 handed half outcome forms s s' (Err y) e is a = subst (λ (f : OfferFault). Answers half outcome forms s (Err f) s') (sym is) a
+
+-- an error handed on stays one when what is answered is said in other words
+pub handed_as : {X : Type 0} {Y : Type 0} (half : Half) (outcome : Result Y Clash) (forms : List Bytes) (s s' : Store)
+    (say : Result X OfferFault → Result Y OfferFault) (r : Result X OfferFault) (e : OfferFault)
+    → ((k : OfferFault) → say (Err k) ≡ Err k) → IsErrAnd r (λ y. y ≡ e) → Answers {X = Y} half outcome forms s (Err e) s'
+    → Answers half outcome forms s (say r) s'
+handed_as half outcome forms s s' say (Ok x) e same is a = absurd is
+handed_as {Y = Y} half outcome forms s s' say (Err y) e same is a =
+    subst (λ (q : Result Y OfferFault). Answers half outcome forms s q s') (sym (same y))
+    (subst (λ (f : OfferFault). Answers {X = Y} half outcome forms s (Err f) s') (sym is) a)
 
 pub handed_parts : (half : Half) (outcome : Result Judged Clash) (forms : List Bytes) (s s' : Store) (r : Result Parts OfferFault) (e :
     OfferFault)
@@ -76,11 +96,11 @@ header_kept half s s' t bytes (Ok o) nonzero are all a =
 header_kept half s s' t bytes (Err e) nonzero are all a = tt
 
 -- and of a node
-pub node_kept : (half : Half) (sized : IsHalf half) (s s' : Store) (t : Hash) (kind : Kind) (path : List ℕ) (blob : Bytes) (r : Result
-    Offered OfferFault)
+pub node_kept : (half : Half) (sized : IsHalf half) (s s' : Store) (t : Hash) (kind : Kind) (path : List ℕ) (blob : Bytes)
+    (r : Result Told OfferFault)
     → IsTrue (are_bytes blob) → AreStored half (forms_in s)
     → Answers half (node_outcome half (forms_in s) t kind path blob)
-    (stored_by (read_wire half blob) (node_outcome half (forms_in s) t kind path blob)) s r s'
+    (stored_by (read_wire half blob) (node_outcome half (forms_in s) t kind path blob)) s (said r) s'
     → IfOk r (λ x. AreStored half (forms_in s'))
 node_kept half sized s s' t kind path blob (Ok o) are all a =
     let forms : List Bytes = stored_by (read_wire half blob) (node_outcome half (forms_in s) t kind path blob) in

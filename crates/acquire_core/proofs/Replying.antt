@@ -1,5 +1,5 @@
 -- What a part answers, and what a reply answers that was judged.
-use Rattle.std.proofs.Common.{◌≡◌, ℕ, Bool, true, if◌then◌else◌, List, [], Option, Some, Result, Ok, Err, refl, ap, ◌∙◌, sym, subst}
+use Rattle.std.proofs.Common.{◌≡◌, ℕ, Bool, true, if◌then◌else◌, List, [], Option, None, Some, Result, Ok, Err, refl, ap, ◌∙◌, sym, subst}
 use Rattle.ledger_spec.specs.declared.Kind.{Kind}
 use Rattle.ledger_spec.specs.declared.outcomes.Offered.{Offered}
 use Rattle.ledger_spec.specs.Bytes.{Bytes, Hash, Half, Lookup}
@@ -11,12 +11,8 @@ use Rattle.ledger_spec.specs.Acquiring.{Acquiring}
 use Rattle.rotating_store.specs.Stores.{Store}
 use Rattle.node_offer.specs.declared.fault.OfferFault.{OfferFault}
 use Rattle.node_offer.specs.declared.fault.OfferFault.TheVariants as faults
-use Rattle.acquire_core.specs.declared.replies.BaseReply.{BaseReply}
-use Rattle.acquire_core.specs.declared.replies.BaseReply.TheVariants as base
-use Rattle.acquire_core.specs.declared.replies.NodeReply.{NodeReply}
-use Rattle.acquire_core.specs.declared.replies.NodeReply.TheVariants as node
 use Rattle.acquire_core.specs.Answers.{Answers}
-use Rattle.acquire_core.specs.Replies.{parts_reply, base_reply, base_stores, one_reply, node_reply, node_stores}
+use Rattle.acquire_core.specs.Replies.{parts_reply, base_reply, base_stores, node_reply, node_stores}
 
 -- a refusal stays one when the outcome is told in other words, as long as they tell a clash as it was
 told : {X Y : Type 0} (half : Half) (outcome : Result X Clash) (forms : List Bytes) (s s' : Store) (tell : Result X Clash → Result Y Clash)
@@ -64,10 +60,10 @@ module _ (half : Half) (n : Lookup) (s s' : Store) (a : Acquiring) (p : ℕ) (he
 
     -- a node of a peer that is present has the outcome of what is offered
     pub node_answers : (x : Offered) → Answers half outcome forms s (Ok x) s'
-        → Answers half (node_reply half n a p kind path blob) (node_stores half n a p kind path blob) s (Ok (node.One x)) s'
+        → Answers half (node_reply half n a p kind path blob) (node_stores half n a p kind path blob) s (Ok (Some x)) s'
     node_answers x o =
-        subst (λ (b : Bool). Answers {X = NodeReply} half (if b then one_reply outcome else Ok node.Unasked) (if b then forms else []) s
-        (Ok (node.One x)) s') (sym here) (ap one_reply o.0, o.1)
+        subst (λ (b : Bool). Answers {X = Option Offered} half (if b then given outcome else Ok None) (if b then forms else []) s
+        (Ok (Some x)) s') (sym here) (ap given o.0, o.1)
 
   module _ (header : Bytes) (state tx : Option Bytes) where
     abbrev whole : Result Judged Clash
@@ -76,19 +72,19 @@ module _ (half : Half) (n : Lookup) (s s' : Store) (a : Acquiring) (p : ℕ) (he
     abbrev all : List Bytes
     all = base_forms half n a.target header state tx
 
-    replied : (r : Result BaseReply OfferFault) → Answers half (parts_reply whole) all s r s'
+    replied : (r : Result (Option Judged) OfferFault) → Answers half (parts_reply whole) all s r s'
         → Answers half (base_reply half n a p header state tx) (base_stores half n a p header state tx) s r s'
     replied r o =
-        subst (λ (b : Bool). Answers half (if b then parts_reply whole else Ok base.Unasked) (if b then all else []) s r s')
+        subst (λ (b : Bool). Answers half (if b then parts_reply whole else Ok None) (if b then all else []) s r s')
         (sym here) o
 
     -- a base reply of such a peer has that of its parts
     pub base_answers : (j : Judged) → Answers half whole all s (Ok j) s'
         → Answers half (base_reply half n a p header state tx) (base_stores half n a p header state tx) s
-        (Ok (base.Parts j.header j.state j.tx)) s'
-    base_answers j o = replied (Ok (base.Parts j.header j.state j.tx)) (ap parts_reply o.0, o.1)
+        (Ok (Some j)) s'
+    base_answers j o = replied (Ok (Some j)) (ap parts_reply o.0, o.1)
 
     -- and where they have none, neither has the reply
     pub base_refused : (e : OfferFault) → Answers {X = Judged} half whole all s (Err e) s'
-        → Answers {X = BaseReply} half (base_reply half n a p header state tx) (base_stores half n a p header state tx) s (Err e) s'
+        → Answers {X = Option Judged} half (base_reply half n a p header state tx) (base_stores half n a p header state tx) s (Err e) s'
     base_refused e o = replied (Err e) (told half whole all s s' parts_reply e (λ k. refl) o)

@@ -1,5 +1,5 @@
 //! An acquisition.
-ghost use Rattle.std.specs.Prelude.{◌≡◌, ◌<◌, IsTrue, IfOk, IfErr, OnErr, Ok};
+ghost use Rattle.std.specs.Prelude.{◌≡◌, ◌<◌, IsTrue, IfOk, IfErr, IsSome, OnErr, Ok};
 ghost use Rattle.std.specs.Option.{option_copied};
 ghost use Rattle.run_io.specs.Bytes.{Rose};
 ghost use Rattle.ledger_spec.specs.Bytes.{is_nonzero};
@@ -7,8 +7,10 @@ ghost use Rattle.ledger_spec.specs.Own.{AreStored};
 ghost use Rattle.ledger_spec.specs.Peers.{added, after_adding, ticked, after_tick, most_ticks};
 ghost use Rattle.ledger_spec.specs.Acquiring.{acquiring, after_verdict};
 ghost use Rattle.own_forms.specs.Reading.{IsLater, IsReadable};
+ghost use Rattle.missing_walk.specs.Founds.{IsFound};
 ghost use Rattle.acquire_core.specs.Answers.{forms_in, Answers};
 ghost use Rattle.acquire_core.specs.Replies.{peer_reply, tick_reply, found_verdict, check_reply};
+ghost use Rattle.acquire_core.specs.Replies.{said_base, said_node};
 ghost use Rattle.acquire_core.specs.Replies.{base_reply, base_stores, TakesBase, AreWanted, node_reply, node_stores, TakesNode, IsWanted};
 
 use crate::charges::{charge_node, charge_parts};
@@ -87,7 +89,7 @@ impl Acquire {
         ensures answer { IsTrue Sh.B.tells → AreStored H.half (forms_in store.old) → Answers H.half
             (base_reply H.half (forms_in store.old) self.old peer header.now (option_copied state.entry) (option_copied tx.entry))
             (base_stores H.half (forms_in store.old) self.old peer header.now (option_copied state.entry) (option_copied tx.entry))
-            store.old result store.new }
+            store.old (said_base result) store.new }
         ensures after { TakesBase self.old peer result self.new }
 
         // a header and roots that have the wanted hashes charge nobody
@@ -124,7 +126,7 @@ impl Acquire {
     ) -> Result<NodeReply, OfferFault>
         ensures answer { IsTrue Sh.B.tells → AreStored H.half (forms_in store.old) → Answers H.half
             (node_reply H.half (forms_in store.old) self.old peer kind id.now blob.now)
-            (node_stores H.half (forms_in store.old) self.old peer kind id.now blob.now) store.old result store.new }
+            (node_stores H.half (forms_in store.old) self.old peer kind id.now blob.now) store.old (said_node result) store.new }
         ensures after { TakesNode self.old peer result self.new }
 
         // a node that has the wanted hash charges nobody
@@ -150,8 +152,12 @@ impl Acquire {
     /// broken, nobody is present to be asked, places that weren't asked since the last tick go to the first peer, all were asked,
     /// nothing is missing. Where memory is refused nothing changes.
     pub fn check(&mut self, alloc: Global, found: &Found, floor: u32) -> Result<CheckReply, Memory>
+        requires { IsFound found.now }
         ensures answer { IfOk result (λ r. r ≡ check_reply (found_verdict self.old floor found.now)) }
         ensures after { IfOk result (λ _. self.new ≡ after_verdict self.old (found_verdict self.old floor found.now)) }
+
+        // only a ledger whose header is stored is complete
+        ensures header { IfOk result (λ r. r ≡ CheckReply.Complete → IsSome found.now.header) }
         ensures err { OnErr result (self.new ≡ self.old) }
     {
         if let Some(header) = &found.header {

@@ -9,13 +9,13 @@ ghost use Rattle.ledger_spec.specs.Offers.{head_outcome, head_forms, node_outcom
 ghost use Rattle.ledger_spec.specs.Bases.{root_outcome, root_forms, base_outcome, base_forms};
 ghost use Rattle.own_forms.specs.Reading.{IsLater, IsReadable};
 ghost use Rattle.acquire_core.specs.Answers.{forms_in, Answers};
-ghost use Rattle.acquire_core.specs.Parts.{judged};
+ghost use Rattle.acquire_core.specs.Parts.{judged, said, said_root};
 
 use half_hash::{Hash32, NodeHash, known_half};
-use ledger_spec::{HeadOffered, Kind, Offered};
+use ledger_spec::{HeadOffered, Kind};
 use nib_path::NodeId;
 use node_backend::Shelf;
-use node_offer::{OfferFault, offer, offer_header};
+use node_offer::{OfferFault, Offered, offer, offer_header};
 use rotating_store::RotStore;
 use std::alloc::Global;
 
@@ -79,7 +79,7 @@ fn take_root<H: NodeHash, Sh: Shelf>(
 ) -> Result<Option<Offered>, OfferFault>
     ensures answer { IsTrue Sh.B.tells → AreStored H.half (forms_in store.old) → Answers H.half
         (root_outcome H.half (forms_in store.old) target.now kind (option_copied blob.entry))
-        (root_forms H.half (forms_in store.old) target.now kind (option_copied blob.entry)) store.old result store.new }
+        (root_forms H.half (forms_in store.old) target.now kind (option_copied blob.entry)) store.old (said_root result) store.new }
     ensures kept { IsTrue Sh.B.tells → AreStored H.half (forms_in store.old) → OnOk result (AreStored H.half (forms_in store.new)) }
     ensures notes { IsReadable Sh.B.tells H.half store.old → IsReadable Sh.B.tells H.half store.new }
     ensures later { IsLater store.old store.new }
@@ -104,7 +104,7 @@ pub(crate) fn take_node<H: NodeHash, Sh: Shelf>(
     ensures answer { IsTrue Sh.B.tells → AreStored H.half (forms_in store.old) → Answers H.half
         (node_outcome H.half (forms_in store.old) target.now kind id.now blob.now)
         (stored_by (read_wire H.half blob.now) (node_outcome H.half (forms_in store.old) target.now kind id.now blob.now))
-        store.old result store.new }
+        store.old (said result) store.new }
     ensures kept { IsTrue Sh.B.tells → AreStored H.half (forms_in store.old) → OnOk result (AreStored H.half (forms_in store.new)) }
     ensures notes { IsReadable Sh.B.tells H.half store.old → IsReadable Sh.B.tells H.half store.new }
     ensures later { IsLater store.old store.new }

@@ -1,7 +1,8 @@
 //! What an acquisition answers. `NotOpen` is for the caller, that knows which acquisitions are open: no call of this crate answers it. A
 //! fault of the store, a clash and want of memory are no replies: the calls end with them as errors.
 
-use ledger_spec::{HeadOffered, Offered, Place, Places, ShapeFault};
+use ledger_spec::{HeadOffered, Place, Places, ShapeFault};
+use node_offer::Offered;
 
 /// What became of a peer that joins.
 #[derive(Clone, Copy, Debug, PartialEq, Eq)]

@@ -2,13 +2,13 @@ use Rattle.std.proofs.Common.{arith}
 use Rattle.ledger_spec.specs.Offers.{node_outcome, stored_by}
 use Rattle.ledger_spec.specs.Wire.{read_wire}
 use Rattle.acquire_core.specs.Answers.{forms_in}
-use Rattle.acquire_core.proofs.Judging.{node_kept, bytes_by, one_part, clash_stores}
+use Rattle.acquire_core.proofs.Judging.{node_kept, bytes_by, one_node, clash_stores}
 use Rattle.acquire_core.proofs.parts.take_node.Goals as goal
 
 -- the offer gives the node's outcome and stores its form where that says so; a clash stores nothing
 pub returns-clause-answer : goal.returns-clause-answer
 returns-clause-answer g c tells all =
-    one_part g.H.NodeHash.half (node_outcome g.H.NodeHash.half (forms_in c.args.store.now) c.args.target.now c.args.kind c.args.id.now
+    one_node g.H.NodeHash.half (node_outcome g.H.NodeHash.half (forms_in c.args.store.now) c.args.target.now c.args.kind c.args.id.now
     c.args.blob.now)
     (stored_by (read_wire g.H.NodeHash.half c.args.blob.now)) c.args.store.now c.offer.new.store c.offer.result
     (clash_stores (read_wire g.H.NodeHash.half c.args.blob.now))
