@@ -33,7 +33,7 @@ fn lines_are_printed(rt: HostRuntime) -> Result<(), Fail> {
         };
         let printed = line(alloc, &command(says), &entry)?;
         let zeros = format!(in alloc; "{:062}", 0)?;
-        let want = format!(in alloc; "1 0 {says}\n")?.replace("]", &zeros)?;
+        let want = format!(in alloc; "1 0 {says}\n")?.replace(alloc, "]", &zeros)?;
         assert_eq!(rt; printed.bytes(), want.as_bytes(), "{says}");
     }
     Ok(())

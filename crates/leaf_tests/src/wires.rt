@@ -36,7 +36,9 @@ fn inner(branches: usize) -> Result<Node, Fail> {
     let mut hashes = [Hash32::zero(); 16];
     for b in 0..16usize {
         if b + branches >= 16 {
-            hashes[b].bytes[b] = 7;
+            let mut bytes = [0; 32];
+            bytes[b] = 7;
+            hashes[b] = Hash32 { bytes };
         }
     }
     Ok(Node::Inner(Inner::new(hashes).ok_or("no branch")?))
