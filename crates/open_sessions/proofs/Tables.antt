@@ -1,6 +1,6 @@
 -- The table of the machine's sessions, as that of drafts changes.
 use Rattle.std.proofs.Common.{◌≡◌, ℕ, suc, Bool, true, false, cond, [], ◌∷◌, length, map, is_some, Option, None, Some, Result, Ok, Err}
-use Rattle.std.proofs.Common.{refl, ap, ◌∙◌, arith}
+use Rattle.std.proofs.Common.{refl, sym, ap, ◌∙◌, arith}
 use Rattle.std.specs.Prelude.{OnErr}
 use Rattle.std.specs.List.{All}
 use Rattle.std.specs.Option.{option_map}
@@ -14,6 +14,10 @@ use Rattle.ledger_spec.specs.Maps.{ForActor, numbered_cmp, get_in, has_in, inser
 pub on_err : {A E : Type 0} {P : Type 0} (r : Result A E) → P → OnErr r P
 on_err (Ok x) p = tt
 on_err (Err e) p = p
+
+-- what is there isn't absent
+pub not_both : {A : Type 0} (o : Option A) (x : A) → o ≡ None → o ≡ Some x → ⊥
+not_both o x none some = let both : None ≡ Some x = sym none ∙ some in cc
 
 -- an entry that is set to what it is
 set_found : {A : Type 0} (test : ℕ × ℕ → Bool) (m : ForActor A) (d : A) → lookup test m ≡ Some d → set_value test m d ≡ m

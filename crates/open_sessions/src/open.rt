@@ -9,7 +9,7 @@ ghost use Rattle.ledger_spec.specs.Maps.{numbered_cmp, get_in, has_in, insert_in
 ghost use Rattle.run_io.specs.Bytes.{Rose};
 ghost use Rattle.rotating_store.specs.Stores.{nodes_of};
 ghost use Rattle.rotating_store.specs.Sources.{own_nodes};
-ghost use Rattle.cow_map.specs.Ways.{stop_of, removal_stop_of};
+ghost use Rattle.cow_map.specs.Ways.{stop_of, removal_stop_of, NamesNoForm};
 ghost use Rattle.edit_session.specs.Changes.{ChangesState, ChangesTxs, SetsAccount, RemovesAccount, SetsTx, GoesBy};
 ghost use Rattle.edit_session.specs.Drafts.{Draft};
 ghost use Rattle.open_sessions.specs.Changed.{Changed, WasAsked};
@@ -122,6 +122,10 @@ impl Open {
         ensures way { IsTrue Sh.B.tells → (d : Draft) → get_in numbered_cmp self.old id ≡ Some d
             → let stored = finite.get (own_nodes H.half (nodes_of store.old)) in
             GoesBy H.half stored d (stop_of H.half stored d.state item.now.key) result }
+
+        // where the session isn't open only memory is wanted, and no form is named
+        ensures shut { get_in numbered_cmp self.old id ≡ None → IfErr result (λ e. e ≡ MapFault.Memory) }
+        ensures formless { IfErr result NamesNoForm }
         ensures err { OnErr result (self.new ≡ self.old) }
         ensures asked { WasAsked Sh.B.tells H.half store.old store.new }
         ensures fault { IfErr result (λ e. e ≡ MapFault.Fault → Rose store.old.faults store.new.faults) }
@@ -150,6 +154,10 @@ impl Open {
         ensures way { IsTrue Sh.B.tells → (d : Draft) → get_in numbered_cmp self.old id ≡ Some d
             → let stored = finite.get (own_nodes H.half (nodes_of store.old)) in
             GoesBy H.half stored d (removal_stop_of H.half stored d.state key.now) result }
+
+        // where the session isn't open only memory is wanted, and no form is named
+        ensures shut { get_in numbered_cmp self.old id ≡ None → IfErr result (λ e. e ≡ MapFault.Memory) }
+        ensures formless { IfErr result NamesNoForm }
         ensures err { OnErr result (self.new ≡ self.old) }
         ensures asked { WasAsked Sh.B.tells H.half store.old store.new }
         ensures fault { IfErr result (λ e. e ≡ MapFault.Fault → Rose store.old.faults store.new.faults) }

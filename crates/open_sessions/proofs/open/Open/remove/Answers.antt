@@ -1,5 +1,5 @@
 use Rattle.std.proofs.Common.{sym, ◌∙◌, refl, Some}
-use Rattle.open_sessions.proofs.Tables.{on_err, set_same}
+use Rattle.open_sessions.proofs.Tables.{not_both, on_err, set_same}
 use Rattle.std.specs.FinMap as finite
 use Rattle.ledger_spec.specs.Bytes.{Lookup}
 use Rattle.ledger_spec.specs.Maps.{numbered_cmp, get_in}
@@ -33,3 +33,9 @@ returns-clause-way g c told d is =
     gone_by half stored (λ (x : Draft) key. removal_stop_of half stored x.state key) c.in-Some.session.now d
     (get_in numbered_cmp c.args.self.now c.args.id) c.args.key.now c.args.key.now (rw (← c.self.view_is) c.in-Some.ensures.value)
     is refl _ _ c.in_ok-there.there (Some c.in_ok-there.there) (c.in_ok-there.ensures.way told)
+
+-- a session that was lent is open
+pub returns-in_err-there-clause-shut : goal.returns-in_err-there-clause-shut
+returns-in_err-there-clause-shut g c none =
+    absurd (not_both (get_in numbered_cmp c.args.self.now c.args.id) c.in-Some.session.now none
+    (rw (← c.self.view_is) (sym c.in-Some.ensures.value)))
