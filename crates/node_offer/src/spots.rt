@@ -1,5 +1,5 @@
 //! The way from a ledger's header to a place in one of its maps.
-ghost use Rattle.std.specs.Prelude.{◌≡◌, [], None, List, IfOk, IfErr};
+ghost use Rattle.std.specs.Prelude.{◌≡◌, ◌≤◌, ◌+◌, [], None, List, IfOk, IfErr};
 ghost use Rattle.std.specs.FinMap as map;
 ghost use Rattle.std.specs.Option.{option_map, option_map_or};
 ghost use Rattle.ledger_spec.specs.Forms.{header_of, inner_of as inner_form};
@@ -70,6 +70,7 @@ pub fn root_in<H: NodeHash, Sh: Shelf>(
     ensures root { IsReadable Sh.B.tells H.half store.old → IfOk result (λ root. root
         ≡ option_map (header_root kind) (header_in (own_forms H.half (map.get (nodes_of store.old))) target.now)) }
     ensures read { WasRead Sh.B.tells H.half store.old store.new }
+    ensures few { store.new.gets ≤ store.old.gets + 2 }
     ensures fault { IfErr result (λ e. e ≡ BackFault.Fault → Rose store.old.faults store.new.faults) }
 {
     match own_form::<H, Sh>(alloc, store, target)? {
