@@ -8,6 +8,7 @@ use Rattle.ledger_spec.specs.declared.Kind.{Kind}
 use Rattle.ledger_spec.specs.declared.ShapeFault.{ShapeFault}
 use Rattle.ledger_spec.specs.declared.outcomes.Offered.{Offered}
 use Rattle.ledger_spec.specs.Bytes.{Bytes, Hash, Half, Nodes, same_bytes}
+use Rattle.ledger_spec.specs.Maps.{SetOf}
 use Rattle.ledger_spec.specs.Forms.{Held, form_of, hash_of}
 use Rattle.ledger_spec.specs.Rules.{fault_of}
 use Rattle.ledger_spec.specs.Spots as way
@@ -109,7 +110,7 @@ by_place half held stored t kind path n spot wire same all at read =
     ∙ ap (λ m. spot_outcome half (map.get m) kind path n spot) (sym same)
 
 -- what is stored doesn't hang on the counts
-with_counts : (half : Half) (s : Store) (f g : ℕ) (n : List Hash) (forms : List Bytes)
+with_counts : (half : Half) (s : Store) (f g : ℕ) (n : SetOf) (forms : List Bytes)
     → with_forms half (record s { faults = f; gets = g; noted = n }) forms
     ≡ record (with_forms half s forms) { faults = f; gets = g; noted = n }
 with_counts half s f g n [] = refl
