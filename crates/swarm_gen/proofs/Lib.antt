@@ -1,5 +1,6 @@
 mod Rows
 pub mod Adds
+pub mod Closing
 pub mod Making
 pub mod Owners
 pub mod Standing

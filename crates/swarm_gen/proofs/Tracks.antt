@@ -27,8 +27,9 @@ use Rattle.swarm_gen.specs.Given.{given, IsRoot}
 use Rattle.swarm_gen.specs.Swarm.{root_blob}
 use Rattle.swarm_gen.specs.Trees as shared
 use Rattle.swarm_gen.specs.Walks.{shared_nodes, placed_at}
-use Rattle.swarm_gen.specs.Tracking.{place_of, link_hash, node_at, kid_at, entries_at, items_at, AreHashes, Tracking, Keeps}
+use Rattle.swarm_gen.specs.Tracking.{place_of, link_hash, node_at, kid_at, entries_at, items_at, AreHashes, AreClosed, Tracking, Keeps}
 use Rattle.swarm_gen.specs.Tracking.{leaves_in, items_in, shown_in}
+use Rattle.swarm_gen.proofs.Closing.{none_closed, closed_more}
 use Rattle.swarm_gen.proofs.Linking.{hash_is, link_grows}
 use Rattle.swarm_gen.proofs.Sharing.{some_within, nothing_there, hash_law, share_law, entries_law}
 use Rattle.swarm_gen.proofs.Standings.{shared_map}
@@ -63,6 +64,10 @@ module _ (half : Half) (t : Tracking) (new : CowTree) (keeps : Keeps half t) (bo
     each = λ i h is. keeps.hashes.each i h is ∙ hash_grows i (keeps.hashes.within i h is);
   }
 
+  closed_grow : AreClosed new.nodes t.hashes
+  closed_grow =
+      subst (λ ns. AreClosed ns t.hashes) (sym grows.1) (closed_more t.tree.nodes grows.0 t.hashes keeps.hashes.within keeps.closed)
+
   -- the map after it, with what it was when it was last asked
   abbrev after : Tracking
   after = record { tree = new; last = t.last; hashes = t.hashes }
@@ -92,6 +97,7 @@ module _ (half : Half) (t : Tracking) (new : CowTree) (keeps : Keeps half t) (bo
       before = subst (λ (es : Items). StandsAt half nothing_held new.kind new.nodes 64 [] t.last es) before_same before_stands;
       below = weaker (length t.tree.nodes) (length new.nodes) t.last longer keeps.below;
       hashes = hashes_grow;
+      closed = closed_grow;
     }
 
 -- the empty map
@@ -119,6 +125,7 @@ new_keeps half tree last hashes stands below is nothing =
       before = subst (λ l. StandsAt half nothing_held tree.kind tree.nodes 64 [] l (items_at tree.nodes l)) (sym is) now;
       below = subst (IsBelow (length tree.nodes)) (sym is) below;
       hashes = subst (AreHashes half tree.kind tree.nodes) (sym nothing) (no_hashes half tree.kind tree.nodes);
+      closed = subst (AreClosed tree.nodes) (sym nothing) (none_closed tree.nodes);
     }
 
 none_of_part : (half : Half) (kind : Kind) (all : List Entry) (left : ℕ) (path : List ℕ) → nodes_of_part half kind all left path [] ≡ []
@@ -149,6 +156,7 @@ module _ (half : Half) (tree : CowTree) (items : Items) (stands : StandsFor half
     before = empty_stands half nothing_held tree.kind tree.nodes 64 [];
     below = tt;
     hashes = subst (AreHashes half tree.kind tree.nodes) (sym nothing) (no_hashes half tree.kind tree.nodes);
+    closed = subst (AreClosed tree.nodes) (sym nothing) (none_closed tree.nodes);
   }
 
 -- a hash more
@@ -282,6 +290,7 @@ module _ (half : Half) (t : Tracking) (keeps : Keeps half t) (bodies : AreBodies
     before = subst (λ l. StandsAt half nothing_held t.tree.kind t.tree.nodes 64 [] l (items_at t.tree.nodes l)) (sym is) keeps.now;
     below = subst (IsBelow (length t.tree.nodes)) (sym is) below;
     hashes = keeps.hashes;
+    closed = keeps.closed;
   }
 
 pub nothing_told : (t : Tracking) → place_of t.tree.top ≡ None → items_in t ≡ []
@@ -290,8 +299,10 @@ nothing_told t is = no_entries t.tree.nodes 64 t.tree.top is
 
 -- other hashes
 pub hashed_keeps : (half : Half) (t : Tracking) (hashes : List (Option Hash)) → Keeps half t
-    → AreHashes half t.tree.kind t.tree.nodes hashes → Keeps half (record { tree = t.tree; last = t.last; hashes = hashes })
-hashed_keeps half t hashes keeps are = record { now = keeps.now; before = keeps.before; below = keeps.below; hashes = are }
+    → AreHashes half t.tree.kind t.tree.nodes hashes → AreClosed t.tree.nodes hashes
+    → Keeps half (record { tree = t.tree; last = t.last; hashes = hashes })
+hashed_keeps half t hashes keeps are closed =
+    record { now = keeps.now; before = keeps.before; below = keeps.below; hashes = are; closed = closed }
 
 -- the changes were taken: the map is the same, and what it is now is what it was when it was last asked
 module _ (half : Half) (old mid new : Tracking) (hashed : mid.tree ≡ old.tree) (kept : new.tree ≡ mid.tree) (last : new.last ≡ mid.tree.top)

@@ -44,6 +44,24 @@ node_at half kind nodes i = node_of kind (link_hash half kind nodes) (slice_get 
 abbrev pub kid_at : List Body → ℕ → ℕ → Option ℕ
 kid_at nodes i b = place_of (branch_in b (slice_get nodes i))
 
+-- the hash at a place is known
+abbrev pub IsKnown : List (Option Hash) → ℕ → Type 0
+IsKnown hashes i = (h : Hash) × (slice_get hashes i ≡ Some (Some h))
+
+-- so are those to which the branches of the node at a place lead
+abbrev pub KnowsKids : List Body → List (Option Hash) → ℕ → Type 0
+KnowsKids nodes hashes i = (b j : ℕ) → kid_at nodes i b ≡ Some j → IsKnown hashes j
+
+-- where a hash is known, those below it are
+pub record AreClosed (nodes : List Body) (hashes : List (Option Hash)) : Type 0 where
+  pub kids : (i : ℕ) (h : Hash) → slice_get hashes i ≡ Some (Some h) → KnowsKids nodes hashes i
+
+-- so is each that the link reaches in so many steps
+unfoldable pub KnowsAll : List Body → List (Option Hash) → ℕ → Link → Type 0
+KnowsAll nodes hashes zero link = Unit {0}
+KnowsAll nodes hashes (suc left) link =
+    (i : ℕ) → place_of link ≡ Some i → IsKnown hashes i × ((b : ℕ) → KnowsAll nodes hashes left (branch_in b (slice_get nodes i)))
+
 -- the keys and data at and below a node
 abbrev pub entries_in : (Link → List Entry) → Option Body → List Entry
 entries_in below None = []
@@ -91,9 +109,10 @@ items_in t = items_at t.tree.nodes t.tree.top
 unfoldable pub shown_in : Half → Tracking → List Placed
 shown_in half t = nodes_of half t.tree.kind (items_at t.tree.nodes t.last)
 
--- what it keeps: it leaves nothing to a source, now and as it was, and its hashes are right
+-- what it keeps: it leaves nothing to a source, now and as it was, and its hashes are right, and known with all below them
 pub record Keeps (half : Half) (t : Tracking) : Type 0 where
   pub now : StandsFor half nothing_held t.tree (items_at t.tree.nodes t.tree.top)
   pub before : StandsFor half nothing_held (last_tree t) (items_at t.tree.nodes t.last)
   pub below : IsBelow (length t.tree.nodes) t.last
   pub hashes : AreHashes half t.tree.kind t.tree.nodes t.hashes
+  pub closed : AreClosed t.tree.nodes t.hashes

@@ -1,10 +1,10 @@
 //! The hashes of the nodes that a map has made since it was last hashed. Those that its top reaches are hashed, each once; a node that
 //! a later edit has replaced is passed over, and so is each that had its hash before. So the cost of a ledger is that of its edits.
-ghost use Rattle.std.specs.Prelude.{◌≡◌, ◌<◌, length, IfOk, IfSome};
+ghost use Rattle.std.specs.Prelude.{◌≡◌, ◌<◌, ℕ, length, Some, IfOk, IfSome, OnOk};
 ghost use Rattle.cow_map.specs.declared.link.Link.TheVariants.{Own as own_link};
-ghost use Rattle.swarm_gen.specs.Tracking.{link_hash, AreHashes};
+ghost use Rattle.swarm_gen.specs.Tracking.{place_of, link_hash, AreHashes, AreClosed, IsKnown, KnowsKids, KnowsAll};
 
-use crate::nodes::form;
+use crate::nodes::{form, known, place};
 use cow_map::{Cow, CowMap, Link};
 use half_hash::{Hash32, Memory, NodeHash};
 use std::alloc::Global;
@@ -61,8 +61,9 @@ fn next_hash<H: NodeHash>(
     is_wanted: bool,
 ) -> Result<Option<Hash32>, Memory>
     requires { AreHashes H.half map.now.kind map.now.nodes hashes.now }
-    ensures { IfOk result (λ hash. IfSome hash (λ h. (length hashes.now < length map.now.nodes)
+    ensures hash { IfOk result (λ hash. IfSome hash (λ h. (length hashes.now < length map.now.nodes)
         × (h ≡ link_hash H.half map.now.kind map.now.nodes (own_link (length hashes.now))))) }
+    ensures kids { IfOk result (λ hash. IfSome hash (λ _. KnowsKids map.now.nodes hashes.now (length hashes.now))) }
 {
     map.known();
     let at = hashes.len();
@@ -80,8 +81,10 @@ fn add_hash<H: NodeHash>(
     hashes: &mut Vec<Option<Hash32>>,
     is_wanted: bool,
 ) -> Result<(), Memory>
-    requires { AreHashes H.half map.now.kind map.now.nodes hashes.old.items }
-    ensures { AreHashes H.half map.now.kind map.now.nodes hashes.new.items }
+    requires hashes { AreHashes H.half map.now.kind map.now.nodes hashes.old.items }
+    requires closed { AreClosed map.now.nodes hashes.old.items }
+    ensures hashes { AreHashes H.half map.now.kind map.now.nodes hashes.new.items }
+    ensures closed { AreClosed map.now.nodes hashes.new.items }
 {
     let hash = next_hash::<H>(alloc, map, hashes, is_wanted)?;
     hashes.push(hash)?;
@@ -89,18 +92,33 @@ fn add_hash<H: NodeHash>(
 }
 
 /// Adds the hashes of the nodes that have none yet and that the top reaches. After want of memory some may
-/// be there.
+/// be there. A top whose hash isn't known then is answered as want of memory.
 pub(crate) fn fill<H: NodeHash>(
     alloc: Global,
     map: &CowMap,
     hashes: &mut Vec<Option<Hash32>>,
 ) -> Result<(), Memory>
-    requires { AreHashes H.half map.now.kind map.now.nodes hashes.old.items }
-    ensures { AreHashes H.half map.now.kind map.now.nodes hashes.new.items }
+    requires hashes { AreHashes H.half map.now.kind map.now.nodes hashes.old.items }
+    requires closed { AreClosed map.now.nodes hashes.old.items }
+    ensures hashes { AreHashes H.half map.now.kind map.now.nodes hashes.new.items }
+    ensures closed { AreClosed map.now.nodes hashes.new.items }
+
+    // then the hash at each place that the top reaches is known
+    ensures all { OnOk result ((steps : ℕ) → KnowsAll map.now.nodes hashes.new.items steps map.now.top) }
 {
     let marks = reached(alloc, map, hashes.len())?;
     for is_wanted in marks {
         add_hash::<H>(alloc, map, hashes, is_wanted)?;
+    }
+    known_top(map, hashes)
+}
+
+/// Whether the hash of the top is known, if there is one.
+fn known_top(map: &CowMap, hashes: &[Option<Hash32>]) -> Result<(), Memory>
+    ensures { OnOk result ((i : ℕ) → place_of map.now.top ≡ Some i → IsKnown hashes.now i) }
+{
+    if let Some(top) = place(&map.top()) {
+        known(hashes, top)?;
     }
     Ok(())
 }

@@ -22,4 +22,3 @@ pub use lines::Lines;
 pub use plan::Plan;
 pub use tracked::{PlacedNode, Root};
 pub use tracked_map::TrackedMap;
-pub use walk::{Shared, walk as walk_changes};

@@ -1,13 +1,14 @@
 //! The nodes of a map of links, with the hashes of their links from a list that has them by their places.
-ghost use Rattle.std.specs.Prelude.{◌≡◌, ◌<◌, List, map, length, Some, IfOk};
-ghost use Rattle.std.specs.List.{slice_get};
+ghost use Rattle.std.specs.Prelude.{◌≡◌, ◌<◌, ℕ, List, map, length, Some, IfOk};
+ghost use Rattle.std.specs.List.{slice_get, slice_index_or};
 ghost use Rattle.ledger_spec.specs.declared.Kind.{Kind as KindOf};
 ghost use Rattle.ledger_spec.specs.Bytes.{Half, same_bytes};
 ghost use Rattle.ledger_spec.specs.Forms.{form_of, leaf_form as form_of_leaf};
 ghost use Rattle.ledger_spec.specs.Forms as held;
 ghost use Rattle.ledger_spec.specs.Wire.{wire_of};
 ghost use Rattle.cow_map.specs.Bodies.{Body};
-ghost use Rattle.swarm_gen.specs.Tracking.{place_of, link_hash, node_at, kid_at, AreHashes};
+ghost use Rattle.cow_map.specs.declared.link.Link.TheVariants.{Empty as empty_link};
+ghost use Rattle.swarm_gen.specs.Tracking.{place_of, link_hash, node_at, kid_at, AreHashes, IsKnown, KnowsKids};
 
 use cow_map::{Cow, CowMap, Link, Links};
 use half_hash::{Blob, Hash32, Memory, Prefix};
@@ -26,6 +27,9 @@ const TX_TYPE: u8 = 4;
 
 /// The type byte of a bare transaction's wire form.
 const SET_TYPE: u8 = 0;
+
+/// The length of an inner node's form.
+const INNER_FORM: usize = 516;
 
 /// The place in the list of nodes to which a link leads.
 pub(crate) fn place(link: &Link) -> Option<usize>
@@ -61,8 +65,9 @@ pub(crate) fn known(hashes: &[Option<Hash32>], at: usize) -> Result<Hash32, Memo
 
 /// The hash that a link stands for.
 fn hash_in(hashes: &[Option<Hash32>], link: &Link) -> Result<Hash32, Memory>
-    ensures { IfOk result (λ h. (half : Half) (kind : KindOf) (nodes : List Body) →
+    ensures hash { IfOk result (λ h. (half : Half) (kind : KindOf) (nodes : List Body) →
         AreHashes half kind nodes hashes.now → h ≡ link_hash half kind nodes link.now) }
+    ensures known { IfOk result (λ _. (i : ℕ) → place_of link.now ≡ Some i → IsKnown hashes.now i) }
 {
     match link {
         Link::Empty => Ok(Hash32::zero()),
@@ -81,8 +86,10 @@ fn hashes_below(
     ensures hashes { IfOk result (λ below. (half : Half) (kind : KindOf) (nodes : List Body) →
         AreHashes half kind nodes hashes.now → below.items ≡ map (link_hash half kind nodes) links.now) }
     ensures count { IfOk result (λ below. length below.items ≡ 16) }
+    ensures known { IfOk result (λ _. (b : ℕ) → b < 16 → (i : ℕ) → place_of (slice_index_or links.now b empty_link) ≡ Some i
+        → IsKnown hashes.now i) }
 {
-    let mut below = Vec::new(alloc);
+    let mut below = Vec::with_capacity(alloc, 16)?;
     for b in 0..16u8 {
         below.push(hash_in(hashes, &links.get(b))?)?;
     }
@@ -93,7 +100,8 @@ fn hashes_below(
 fn inner_form(alloc: Global, below: &[Hash32]) -> Result<Blob, Memory>
     ensures { IfOk result (λ form. form ≡ form_of (held.inner below.now)) }
 {
-    let mut bytes = Vec::from_slice(alloc, &Prefix::Min.bytes())?;
+    let mut bytes = Vec::with_capacity(alloc, INNER_FORM)?;
+    bytes.extend_from_slice(&Prefix::Min.bytes())?;
     for hash in below {
         bytes.extend_from_slice(&hash.bytes)?;
     }
@@ -122,8 +130,11 @@ pub(crate) fn form(
     hashes: &[Option<Hash32>],
     at: usize,
 ) -> Result<Blob, Memory>
-    ensures { IfOk result (λ form. (half : Half) → AreHashes half map.now.kind map.now.nodes hashes.now →
+    ensures form { IfOk result (λ form. (half : Half) → AreHashes half map.now.kind map.now.nodes hashes.now →
         form ≡ form_of (node_at half map.now.kind map.now.nodes at)) }
+
+    // without the hashes below the node there is no form
+    ensures kids { IfOk result (λ _. KnowsKids map.now.nodes hashes.now at) }
 {
     map.known();
     match map.node(at) {

@@ -14,7 +14,7 @@ use nib_path::NodeId;
 use std::alloc::Global;
 
 /// Nodes that maps share: a map is one of them, its root, or none.
-pub trait Shared<H: NodeHash> {
+pub(crate) trait Shared<H: NodeHash> {
     /// What a node is.
     ghost held: { Self → ℕ → Held };
 
@@ -76,7 +76,7 @@ fn is_shared(new: Option<usize>, old: Option<usize>) -> bool
 
 /// Lists the nodes of a map, at a place and below it, whose place holds another node or none in
 /// another map, in pre-order. What both share isn't looked at.
-pub fn walk<H: NodeHash, T: Shared<H>>(
+pub(crate) fn walk<H: NodeHash, T: Shared<H>>(
     alloc: Global,
     tree: &T,
     new: Option<usize>,

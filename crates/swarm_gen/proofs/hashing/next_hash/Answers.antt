@@ -3,9 +3,9 @@ use Rattle.swarm_gen.proofs.Tracks.{next_told}
 use Rattle.swarm_gen.proofs.hashing.next_hash.Goals as goal
 
 -- the hash of a node is that of its form
-pub returns : goal.returns
-returns g c =
+pub returns-clause-hash : goal.returns-clause-hash
+returns-clause-hash g c =
     let low : length c.args.hashes.now < length c.args.map.now.nodes = omega arith in
     next_told g.H.NodeHash.half c.args.map.now.kind c.args.map.now.nodes c.known.ensures.nodes c.args.hashes.now
-    (length c.args.hashes.now) refl low c.in_ok-form.form c.bytes.result.now (c.in_ok-form.ensures g.H.NodeHash.half c.requires)
+    (length c.args.hashes.now) refl low c.in_ok-form.form c.bytes.result.now (c.in_ok-form.ensures.form g.H.NodeHash.half c.requires)
     c.bytes.ensures c.half.result c.half.ensures

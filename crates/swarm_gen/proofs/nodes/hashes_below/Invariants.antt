@@ -1,8 +1,10 @@
-use Rattle.std.proofs.Common.{◌≡◌, List, length, map, take}
+use Rattle.std.proofs.Common.{◌≡◌, ◌<◌, ℕ, List, length, map, take, Some}
+use Rattle.std.specs.List.{slice_index_or}
 use Rattle.ledger_spec.specs.declared.Kind.{Kind}
 use Rattle.ledger_spec.specs.Bytes.{Half}
+use Rattle.cow_map.specs.declared.link.Link.TheVariants.{Empty}
 use Rattle.cow_map.specs.Bodies.{Body}
-use Rattle.swarm_gen.specs.Tracking.{link_hash, AreHashes}
+use Rattle.swarm_gen.specs.Tracking.{place_of, link_hash, AreHashes, IsKnown}
 use Rattle.swarm_gen.proofs.nodes.hashes_below.Given as goal
 
 abbrev pub invariant-loop-b : goal.invariant-loop-b
@@ -10,4 +12,5 @@ invariant-loop-b l = record {
   hashes : (half : Half) (kind : Kind) (nodes : List Body) → AreHashes half kind nodes l.hashes
       → l.below.items ≡ map (link_hash half kind nodes) (take l.b l.links);
   count : length l.below.items ≡ l.b;
+  known : (b : ℕ) → b < l.b → (i : ℕ) → place_of (slice_index_or l.links b Empty) ≡ Some i → IsKnown l.hashes i;
 }
