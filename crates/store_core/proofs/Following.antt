@@ -1,7 +1,9 @@
 -- A path that says a value ends with that leaf.
 use Rattle.std.proofs.Common.{◌≡◌, ◌∙◌, ℕ, ◌+◌, Bool, true, false, List, [], ◌∷◌, Option, Some, None, is_none, ◌&&◌, if◌then◌else◌}
-use Rattle.std.proofs.Common.{take, length, ◌-◌, zero, suc, arith, refl, ap}
-use Rattle.std.specs.Option.{option_and_then}
+use Rattle.std.proofs.Common.{take, length, ◌-◌, zero, suc, arith, refl, sym, ap}
+use Rattle.std.specs.Option.{option_map, option_and_then}
+use Rattle.std.proofs.lemmas.List.{length-map}
+use Rattle.std.proofs.lemmas.Option.{slice_get-map}
 use Rattle.std.specs.List.{slice_index_or, slice_get}
 use Rattle.std.specs.declared.sync.Arc.{Arc}
 use Rattle.std.specs.declared.alloc.Global.{Global}
@@ -94,3 +96,11 @@ pub last_says : (nodes : List (Arc Node Global)) (a : Arc Node Global) (o : Outc
 last_says [] a o last ends = absurd ends
 last_says (x ∷ rest) a o last ends =
     last_at (x ∷ rest) a o (length rest) refl (last ∙ ap (slice_get (x ∷ rest)) (omega (arith))) ends
+
+-- the last of the shared nodes, among the nodes used
+pub last_held : (nodes : List (Arc Node Global)) (a : Arc Node Global) → Some a ≡ slice_get nodes (length nodes - 1)
+    → slice_get (held_nodes nodes) (length (held_nodes nodes) - 1) ≡ Some (held a.value)
+last_held nodes a last =
+    ap (λ n. slice_get (held_nodes nodes) (n - 1)) (length-map nodes (λ (x : Arc Node Global). held x.value))
+    ∙ slice_get-map (λ (x : Arc Node Global). held x.value) nodes (length nodes - 1)
+    ∙ ap (option_map (λ (x : Arc Node Global). held x.value)) (sym last)

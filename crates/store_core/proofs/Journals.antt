@@ -256,6 +256,7 @@ module _ (half : Half) (records : List Record) (lines : List Line) (cursors : Li
     servable = k.servable;
     recorded = k.recorded;
     room = k.room;
+    since = k.since;
     fault_bound = k.fault_bound;
   }
 
@@ -345,6 +346,7 @@ module _ (half : Half) (records : List Record) (lines : List Line) (cursors : Li
       servable = k.servable;
       recorded = k.recorded;
       room = omega (arith, k.room);
+      since = omega (arith, k.since, later);
       fault_bound = bound_more journal e missed opened now now' k.fault_bound later cause;
     }
       where
@@ -353,10 +355,10 @@ module _ (half : Half) (records : List Record) (lines : List Line) (cursors : Li
         one e l (suc i) d in_it = absurd (omega arith)
 
   -- a section that answers no line
-  pub kept_listed : (s' : State) (now' missed' : ℕ) → (IsTrue told → s' ≡ s) → s'.listed ≡ s.listed → s'.epoch ≡ s.epoch
+  pub kept_listed : (s' : State) (now' missed' : ℕ) → (IsTrue told → s' ≡ s) → s'.listed ≡ s.listed → s'.epoch ≡ s.epoch → now ≤ now'
       → RoseBy (faults_in journal + missed') opened now'
       → CoreKeeps half records lines cursors journal capacity interval told opened now' missed' s'
-  kept_listed s' now' missed' same unlisted age bound = record {
+  kept_listed s' now' missed' same unlisted age later bound = record {
     run = λ t. subst (λ (x : State). IsRunOf half records lines interval journal x) (sym (same t)) (k.run t);
     sound = λ t. subst (Sound half) (sym (same t)) (k.sound t);
     roots = λ t. subst AreTold (sym (same t)) (k.roots t);
@@ -370,6 +372,7 @@ module _ (half : Half) (records : List Record) (lines : List Line) (cursors : Li
     servable = k.servable;
     recorded = k.recorded;
     room = k.room;
+    since = omega (arith, k.since, later);
     fault_bound = bound;
   }
 
@@ -463,6 +466,7 @@ kept_open half records lines cursors journal capacity interval told opened now s
       servable = servable;
       recorded = recorded;
       room = room;
+      since = omega (arith, same);
       fault_bound = inl (omega (arith, same));
     })
 

@@ -12,7 +12,7 @@ use Rattle.ledger_spec.specs.Bytes.{Hash, Half, Lookup, Nodes}
 use Rattle.ledger_spec.specs.Findings.{items_of}
 use Rattle.ledger_spec.specs.Forms.{Held, leaf, inner, header, form_of, hash_of}
 use Rattle.ledger_spec.specs.Own.{AreStored, own_forms}
-use Rattle.ledger_spec.specs.Pages.{after_key, IsPageOrShows, IsStoredNode}
+use Rattle.ledger_spec.specs.Pages.{after_key, IsPageOf, IsPageOrShows, IsStoredNode}
 use Rattle.ledger_spec.proofs.Owning.{all_own}
 use Rattle.shamap_node.specs.declared.Node.{Node}
 use Rattle.shamap_node.specs.Nodes.{held}
@@ -63,13 +63,15 @@ pub is_page : (half : Half) (st : Store) (s : State) (kind : Kind) (after : Hash
     (leaves : Vec (Arc Node Global) Global) (used : List Held) → IsTrue tells → IsOver st s → AreStored half (form_in s) → IsLedgerMap kind
     → AreHeld half tells (finite.get (own_nodes half (nodes_of st))) used
     → (IsTrue tells → items_in leaves.items ≡ after_key after n (items_of half (finite.get (own_nodes half (nodes_of st))) kind root))
+    → IsPageOf half kind root after n used (items_in leaves.items)
     → (kind ≢ kinds.Set → IsPageOrShows half kind root after n used (items_in leaves.items))
     → IsPage half s kind after n root (says.Page (pages.Items leaves)) used
-is_page half st s kind after n root tells leaves used told is all ledger found own law =
+is_page half st s kind after n root tells leaves used told is all ledger found own read law =
     let given : finite.get (own_nodes half (nodes_of st)) ≡ form_in s = gives_all half st s is all in record {
       page = items_in leaves.items;
       says = ap Some (listed leaves.items);
       own = own told ∙ ap (λ (l : Lookup). after_key after n (items_of half l kind root)) given;
+      read = read;
       stored = λ u among. ap (λ (l : Lookup). l (hash_of half u)) (sym given)
           ∙ each_stored half (finite.get (own_nodes half (nodes_of st))) used u (found told) among;
       every = law (no_set kind ledger);

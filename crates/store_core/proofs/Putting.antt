@@ -7,8 +7,10 @@ use Rattle.ledger_spec.specs.Maps.{hash_cmp}
 use Rattle.ledger_spec.specs.Bytes.{Bytes, Hash, Nodes}
 use Rattle.ledger_machine.specs.declared.commands.Record.{Record}
 use Rattle.ledger_machine.specs.Records.{AreDistinct, hashes_of, with_records}
+use Rattle.rotating_store.specs.Puts.{MayStore}
 use Rattle.rotating_store.specs.Stores.{Store, merged, nodes_of, Counted, with_pair}
 use Rattle.rotating_store.proofs.Merging.{merged-insert, merged_empty}
+use Rattle.store_core.specs.Dumping.{HoldsOf}
 use Rattle.ledger_laws.proofs.SoundForms.{new_or_old, in_head, in_tail}
 
 -- The first i of the records were put into a store that held nothing, and no hash of the others is there.
@@ -32,6 +34,39 @@ none_put told records st empty = record {
       (ap (λ (w : Nodes). merged w st.archive) (empty t).0 ∙ merged_empty st.archive ∙ (empty t).1)
       ∙ map.get-empty hash_cmp h;
 }
+
+-- nothing is stored
+pub none_held : (told : Bool) (records : List Record) (st : Store)
+    → (IsTrue told → (st.writable ≡ map.empty) × (st.archive ≡ map.empty)) → IsTrue told → HoldsOf records (nodes_of st)
+none_held told records st empty t h form e =
+    let none : None ≡ Some form =
+    sym (ap (λ (n : Nodes). map.get n h)
+    (ap (λ (w : Nodes). merged w st.archive) (empty t).0 ∙ merged_empty st.archive ∙ (empty t).1)
+    ∙ map.get-empty hash_cmp h) ∙ e in
+    cc
+
+-- a store that holds the same
+held_same : (records : List Record) (st st' : Store) → Counted st st' → HoldsOf records (nodes_of st) → HoldsOf records (nodes_of st')
+held_same records st st' same held =
+    subst (HoldsOf records) (sym (ap (λ (x : Store). nodes_of x) same)) held
+
+-- a record more
+pub held_more : (records : List Record) (r : Record) (st st' : Store) → Contains records r → Counted (with_pair st r.hash r.form) st'
+    → HoldsOf records (nodes_of st) → HoldsOf records (nodes_of st')
+held_more records r st st' among put held h form e =
+    let now : map.get (map.insert (nodes_of st) r.hash r.form) h ≡ Some form =
+    sym (ap (λ (x : Store). map.get (nodes_of x) h) put
+    ∙ ap (λ (n : Nodes). map.get n h) (merged-insert st.writable st.archive r.hash r.form)) ∙ e in
+    ⊎_elim (λ old. held h form old)
+    (λ new. let same : r ≡ record { hash = h; form = form } = (λ i. record { hash = sym new.0 i; form = sym new.1 i }) in
+    subst (Contains records) same among)
+    (new_or_old (nodes_of st) r.hash r.form h form now)
+
+-- a record that may have been stored
+pub held_maybe : (records : List Record) (r : Record) (st st' : Store) → Contains records r → MayStore st r.hash r.form st'
+    → HoldsOf records (nodes_of st) → HoldsOf records (nodes_of st')
+held_maybe records r st st' among may held =
+    ⊎_elim (λ same. held_same records st st' same held) (λ put. held_more records r st st' among put.1 held) may
 
 -- the others are distinct too
 distinct_drop : (records : List Record) (i : ℕ) → AreDistinct (hashes_of records) → AreDistinct (hashes_of (drop i records))

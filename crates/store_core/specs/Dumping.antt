@@ -1,6 +1,6 @@
 -- What is stored, as records.
 use Rattle.std.specs.Prelude.{◌≡◌, ◌≤◌, ℕ, Result, Err, ◌+◌, ◌-◌, ◌*◌, Bool, true, IsTrue, List, [], ◌∷◌, length, map, Option, None, Some}
-use Rattle.std.specs.List.{filter}
+use Rattle.std.specs.List.{filter, Contains}
 use Rattle.std.specs.Ordering.{is_lt}
 use Rattle.std.specs.FinMap as finite
 use Rattle.node_backend.specs.Order.{IsAfter}
@@ -24,6 +24,10 @@ records_of nodes = map (λ e. record { hash = e.0; form = e.1 }) (finite.entries
 -- what of it comes after a hash, hashes rising
 abbrev pub records_after : Nodes → Option Hash → List Record
 records_after nodes after = filter (λ r. comes_after after r.hash) (records_of nodes)
+
+-- nothing is stored but these records, each form under its hash
+abbrev pub HoldsOf : List Record → Nodes → Type 0
+HoldsOf records nodes = (h : Hash) (form : Bytes) → finite.get nodes h ≡ Some form → Contains records (record { hash = h; form = form })
 
 -- the next stored record after a hash, or none where no greater hash is stored
 abbrev pub IsNextRecord : Nodes → Option Hash → Option Record → Type 0

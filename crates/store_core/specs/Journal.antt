@@ -18,6 +18,7 @@ use Rattle.ledger_machine.specs.Exact.{AreEveryMaps}
 use Rattle.ledger_machine.specs.Complete.{IsAllStored, AreExact}
 use Rattle.ledger_machine.specs.Collisions.{brought_by, ShowsIn}
 use Rattle.ledger_machine.specs.Swaps.{AllSwapsKeep}
+use Rattle.ledger_machine.specs.Throughout.{AreInOrder}
 use Rattle.run_io.specs.Bytes.{Rose}
 use Rattle.script_form.specs.Servable.{AreServable}
 use Rattle.store_core.specs.Desks.{KeepsRest}
@@ -60,8 +61,8 @@ RoseBy n before now = (before + n ≤ now) ⊎ (2 ^ 64 - 1 ≤ now)
 -- What a core keeps: where its store tells what it holds, its journal is a run that led to a sound state, in which each root was told to
 -- the rotation under way; no more ledgers are listed, and no more epochs have ended, than it has entries; each actor's cursor stands
 -- behind the lines that it has answered, and no entry before that of the line
--- that it waits for; the journal has room for an entry of each line; and each `fault`, and each call for a stored record that failed, has
--- a rise of the store's count of its own.
+-- that it waits for; the journal has room for an entry of each line; the store's count of faults isn't below that at opening; and each
+-- `fault`, and each call for a stored record that failed, has a rise of the count of its own.
 pub record CoreKeeps (half : Half) (records : List Record) (lines : List Line) (cursors : List ℕ) (journal : List Entry)
     (capacity interval : ℕ) (told : Bool) (opened now missed : ℕ) (state : State) : Type 0 where
   pub run : IsTrue told → IsRunOf half records lines interval journal state
@@ -77,6 +78,7 @@ pub record CoreKeeps (half : Half) (records : List Record) (lines : List Line) (
   pub servable : AreServable lines
   pub recorded : AreRecords half records
   pub room : length lines ≤ capacity
+  pub since : opened ≤ now
   pub fault_bound : RoseBy (faults_in journal + missed) opened now
 
 -- One entry more, for this actor's next line and by a step of it. The store's count of faults never falls, and the entry answers `fault`
@@ -122,6 +124,9 @@ pub record IsMachineRun (half : Half) (c : CoreView) : Type 0 where
   pub sound : Sound half c.state
   -- nothing that a retained ledger reaches is absent
   pub present : (t : Hash) → Contains (retained c.state) t → IsAllStored (form_in c.state) t
+  -- each state of the run is sound, nothing that a retained ledger reaches is absent in it, and each map of an open view is a finite map
+  -- of items, which the stored nodes commit to
+  pub in_order : (along : IsRun half c) → AreInOrder half c.lines (opening_of c.records c.interval) c.journal c.state along
   -- each swap takes nothing that a retained ledger or an open acquisition reaches, and leaves nothing but what the rotation kept, which
   -- these or own forms reached since it began, and what was born in the epoch that ended
   pub swaps : (along : IsRun half c) → AllSwapsKeep half c.lines (λ h. ⊥) (opening_of c.records c.interval) c.journal c.state along
@@ -132,12 +137,17 @@ pub record IsMachineRun (half : Half) (c : CoreView) : Type 0 where
 
 -- What holds of a core each time that it is given back; `told` says whether its store tells what it holds.
 pub record IsJournal (half : Half) (told : Bool) (c : CoreView) : Type 0 where
+  -- the script's lines are numbered and in range, and its records are forms under their own hashes
+  pub servable : AreServable c.lines
+  pub recorded : AreRecords half c.records
   -- where it does, the journal is a run of the store machine
   pub machine : IsTrue told → IsMachineRun half c
   -- each actor's entries are for its first lines, in order, each once, and none stands before that of the line that it waits for
   pub projects : Projects c.lines c.journal
   -- each entry is of a known actor
   pub known : All (λ e. e.actor < actors) c.journal
+  -- the store's count of faults isn't below that at opening
+  pub since : c.opened ≤ c.faults
   -- each `fault`, and each call for a stored record that failed, has a rise of the store's count of its own
   pub faults : RoseBy (faults_in c.journal + c.missed) c.opened c.faults
 

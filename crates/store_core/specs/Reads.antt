@@ -9,7 +9,7 @@ use Rattle.ledger_machine.specs.declared.commands.Command.{Command}
 use Rattle.ledger_machine.specs.declared.commands.Command.TheVariants as command
 use Rattle.ledger_machine.specs.declared.replies.GetReply.{GetReply}
 use Rattle.ledger_machine.specs.declared.replies.Reply.TheVariants as says
-use Rattle.ledger_machine.specs.Reading.{outcome_of}
+use Rattle.ledger_machine.specs.Reading.{IsLast, outcome_of}
 use Rattle.ledger_machine.specs.State.{State}
 use Rattle.ledger_machine.specs.Steps.{Gets, Pages, UsesNodes}
 use Rattle.store_core.specs.declared.views.Got.{Got}
@@ -26,9 +26,10 @@ abbrev pub IsFollowed : Half → Kind → Hash → Hash → Answer → Type 0
 IsFollowed half kind root key a =
     follow half kind root key (held_nodes a.used.items) ≡ Some (outcome_by (held_nodes a.used.items) a.outcome)
 
--- the reply says an answer's outcome
+-- the reply says an answer's outcome, and its value is the last node of the path
 abbrev pub Says : Answer → GetReply → Type 0
-Says a reply = outcome_of (says.Get reply) ≡ Some (outcome_by (held_nodes a.used.items) a.outcome)
+Says a reply = (outcome_of (says.Get reply) ≡ Some (outcome_by (held_nodes a.used.items) a.outcome))
+    × IsLast (held_nodes a.used.items) (says.Get reply)
 
 -- what a step of the machine gets at a key below a view's root, where the view is open
 pub record IsGot (half : Half) (s : State) (kind : Kind) (key : Hash) (root : Option Hash) (s' : State) (got : Got) : Type 0 where

@@ -1,15 +1,16 @@
 //! The records that a store begins with, and those that it holds.
-ghost use Rattle.std.specs.Prelude.{◌≡◌, IsTrue, None, length, OnOk, IfErr, IfOk, IfSome};
+ghost use Rattle.std.specs.Prelude.{◌≡◌, IsTrue, None, length, OnOk, OnErr, IfErr, IfOk, IfSome};
 ghost use Rattle.std.specs.Option.{option_copied};
 ghost use Rattle.std.specs.FinMap as map;
 ghost use Rattle.ledger_spec.specs.Bytes.{Half, are_bytes};
 ghost use Rattle.ledger_spec.specs.Own.{IsStoredAt, AreStored};
 ghost use Rattle.ledger_machine.specs.Records.{AreRecords, with_records};
 ghost use Rattle.run_io.specs.Bytes.{Rose};
+ghost use Rattle.rotating_store.specs.Puts.{MayStore};
 ghost use Rattle.rotating_store.specs.Stores.{nodes_of, Counted, with_pair};
 ghost use Rattle.own_forms.specs.Reading.{IsLater, WasRead};
 ghost use Rattle.node_backend.specs.Order.{IsNext};
-ghost use Rattle.store_core.specs.Dumping.{IsNextRecord, Follows, GivenAfter};
+ghost use Rattle.store_core.specs.Dumping.{HoldsOf, IsNextRecord, Follows, GivenAfter};
 
 use half_hash::{Hash32, NodeHash};
 use ledger_machine::Record;
@@ -29,6 +30,8 @@ pub(crate) fn put_records<H: NodeHash, Sh: Shelf>(
     requires empty { IsTrue Sh.B.tells → (store.old.writable ≡ map.empty) × (store.old.archive ≡ map.empty) }
     ensures stored { IsTrue Sh.B.tells
         → OnOk result ((store.new.writable ≡ with_records map.empty records.now) × (store.new.archive ≡ map.empty)) }
+    // Some of them may be there where the store failed, and nothing else.
+    ensures held { IsTrue Sh.B.tells → HoldsOf records.now (nodes_of store.new) }
     ensures later { IsLater store.old store.new }
     ensures fault { IfErr result (λ e. e ≡ BackFault.Fault → Rose store.old.faults store.new.faults) }
 {
@@ -47,6 +50,7 @@ fn put_record<H: NodeHash, Sh: Shelf>(
     requires own { IsStoredAt H.half one.now.hash one.now.form }
     requires absent { IsTrue Sh.B.tells → map.get (nodes_of store.old) one.now.hash ≡ None }
     ensures stored { IsTrue Sh.B.tells → OnOk result (Counted (with_pair store.old one.now.hash one.now.form) store.new) }
+    ensures unstored { IsTrue Sh.B.tells → OnErr result (MayStore store.old one.now.hash one.now.form store.new) }
     ensures later { IsLater store.old store.new }
     ensures fault { IfErr result (λ e. e ≡ BackFault.Fault → Rose store.old.faults store.new.faults) }
 {

@@ -1,5 +1,5 @@
 //! The core: a script, the journal of what was answered, and the state after it.
-ghost use Rattle.std.specs.Prelude.{◌≡◌, ◌≢◌, ◌↔◌, ◌<◌, ◌≤◌, ◌^◌, [], ℕ, true, IsTrue, IfOk, length, count_by, IfErr, IfSome, MatchOption};
+ghost use Rattle.std.specs.Prelude.{◌≡◌, ◌⊎◌, ◌↔◌, ◌<◌, ◌≤◌, ◌^◌, [], ℕ, true, IsTrue, IfOk, length, count_by, IfErr, IfSome, MatchOption};
 ghost use Rattle.std.specs.Prelude.{drop, take};
 ghost use Rattle.std.specs.Option.{option_copied};
 ghost use Rattle.ledger_machine.specs.Scripts.{Rises, line_of, numbers_of};
@@ -8,8 +8,8 @@ ghost use Rattle.ledger_machine.specs.Records.{AreRecords};
 ghost use Rattle.script_form.specs.Servable.{AreServable};
 ghost use Rattle.store_core.specs.Journal.{Advances, IsJournal, IsNew, IsNext, AllBefore, AllFrom};
 ghost use Rattle.run_io.specs.Bytes.{Rose};
-ghost use Rattle.rotating_store.specs.Stores.{Store};
-ghost use Rattle.store_core.specs.Dumping.{IsNextRecord, Follows, Lists, missed_after};
+ghost use Rattle.rotating_store.specs.Stores.{Store, nodes_of};
+ghost use Rattle.store_core.specs.Dumping.{HoldsOf, IsNextRecord, Follows, Lists, missed_after};
 ghost use Rattle.store_core.specs.Totals.{totals_of, is_complete as completes, is_closed as closes};
 
 use crate::bench::Bench;
@@ -104,6 +104,8 @@ impl<H: NodeHash, Sh: Shelf> Core<H, Sh> {
         // A shelf or a store is handed back only where its count of faults is greater than that of the shelf.
         ensures shelf { (s : Sh) → result ≡ Err (Unopened.Shelf s) → Rose (Sh.faults shelf) (Sh.faults s) }
         ensures store { (s : Store) → result ≡ Err (Unopened.Store s) → Rose (Sh.faults shelf) s.faults }
+        // Nothing but records of the script is stored in such a store.
+        ensures held { IsTrue Sh.B.tells → (s : Store) → result ≡ Err (Unopened.Store s) → HoldsOf script.records.items (nodes_of s) }
     {
         let mut store = RotStore::open(alloc, shelf)?;
         match put_records::<H, Sh>(alloc, &mut store, &script.records) {
@@ -135,7 +137,7 @@ impl<H: NodeHash, Sh: Shelf> Core<H, Sh> {
         ensures answered { result ≡ Stepped.Answered → Advances H.half Sh.B.tells self.old actor self.new }
         ensures blocked { (result ≡ Stepped.Blocked) ↔ IsBlocked self.old.lines self.old.journal actor }
         ensures finished { (result ≡ Stepped.Finished) ↔ IsDone self.old.lines self.old.journal actor }
-        ensures unchanged { result ≢ Stepped.Answered → self.new ≡ self.old }
+        ensures unchanged { (result ≡ Stepped.Blocked) ⊎ (result ≡ Stepped.Finished) → self.new ≡ self.old }
         ensures few { length self.new.journal ≤ length self.new.lines }
     {
         known_half::<H>();
@@ -207,6 +209,7 @@ impl<H: NodeHash, Sh: Shelf> Core<H, Sh> {
         ensures few { length self.now.journal ≤ length self.now.lines }
     {
         known_half::<H>();
+        what_is_left_is_whole();
         &self.journal
     }
 

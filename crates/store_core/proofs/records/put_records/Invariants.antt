@@ -1,4 +1,7 @@
+use Rattle.std.proofs.Common.{IsTrue}
 use Rattle.own_forms.specs.Reading.{IsLater}
+use Rattle.rotating_store.specs.Stores.{nodes_of}
+use Rattle.store_core.specs.Dumping.{HoldsOf}
 use Rattle.store_core.proofs.Putting.{ArePut}
 use Rattle.store_core.proofs.records.put_records.Given as goal
 
@@ -6,5 +9,6 @@ use Rattle.store_core.proofs.records.put_records.Given as goal
 abbrev pub invariant-loop-one : goal.invariant-loop-one
 invariant-loop-one g l = record {
   put : ArePut g.Sh.B.Backend.tells l.records l.one-index l.store;
+  held : IsTrue g.Sh.B.Backend.tells → HoldsOf l.records (nodes_of l.store);
   later : IsLater l.fn.store l.store;
 }
