@@ -1,5 +1,5 @@
 -- The line that an audit prints.
-use Rattle.std.specs.Prelude.{ℕ, ◌++◌, codes, Option, None, Some}
+use Rattle.std.specs.Prelude.{ℕ, ◌++◌, ◌∷◌, [], codes, Option, None, Some}
 use Rattle.std.specs.Fmt.{decimal}
 use Rattle.hex.specs.Hex.{encode_upper}
 use Rattle.ledger_spec.specs.Bytes.{Bytes}
@@ -7,6 +7,14 @@ use Rattle.plain_audit.specs.declared.cause.Cause.{Cause}
 use Rattle.plain_audit.specs.declared.cause.Cause.TheVariants as causes
 use Rattle.plain_audit.specs.declared.answer.Answer.{Answer}
 use Rattle.plain_audit.specs.declared.answer.Answer.TheVariants.{Whole, OtherHash, OtherState, OtherTx, Refused}
+
+-- the line that other words are answered with
+abbrev pub usage_text : Bytes
+usage_text = codes "usage: ledger_audit --plain [--expect HASH]" ++ 10 ∷ []
+
+-- two hashes behind words
+abbrev pub two_text : Bytes → Bytes → Bytes → Bytes
+two_text words a b = words ++ encode_upper a ++ codes " " ++ encode_upper b
 
 -- why a line is refused
 abbrev pub cause_text : Cause → Bytes
@@ -20,7 +28,7 @@ cause_text causes.Data = codes "data"
 cause_text causes.ZeroKey = codes "zerokey"
 cause_text causes.TooMuch = codes "toomuch"
 cause_text causes.Late = codes "late"
-cause_text (causes.NotBehind key) = codes "notbehind " ++ encode_upper key
+cause_text (causes.NotBehind before key) = two_text (codes "notbehind ") before key
 
 -- the ledger's hash and number
 abbrev pub header_text : Bytes → ℕ → Bytes
@@ -35,10 +43,7 @@ abbrev pub txs_text : Option ℕ → Bytes
 txs_text None = codes " transactions unchecked"
 txs_text (Some n) = codes " transactions " ++ decimal n
 
--- two hashes behind words
-abbrev pub two_text : Bytes → Bytes → Bytes → Bytes
-two_text words a b = words ++ encode_upper a ++ codes " " ++ encode_upper b
-
+-- the line of an answer
 abbrev pub answer_text : Answer → Bytes
 answer_text (Whole sum) = header_text sum.hash sum.seq ++ state_text sum.objects sum.root ++ txs_text sum.transactions
 answer_text (OtherHash wanted found) = two_text (codes "differs hash ") wanted found

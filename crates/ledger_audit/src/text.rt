@@ -105,9 +105,6 @@ fn push_cause(text: &mut String, cause: &Cause) -> Result<(), AllocError>
         Cause::ZeroKey => text.push_str("zerokey"),
         Cause::TooMuch => text.push_str("toomuch"),
         Cause::Late => text.push_str("late"),
-        Cause::NotBehind(key) => {
-            text.push_str("notbehind ")?;
-            push_hash(text, key)
-        }
+        Cause::NotBehind { before, key } => push_two(text, "notbehind ", before, key),
     }
 }

@@ -1,9 +1,9 @@
 //! The top call: an audit over a source, whose answer goes to a sink.
-ghost use Rattle.std.specs.Prelude.{◌≡◌, ◌≢◌, ◌⊎◌, ◌≤◌, ◌++◌, ◌∷◌, [], Option, MatchOption, map};
-ghost use Rattle.run_io.specs.Bytes.{Rose, Wrote};
+ghost use Rattle.std.specs.Prelude.{◌≡◌, ◌≢◌, ◌⊎◌, ◌↔◌, ◌≤◌, ◌++◌, ◌∷◌, [], Option, MatchOption, map};
+ghost use Rattle.run_io.specs.Bytes.{Rose};
 ghost use Rattle.ledger_spec.specs.Bytes.{Hash};
-ghost use Rattle.ledger_audit.specs.Text.{answer_text};
-ghost use Rattle.ledger_audit.specs.Top.{Asks, Answered, IsFailure, status_of as own_status};
+ghost use Rattle.ledger_audit.specs.Text.{usage_text};
+ghost use Rattle.ledger_audit.specs.Top.{Asks, AreCommand, Answered, Prints, IsSilent, WroteOrFailed, status_of as own_status};
 
 use crate::text::line_of;
 use half_hash::{Hash32, NodeHash};
@@ -32,7 +32,7 @@ pub const SINK_FAILED: u8 = 5;
 /// Memory was wanted.
 pub const NO_MEMORY: u8 = 8;
 
-const USAGE_TEXT: &[u8; 45] = b"usage: ledger_audit --plain [--expect HASH]\n\n";
+const USAGE_TEXT: &[u8; 44] = b"usage: ledger_audit --plain [--expect HASH]\n";
 
 /// Audits the ledger that the source gives, as the words ask, and prints the answer: the exit status.
 pub fn ledger_audit<H: NodeHash, S: Source, K: Sink>(
@@ -42,10 +42,16 @@ pub fn ledger_audit<H: NodeHash, S: Source, K: Sink>(
     sink: &mut K,
 ) -> u8
     ensures answered { (expect : Option Hash) → Asks (map (λ w. w.now) words.now) expect
-        → Answered H.half expect (S.left source.old) (K.held sink.old) (K.held sink.new) result ⊎ IsFailure result }
-    ensures usage { ((expect : Option Hash) → Asks (map (λ w. w.now) words.now) expect → ⊥) → result ≡ USAGE }
+        → Answered H.half expect (S.left source.old) (K.held sink.old) (K.held sink.new) result ⊎ IsSilent result }
+    // Where nothing was answered, nothing is written.
+    ensures silent { IsSilent result → sink.new ≡ sink.old }
     ensures source { result ≡ SOURCE_FAILED → Rose (S.faults source.old) (S.faults source.new) }
     ensures sink { result ≡ SINK_FAILED → Rose (K.faults sink.old) (K.faults sink.new) }
+    // Other words, and these alone, give the usage, and nothing is read.
+    ensures usage { (result ≡ USAGE) ↔ (AreCommand (map (λ w. w.now) words.now) → ⊥) }
+    ensures shown { result ≡ USAGE
+        → WroteOrFailed (K.held sink.old) (K.held sink.new) (K.faults sink.old) (K.faults sink.new) usage_text }
+    ensures unread { result ≡ USAGE → source.new ≡ source.old }
 {
     let Some(expect) = asked_for(words) else {
         let _ = write_all(sink, USAGE_TEXT);
@@ -75,9 +81,9 @@ fn asked_for(words: &[&str]) -> Option<Option<Hash32>>
 
 // Prints the answer: the status.
 fn printed<K: Sink>(alloc: Global, answer: &Answer, sink: &mut K) -> u8
-    ensures printed { ((result ≡ own_status answer.now) × Wrote (K.held sink.old) (K.held sink.new) (answer_text answer.now ++ 10 ∷ []))
-        ⊎ IsFailure result }
-    ensures source { result ≢ SOURCE_FAILED }
+    ensures printed { Prints answer.now (K.held sink.old) (K.held sink.new) result ⊎ (result ≡ NO_MEMORY) }
+    ensures silent { result ≡ NO_MEMORY → sink.new ≡ sink.old }
+    ensures others { (result ≢ SOURCE_FAILED) × (result ≢ USAGE) }
     ensures sink { result ≡ SINK_FAILED → Rose (K.faults sink.old) (K.faults sink.new) }
 {
     let Ok(line) = line_of(alloc, answer) else {
@@ -92,7 +98,7 @@ fn printed<K: Sink>(alloc: Global, answer: &Answer, sink: &mut K) -> u8
 // The status of an answer.
 fn status_of(answer: &Answer) -> u8
     ensures own { result ≡ own_status answer.now }
-    ensures low { result ≤ REFUSED }
+    ensures low { (result ≤ REFUSED) × (result ≢ USAGE) }
 {
     match answer {
         Answer::Whole(_) => WHOLE,

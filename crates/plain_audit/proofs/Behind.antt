@@ -1,6 +1,6 @@
 -- Whether a key comes behind those of all items, and how many there are.
 use Rattle.std.proofs.Common.{◌≡◌, ℕ, ◌+◌, ◌-◌, ◌^◌, Bool, true, false, is_some, [], ◌∷◌, ◌++◌, Option, None, Some}
-use Rattle.std.proofs.Common.{refl, sym, ap, arith, length-append, min}
+use Rattle.std.proofs.Common.{refl, sym, ap, ◌∙◌, arith, length-append, min}
 use Rattle.std.proofs.lemmas.Bool.{and_parts, and_from, false≢true}
 use Rattle.std.specs.declared.cmp.Ordering.{Ordering}
 use Rattle.std.specs.declared.cmp.Ordering.TheVariants.{Less, Equal, Greater}
@@ -8,7 +8,8 @@ use Rattle.ledger_spec.specs.Bytes.{Hash, Items}
 use Rattle.ledger_spec.specs.Maps.{hash_cmp}
 use Rattle.ledger_spec.specs.Tree.{Entry}
 use Rattle.root_pass.specs.Rows.{IsBehind}
-use Rattle.plain_audit.specs.Lines.{is_before, is_behind, items_or_none}
+use Rattle.root_pass.specs.Passed.{IsLast}
+use Rattle.plain_audit.specs.Lines.{is_before, is_behind, last_key, items_or_none}
 use Rattle.plain_audit.specs.Answers.{counted}
 
 less_from : (o : Ordering) → is_before o ≡ true → o ≡ Less
@@ -33,6 +34,15 @@ behind_false items key not_all = by (is_behind items key) refl
     by : (b : Bool) → is_behind items key ≡ b → is_behind items key ≡ false
     by false is = is
     by true is = absurd (not_all (behind_from items key is))
+
+last_key_append : (items : Items) (e : Entry) → last_key (items ++ e ∷ []) ≡ e.0
+last_key_append [] e = refl
+last_key_append (a ∷ []) e = refl
+last_key_append (a ∷ b ∷ items) e = last_key_append (b ∷ items) e
+
+-- the last item's key
+pub last_key_is : (items : Items) (key : Hash) → IsLast items key → last_key items ≡ key
+last_key_is items key is = ap last_key is.items_are ∙ last_key_append is.front (key, is.bytes)
 
 pub counted_more : (items : Items) (e : Entry) (n m : ℕ) → n ≡ counted items → m ≡ min (n + 1) (2 ^ 64 - 1) → m ≡ counted (items ++ e ∷ [])
 counted_more items e n m was is = omega (arith, was, is, length-append items (e ∷ []))

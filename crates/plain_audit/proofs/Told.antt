@@ -19,7 +19,7 @@ use Rattle.plain_audit.specs.declared.cause.Cause.{Cause}
 use Rattle.plain_audit.specs.declared.cause.Cause.TheVariants as causes
 use Rattle.plain_audit.specs.declared.answer.Answer.{Answer}
 use Rattle.plain_audit.specs.declared.answer.Answer.TheVariants.{Refused}
-use Rattle.plain_audit.specs.Lines.{Said, header_word, tx_word, digits_of, headed, first_of, item_of, items_or_none, is_behind}
+use Rattle.plain_audit.specs.Lines.{Said, header_word, tx_word, digits_of, headed, first_of, item_of, items_or_none, is_behind, last_key}
 use Rattle.plain_audit.specs.Lines.{with_state, with_tx, after_line, step, line_most}
 use Rattle.plain_audit.specs.Answers.{IsVerdict, unended, Ends, Goes, Says}
 use Rattle.plain_audit.specs.Ledgers.{IsItemText, IsTxLine, AreEach, Tells, joined, IsAccepted, AcceptedIsLedger, TextHasItems}
@@ -93,7 +93,7 @@ module _ (lines : List Bytes) (s : Said) (tells : Tells lines s) (line : Bytes) 
     where
       by_tests : (e : Entry) (given behind : Bool) → item_of line ≡ Ok e → is_some s.txs ≡ given → is_behind s.items e.0 ≡ behind
           → (if given then Err causes.Late else if behind then Ok (record { header = s.header; items = s.items ++ e ∷ []; txs = s.txs })
-          else Err (causes.NotBehind e.0)) ≡ Ok t → Tells (lines ++ line ∷ []) t
+          else Err (causes.NotBehind (last_key s.items) e.0)) ≡ Ok t → Tells (lines ++ line ∷ []) t
       by_tests e true behind item given_is behind_is is = cc
       by_tests e false false item given_is behind_is is = cc
       by_tests e false true item given_is behind_is is =
@@ -131,7 +131,7 @@ module _ (lines : List Bytes) (s : Said) (tells : Tells lines s) (line : Bytes) 
     where
       by_test : (e : Entry) (behind : Bool) → item_of (drop 3 line) ≡ Ok e → is_behind (items_or_none s.txs) e.0 ≡ behind
           → (if behind then Ok (record { header = s.header; items = s.items; txs = Some (items_or_none s.txs ++ e ∷ []) })
-          else Err (causes.NotBehind e.0)) ≡ Ok t → Tells (lines ++ line ∷ []) t
+          else Err (causes.NotBehind (last_key (items_or_none s.txs)) e.0)) ≡ Ok t → Tells (lines ++ line ∷ []) t
       by_test e false item behind_is is = cc
       by_test e true item behind_is is =
           let next : Said = record { header = s.header; items = s.items; txs = Some (items_or_none s.txs ++ e ∷ []) } in

@@ -6,7 +6,7 @@ use Rattle.std.specs.declared.cmp.Ordering.{Ordering}
 use Rattle.std.specs.declared.cmp.Ordering.TheVariants.{Less}
 use Rattle.hex.specs.Hex.{decode_of}
 use Rattle.hex.specs.declared.error.FromHexError.{FromHexError}
-use Rattle.ledger_spec.specs.Bytes.{Bytes, Hash, Items, is_zero}
+use Rattle.ledger_spec.specs.Bytes.{Bytes, Hash, Items, is_zero, zero_hash}
 use Rattle.ledger_spec.specs.Forms.{data_limit}
 use Rattle.ledger_spec.specs.Maps.{hash_cmp}
 use Rattle.ledger_spec.specs.Tree.{Entry}
@@ -70,7 +70,13 @@ is_before _ = false
 abbrev pub is_behind : Items → Hash → Bool
 is_behind items key = list_all (λ (e : Entry). is_before (hash_cmp e.0 key)) items
 
--- items more of a map
+-- the last item's key, where there is an item
+abbrev pub last_key : Items → Hash
+last_key [] = zero_hash
+last_key (e ∷ []) = e.0
+last_key (e ∷ f ∷ items) = last_key (f ∷ items)
+
+-- items that may not be given
 abbrev pub items_or_none : Option Items → Items
 items_or_none None = []
 items_or_none (Some items) = items
@@ -81,13 +87,14 @@ with_state s (Err cause) = Err cause
 with_state s (Ok e) =
     if is_some s.txs then Err causes.Late
     else if is_behind s.items e.0 then Ok (record s { items = s.items ++ e ∷ [] })
-    else Err (causes.NotBehind e.0)
+    else Err (causes.NotBehind (last_key s.items) e.0)
 
 -- an item of the transactions
 abbrev pub with_tx : Said → Result Entry Cause → Result Said Cause
 with_tx s (Err cause) = Err cause
 with_tx s (Ok e) =
-    if is_behind (items_or_none s.txs) e.0 then Ok (record s { txs = Some (items_or_none s.txs ++ e ∷ []) }) else Err (causes.NotBehind e.0)
+    if is_behind (items_or_none s.txs) e.0 then Ok (record s { txs = Some (items_or_none s.txs ++ e ∷ []) })
+    else Err (causes.NotBehind (last_key (items_or_none s.txs)) e.0)
 
 -- what is said after one line more, or what is wrong with it
 abbrev pub after_line : Option Said → Bytes → Result Said Cause

@@ -25,8 +25,8 @@ pub enum Cause {
     TooMuch,
     /// An item of the state stands behind a transaction.
     Late,
-    /// This key isn't greater than the one before it.
-    NotBehind(Hash32),
+    /// The key isn't greater than the one before it.
+    NotBehind { before: Hash32, key: Hash32 },
 }
 
 /// Why a line wasn't taken.

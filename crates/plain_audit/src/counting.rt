@@ -3,7 +3,7 @@ ghost use Rattle.std.specs.Prelude.{◌≡◌, ◌++◌, ◌∷◌, [], true, fa
 ghost use Rattle.ledger_spec.specs.Bytes.{Bytes, Hash, Half, Items};
 ghost use Rattle.ledger_spec.specs.declared.Kind.{Kind as AnyKind};
 ghost use Rattle.ledger_spec.specs.Tree.{root_of};
-ghost use Rattle.plain_audit.specs.Lines.{is_behind};
+ghost use Rattle.plain_audit.specs.Lines.{is_behind, last_key};
 
 use crate::Cause;
 use half_hash::{Hash32, Memory, NodeHash};
@@ -35,14 +35,17 @@ impl Counting {
         ensures ok { OnOk result ((kind : AnyKind) (items : Items) → Counts H.half kind self.old items
             → (is_behind items key.now ≡ true) × Counts H.half kind self.new (items ++ (key.now, bytes.now) ∷ [])) }
         ensures cause { IfErr result (λ cause. (kind : AnyKind) (items : Items) → Counts H.half kind self.old items
-            → (is_behind items key.now ≡ false) × (cause ≡ causes.NotBehind key.now)) }
+            → (is_behind items key.now ≡ false) × (cause ≡ causes.NotBehind (last_key items) key.now)) }
     {
         match self.pass.add::<H>(key, bytes) {
             Ok(()) => {
                 self.number = self.number.saturating_add(1);
                 Ok(())
             }
-            Err(_) => Err(Cause::NotBehind(*key)),
+            Err(fault) => Err(Cause::NotBehind {
+                before: fault.before,
+                key: *key,
+            }),
         }
     }
 

@@ -10,8 +10,6 @@ mod counting;
 mod digits;
 mod laws;
 mod run;
-#[cfg(test)]
-mod tests;
 
 pub use answer::{Answer, Sum};
 pub use cause::Cause;

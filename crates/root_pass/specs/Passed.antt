@@ -1,7 +1,7 @@
 -- What a pass has seen.
 use Rattle.std.specs.Prelude.{◌≡◌, ℕ, ◌<◌, [], ◌∷◌, ◌++◌, length, Option, None, Some}
 use Rattle.ledger_spec.specs.declared.Kind.{Kind}
-use Rattle.ledger_spec.specs.Bytes.{Bytes, Half, Items, zero_hash}
+use Rattle.ledger_spec.specs.Bytes.{Bytes, Hash, Half, Items, zero_hash}
 use Rattle.ledger_spec.specs.Forms.{leaf_form}
 use Rattle.root_pass.specs.declared.pass.Last.{Last}
 use Rattle.root_pass.specs.declared.pass.Pass.{Pass}
@@ -33,3 +33,9 @@ SeenBy half kind rows items (Some last) = Waits half kind rows items last
 -- these items came, in this order
 abbrev pub HasPassed : Half → Pass → Items → Type 0
 HasPassed half pass items = SeenBy half pass.kind pass.rows items pass.last
+
+-- the key is that of the last item
+pub record IsLast (items : Items) (key : Hash) : Type 0 where
+  pub front : Items
+  pub bytes : Bytes
+  pub items_are : items ≡ front ++ (key, bytes) ∷ []

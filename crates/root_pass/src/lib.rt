@@ -11,7 +11,5 @@
 mod forms;
 mod pass;
 mod rows;
-#[cfg(test)]
-mod tests;
 
 pub use pass::{NotBehind, Pass};

@@ -1,12 +1,12 @@
 //! The pass itself.
-ghost use Rattle.std.specs.Prelude.{◌≡◌, ◌≢◌, ◌<◌, ◌≤◌, ◌+◌, ◌++◌, ◌∷◌, [], ℕ, Some, None, length, IfOk, OnOk, OnErr, MatchBool};
+ghost use Rattle.std.specs.Prelude.{◌≡◌, ◌≢◌, ◌<◌, ◌≤◌, ◌+◌, ◌++◌, ◌∷◌, [], ℕ, Some, None, length, IfOk, IfErr, OnOk, OnErr, MatchBool};
 ghost use Rattle.std.specs.declared.cmp.Ordering.TheVariants.{Less};
 ghost use Rattle.ledger_spec.specs.declared.Kind.{Kind as AnyKind};
 ghost use Rattle.ledger_spec.specs.Bytes.{Items, Half};
 ghost use Rattle.ledger_spec.specs.Maps.{hash_cmp};
 ghost use Rattle.ledger_spec.specs.Tree.{root_of};
 ghost use Rattle.root_pass.specs.Rows.{IsFork, IsFull, IsBehind};
-ghost use Rattle.root_pass.specs.Passed.{HasPassed, Waits};
+ghost use Rattle.root_pass.specs.Passed.{HasPassed, IsLast, Waits};
 
 use crate::forms::leaf_hash;
 use crate::rows::Rows;
@@ -33,7 +33,10 @@ pub struct Pass {
 
 /// A key isn't greater than the one before it.
 #[derive(Clone, Copy, Debug, PartialEq, Eq)]
-pub struct NotBehind;
+pub struct NotBehind {
+    /// The key before it.
+    pub before: Hash32,
+}
 
 impl Pass {
     /// No item. Memory is taken here alone.
@@ -56,12 +59,13 @@ impl Pass {
             → IsBehind items key.now × HasPassed H.half self.new (items ++ (key.now, bytes.now) ∷ [])) }
         ensures err { OnErr result (self.new ≡ self.old) }
         ensures cause { OnErr result ((items : Items) → HasPassed H.half self.old items → IsBehind items key.now → ⊥) }
+        ensures before { IfErr result (λ e. (items : Items) → HasPassed H.half self.old items → IsLast items e.before) }
     {
         key.known();
         let hash = leaf_hash::<H>(self.kind, key, bytes);
         if let Some(last) = self.last {
             if !is_less(&last.key, key) {
-                return Err(NotBehind);
+                return Err(NotBehind { before: last.key });
             }
             last.key.known();
             let same = common(&last.key, key) as usize;

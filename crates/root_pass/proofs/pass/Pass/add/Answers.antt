@@ -35,3 +35,9 @@ returns-clause-passed g c items seen =
           (first_waits half c.args.self.now.kind c.args.self.now.rows items c.args.key.now c.args.bytes.now c.leaf_hash-hash.result empty
           c.leaf_hash-hash.ensures c.known.ensures))
     ]
+
+-- the last item is the one that waits
+pub returns-then-not-is_less-clause-before : goal.returns-then-not-is_less-clause-before
+returns-then-not-is_less-clause-before g c items seen =
+    let waits = subst (SeenBy g.H.NodeHash.half c.args.self.now.kind c.args.self.now.rows items) c.in-Some.is seen in
+    record { front = waits.front; bytes = waits.bytes; items_are = waits.items_are }
