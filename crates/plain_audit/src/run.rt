@@ -1,0 +1,91 @@
+//! The run over an input.
+ghost use Rattle.std.specs.Prelude.{◌≡◌, ◌≤◌, ℕ, Ok, Err, Option, length, IfOk, IfErr, IfSome};
+ghost use Rattle.run_io.specs.Bytes.{Rose};
+ghost use Rattle.ledger_spec.specs.Bytes.{Half};
+ghost use Rattle.plain_audit.specs.declared.cause.Cause.{Cause as AnyCause};
+ghost use Rattle.plain_audit.specs.declared.cause.LineFault.TheVariants as faults;
+ghost use Rattle.plain_audit.specs.Lines.{Said, after_line as said_after};
+ghost use Rattle.plain_audit.specs.Answers.{IsAnswer, Ends};
+ghost use Rattle.plain_audit.specs.Keeping.{Keeps, KeepsSome};
+
+use crate::audit::Audit;
+use crate::cause::LineFault;
+use crate::{Answer, Cause};
+use half_hash::{Hash32, NodeHash};
+use line_feed::{Fed, Feed};
+use run_io::{AllFault, Source};
+use std::alloc::Global;
+
+/// The most bytes of a line: a transaction's word, its key, a space, and its data, two digits a byte.
+const LINE_MOST: usize = 2_097_220;
+
+/// Audits the ledger in plain lines that a source gives, line by line. A hash that is expected is the ledger's.
+pub fn audit_plain<H: NodeHash, S: Source>(
+    alloc: Global,
+    source: &mut S,
+    expect: Option<Hash32>,
+) -> Result<Answer, AllFault>
+    ensures answer { IfOk result (λ answer. IfSome (S.left source.old) (λ bytes. IsAnswer H.half expect bytes answer)) }
+    ensures later { S.faults source.old ≤ S.faults source.new }
+    ensures cause { IfErr result (λ e. e ≡ AllFault.Fault → Rose (S.faults source.old) (S.faults source.new)) }
+{
+    let Ok(mut feed) = Feed::new(alloc) else {
+        return Err(AllFault::Memory);
+    };
+    let mut line = Vec::new(alloc);
+    let mut audit = None;
+    for n in 1..u64::MAX {
+        match feed.next_line(source, LINE_MOST, &mut line)? {
+            Fed::Line => {}
+            Fed::End => return Ok(ended::<H>(audit, n, &line, expect)),
+            Fed::TooLong => return Ok(refused(n, Cause::TooLong)),
+        }
+        match after_line::<H>(alloc, audit, &line) {
+            Ok(after) => audit = Some(after),
+            Err(LineFault::Cause(cause)) => return Ok(refused(n, cause)),
+            Err(LineFault::Memory) => return Err(AllFault::Memory),
+        }
+    }
+    // So many lines are more than any input has.
+    Err(AllFault::Memory)
+}
+
+// The refusal of a line.
+fn refused(line: u64, cause: Cause) -> Answer
+    ensures { result ≡ Answer.Refused line cause }
+{
+    Answer::Refused { line, cause }
+}
+
+// The audit after one line more.
+fn after_line<H: NodeHash>(
+    alloc: Global,
+    audit: Option<Audit>,
+    line: &[u8],
+) -> Result<Audit, LineFault>
+    ensures ok { IfOk result (λ after. (s : Option Said) → KeepsSome H.half audit s
+        → (t : Said) × (said_after s line.now ≡ Ok t) × Keeps H.half after t) }
+    ensures cause { IfErr result (λ fault. (cause : AnyCause) (s : Option Said) → fault ≡ faults.Cause cause → KeepsSome H.half audit s
+        → said_after s line.now ≡ Err cause) }
+{
+    match audit {
+        None => Audit::first(alloc, line),
+        Some(mut audit) => match audit.add::<H>(alloc, line) {
+            Ok(()) => Ok(audit),
+            Err(fault) => Err(fault),
+        },
+    }
+}
+
+// The answer where no line is left, behind which these bytes stand.
+fn ended<H: NodeHash>(audit: Option<Audit>, n: u64, rest: &[u8], expect: Option<Hash32>) -> Answer
+    ensures { length rest.now ≤ 2097220 → (s : Option Said) → KeepsSome H.half audit s → Ends H.half expect n s rest.now result }
+{
+    if !rest.is_empty() {
+        return refused(n, Cause::Unended);
+    }
+    match audit {
+        None => refused(n, Cause::NoHeader),
+        Some(audit) => audit.verdict::<H>(expect),
+    }
+}
