@@ -25,19 +25,27 @@ fn ended(alloc: Global, first: u8, last: u8) -> Result<Item, Fail> {
     Ok(Item::new(Hash32 { bytes }, value).ok().ok_or("no item")?)
 }
 
-/// The two items, whose keys rise.
+/// Two items, where their keys rise.
+fn rising(alloc: Global, low: Item, high: Item) -> Result<Vec<Item>, Fail>
+    ensures { IfOk result (λ items. IsMap hash_cmp (entries_of items.items)) }
+{
+    match low.key().cmp(high.key()) {
+        Ordering::Less => (),
+        _ => return Err("keys".into()),
+    }
+    let mut items = Vec::new(alloc);
+    items.push(low)?;
+    items.push(high)?;
+    Ok(items)
+}
+
+/// The two items.
 fn two(alloc: Global) -> Result<Vec<Item>, Fail>
     ensures { IfOk result (λ items. IsMap hash_cmp (entries_of items.items)) }
 {
     let low = ended(alloc, 0x10, 0)?;
     let high = ended(alloc, 0x10, 1)?;
-    let order = low.key().cmp(high.key());
-    let mut items = Vec::new(alloc);
-    items.push(low)?;
-    if order == Ordering::Less {
-        items.push(high)?;
-    }
-    Ok(items)
+    rising(alloc, low, high)
 }
 
 /// What is sealed of a map.

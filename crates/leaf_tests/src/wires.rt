@@ -35,7 +35,7 @@ fn either_form_is_read(rt: HostRuntime) -> Result<(), Fail> {
 fn inner(branches: usize) -> Result<Node, Fail> {
     let mut hashes = [Hash32::zero(); 16];
     for b in 0..16usize {
-        if b + branches >= 16 {
+        if 16 - b <= branches {
             let mut bytes = [0; 32];
             bytes[b] = 7;
             hashes[b] = Hash32 { bytes };
