@@ -11,7 +11,6 @@ use Rattle.ledger_spec.specs.Header.{state_root_of}
 use Rattle.ledger_spec.specs.Maps.{numbered_cmp, get_in}
 use Rattle.ledger_spec.specs.Spots.{header_in, header_root}
 use Rattle.tree_laws.proofs.WholeLaw.{ledger_commits}
-use Rattle.cow_map.specs.Unloaded.{IsLeftWhole}
 use Rattle.ledger_machine.specs.declared.commands.Line.{Line}
 use Rattle.ledger_machine.specs.declared.journal.Entry.{Entry}
 use Rattle.ledger_machine.specs.State.{State as MachineState, form_in}
@@ -56,15 +55,15 @@ module _ (half : Half) (sized : IsHalf half) (s : MachineState) (sound : Sound h
   }
 
 -- so is each state of a run from a sound state
-pub run_in_order : (half : Half) → IsHalf half → IsLeftWhole → (lines : List Line) → ((l : Line) → Contains lines l → IsInRange l.command)
+pub run_in_order : (half : Half) → IsHalf half → (lines : List Line) → ((l : Line) → Contains lines l → IsInRange l.command)
     → (s : MachineState) (entries : List Entry) (s' : MachineState) (run : Run half lines s entries s') → Sound half s
     → AreInOrder half lines s entries s' run
-run_in_order half sized law lines range s [] s' run sound =
+run_in_order half sized lines range s [] s' run sound =
     in_order half sized s' (subst (Sound half) (sym run) sound)
-run_in_order half sized law lines range s (e ∷ rest) s' run sound =
+run_in_order half sized lines range s (e ∷ rest) s' run sound =
     let line : Line = run.1.line in
     let fit : IsInRange line.command = range line (line_at lines run.1.place line run.1.stands) in (
       in_order half sized s sound,
-      run_in_order half sized law lines range run.0 rest s' run.2
-          (step_sound half sized law s run.0 e.actor line.command e.reply (used_by e) fit sound run.1.step),
+      run_in_order half sized lines range run.0 rest s' run.2
+          (step_sound half sized s run.0 e.actor line.command e.reply (used_by e) fit sound run.1.step),
     )

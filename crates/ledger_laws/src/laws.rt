@@ -67,9 +67,7 @@ pub fn each_state_of_a_run_is_in_order()
     ensures { (half : List ℕ → List ℕ) → IsHalf half → (lines : List Line) → ((l : Line) → Contains lines l → IsInRange l.command)
         → (s : State) (entries : List Entry) (s' : State) (run : Run half lines s entries s') → Sound half s
         → AreInOrder half lines s entries s' run }
-{
-    what_is_left_is_whole();
-}
+{}
 
 /// What a command that names no session, and sees none, does is the same whatever sessions are open.
 pub fn a_row_is_one_beside_any_sessions()
