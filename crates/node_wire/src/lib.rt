@@ -13,6 +13,3 @@ pub use fault::{WireFault, wire_code};
 pub use laws::{one_wire_node, read_is_wire, written_is_read};
 pub use reading::decode_wire;
 pub use writing::encode_wire;
-
-#[cfg(test)]
-mod tests;

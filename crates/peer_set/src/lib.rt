@@ -9,6 +9,3 @@ mod set;
 
 pub use ledger_spec::{Added, Ask, Charge, Places, Tick};
 pub use set::PeerSet;
-
-#[cfg(test)]
-mod tests;
