@@ -5,7 +5,7 @@ use nib_path::NodeId;
 use std::alloc::AllocError;
 
 /// Why a map can't be read or changed. It is then as it was.
-#[derive(Drop)]
+#[derive(Debug, Drop)]
 pub enum MapFault {
     /// The source doesn't hold the node of this hash, the first such on the way.
     Absent(Hash32),

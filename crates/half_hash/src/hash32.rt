@@ -1,5 +1,9 @@
 //! Hashes of 32 bytes, and their hexadecimal text.
 ghost use Rattle.std.specs.Prelude.{List, ℕ, OnErr, ◌≡◌, ◌≢◌, length, IfOk, MatchBool, MatchResult};
+ghost use Rattle.std.specs.Prelude.{◌≤◌, take, drop};
+ghost use Rattle.std.specs.Cmp.Lexicographic.{slice_cmp};
+ghost use Rattle.std.specs.Ordering.{nat_cmp};
+ghost use Rattle.std.specs.Int.{w64, from_be_bytes};
 ghost use Rattle.hex.specs.Hex.{encode_upper, decode_sized};
 ghost use Rattle.half_hash.specs.Zero.{zero_hash, is_zero as all_zero};
 ghost use Rattle.half_hash.specs.Hex.{IsHexOf, HasCause};
@@ -7,11 +11,13 @@ ghost use Rattle.half_hash.specs.Hex.{IsHexOf, HasCause};
 use crate::{Blob, Memory};
 use hex::FromHexError;
 use std::alloc::Global;
+use std::cmp::Ordering;
+use std::hash::{Hash, Hasher};
 use std::marker::Model;
 use thiserror::Error;
 
 /// A hash, or a key. Contracts see its list of bytes, whose order is that of the hashes.
-#[derive(Clone, Copy, Debug, PartialEq, Eq, PartialOrd, Ord)]
+#[derive(Clone, Copy, Debug, PartialEq, Eq)]
 pub struct Hash32 {
     pub bytes: [u8; 32],
 }
@@ -24,6 +30,54 @@ impl Model for Hash32 {
     ghost view = { λ a. a.bytes };
 
     ghost inverse = { λ bytes. record { bytes = bytes } };
+}
+
+impl PartialOrd for Hash32 {
+    ghost use Rattle.std.specs.Prelude.{Some};
+    ghost use Rattle.std.specs.Cmp.Lexicographic.{slice_cmp, texts_po};
+    ghost use Rattle.std.specs.Ordering.{nat_cmp};
+
+    ghost partial_cmp = { λ x y. Some (slice_cmp nat_cmp x y) };
+
+    ghost laws = { texts_po };
+
+    fn partial_cmp(&self, other: &Hash32) -> Option<Ordering> {
+        Some(self.cmp(other))
+    }
+}
+
+// The order of the lists of bytes.
+impl Ord for Hash32 {
+    ghost use Rattle.std.specs.Prelude.{refl};
+    ghost use Rattle.std.specs.Cmp.Lexicographic.{slice_cmp, nat_list_cmp_total, texts_ties};
+    ghost use Rattle.std.specs.Ordering.{nat_cmp};
+
+    ghost cmp = { slice_cmp nat_cmp };
+
+    ghost total = { nat_list_cmp_total };
+
+    ghost matches_partial_cmp = { λ x y. refl };
+
+    ghost matches_eq = { texts_ties };
+
+    fn cmp(&self, other: &Hash32) -> Ordering {
+        order_of(&self.bytes, &other.bytes)
+    }
+}
+
+// What a hash table asks: the first eight bytes, which are as good as random.
+impl Hash for Hash32 {
+    ghost use Rattle.std.specs.Prelude.{◌∷◌, [], take};
+    ghost use Rattle.std.specs.Cmp.Rules.{hashing};
+    ghost use Rattle.std.proofs.Common.{rules};
+
+    ghost hash_input = { λ hash. take 8 hash ∷ [] };
+
+    ghost respects_eq = { Prim.search (hashing, rules) };
+
+    fn hash<H: Hasher>(&self, state: &mut H) {
+        state.write(&self.bytes[..8]);
+    }
 }
 
 /// Why a text is no hash.
@@ -101,6 +155,36 @@ impl Hash32 {
             Err(fault) => Err(cause_of(fault, text)),
         }
     }
+}
+
+// The order of 32 bytes, eight at a time.
+fn order_of(one: &[u8; 32], other: &[u8; 32]) -> Ordering
+    ensures { result ≡ slice_cmp nat_cmp one.now other.now }
+{
+    for i in 0..4usize {
+        let (a, b) = (word(one, 8 * i), word(other, 8 * i));
+        if a != b {
+            return a.cmp(&b);
+        }
+    }
+    Ordering::Equal
+}
+
+// The eight bytes from this place on, as a number with the high byte first.
+fn word(bytes: &[u8; 32], at: usize) -> u64
+    requires { at ≤ 24 }
+    ensures { result ≡ from_be_bytes w64 (take 8 (drop at bytes.now)) }
+{
+    u64::from_be_bytes([
+        bytes[at],
+        bytes[at + 1],
+        bytes[at + 2],
+        bytes[at + 3],
+        bytes[at + 4],
+        bytes[at + 5],
+        bytes[at + 6],
+        bytes[at + 7],
+    ])
 }
 
 /// The digits of 32 bytes.

@@ -7,7 +7,7 @@ use Rattle.ledger_spec.specs.declared.Kind.{Kind}
 use Rattle.ledger_spec.specs.declared.Kind.TheVariants.{Set}
 use Rattle.ledger_spec.specs.Bytes.{Hash, Half, Lookup}
 use Rattle.ledger_spec.specs.Findings.{items_of}
-use Rattle.ledger_spec.specs.Reads.{IsKey}
+use Rattle.ledger_spec.specs.Reads.{IsKey, AreNodes}
 use Rattle.ledger_spec.specs.Pages.{said, page_from, heard_from, after_key, IsPageOf, IsPageOrShows, IsStoredNode}
 use Rattle.tree_laws.proofs.Trees.{Sized}
 use Rattle.tree_laws.proofs.MapPages.{page_or_shows}
@@ -47,11 +47,19 @@ is_refused half kind root after tells nodes n s fault no_items r =
 
 pub law_of_page : (half : Half) → Sized half → (kind : Kind) (root after : Hash) (n : ℕ) (result : Result Page ReadFault) → IsKey after
     → IfOk result (λ p. IsPageOf half kind root after n (held_nodes p.used.items) (items_in p.leaves.items))
-    → IfOk result (λ p. kind ≢ Set → IsPageOrShows half kind root after n (held_nodes p.used.items) (items_in p.leaves.items))
+    → IfOk result (λ p. AreNodes half kind (held_nodes p.used.items)
+    → IsPageOrShows half kind root after n (held_nodes p.used.items) (items_in p.leaves.items))
 law_of_page half sized kind root after n (Ok p) is_key is =
-    λ other. page_or_shows half sized kind root after n (held_nodes p.used.items) (items_in p.leaves.items) is_key
-    (nodes_are half kind other p.used.items) is
+    λ nodes. page_or_shows half sized kind root after n (held_nodes p.used.items) (items_in p.leaves.items) is_key nodes is
 law_of_page half sized kind root after n (Err _) is_key is = tt
+
+-- nodes of the code are such nodes, sets apart
+pub page_but_sets : (half : Half) (kind : Kind) (root after : Hash) (n : ℕ) (result : Result Page ReadFault)
+    → IfOk result (λ p. AreNodes half kind (held_nodes p.used.items)
+    → IsPageOrShows half kind root after n (held_nodes p.used.items) (items_in p.leaves.items))
+    → IfOk result (λ p. kind ≢ Set → IsPageOrShows half kind root after n (held_nodes p.used.items) (items_in p.leaves.items))
+page_but_sets half kind root after n (Ok p) law = λ other. law (nodes_are half kind other p.used.items)
+page_but_sets half kind root after n (Err _) law = tt
 
 pub own_page : (half : Half) (kind : Kind) (root after : Hash) (n : ℕ) (tells : Bool) (nodes : Lookup) (result : Result Page ReadFault)
     → IsKey after

@@ -4,6 +4,7 @@ ghost use Rattle.std.specs.FinMap as map;
 ghost use Rattle.run_io.specs.Bytes.{Rose};
 ghost use Rattle.ledger_spec.specs.Findings.{items_of};
 ghost use Rattle.ledger_spec.specs.Pages.{IsPageOf, IsPageOrShows, after_key, heard_from};
+ghost use Rattle.ledger_spec.specs.Reads.{AreNodes};
 ghost use Rattle.path_proof.specs.Paths.{held_nodes};
 ghost use Rattle.path_proof.specs.Sources.{AreHeld};
 ghost use Rattle.map_cursor.specs.Shown.{items_in, HasFurther};
@@ -42,6 +43,10 @@ pub fn page<H: NodeHash, S: NodeSource<H>>(
 
     // they are those of each map of states or transactions with this root, or the nodes show two with one hash
     ensures law { IfOk result (λ p. kind ≢ Kind.Set →
+        IsPageOrShows H.half kind root.now after.now n (held_nodes p.used.items) (items_in p.leaves.items)) }
+
+    // so they are for maps of sets, where each leaf that was read has its hash as its key
+    ensures sets { IfOk result (λ p. AreNodes H.half kind (held_nodes p.used.items) →
         IsPageOrShows H.half kind root.now after.now n (held_nodes p.used.items) (items_in p.leaves.items)) }
     ensures cause { IfErr result
         (Refused H.half kind S.tells (map.get (S.stored source.old)) (heard_from H.half kind root.now after.now) n) }

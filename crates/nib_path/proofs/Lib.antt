@@ -1,3 +1,4 @@
+pub mod Firsts
 pub mod Nibbles
 pub mod Places
 pub mod Reading

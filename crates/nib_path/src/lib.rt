@@ -5,11 +5,12 @@
 //! depth.
 #![tactic(auto)]
 
-ghost use Rattle.std.specs.Prelude.{◌≡◌, ℕ, ◌+◌, ◌-◌, ◌<◌, ◌≤◌, List, [], ◌∷◌, ◌++◌, length, take, replicate, slice_set, nat_lt, IsTrue};
+ghost use Rattle.std.specs.Prelude.{◌≡◌, ℕ, ◌+◌, ◌-◌, ◌*◌, ◌<◌, ◌≤◌, List, [], ◌∷◌, ◌++◌, length, take, replicate, slice_set, nat_lt, IsTrue};
 ghost use Rattle.std.specs.Prelude.{IfOk, IfSome, IsNone, ◌↔◌};
 ghost use Rattle.std.specs.List.{list_all};
 ghost use Rattle.nib_path.specs.Paths.{nibbles, nibble_of, first_set_from};
 
+use std::hash::{Hash, Hasher};
 use std::marker::Model;
 use thiserror::Error;
 
@@ -74,14 +75,27 @@ fn known_small(id: &[u8; 32])
     let _first = nibble(id, 0);
 }
 
-// The first nibble at or past the depth that is not zero.
+// The first nibble at or past the depth that is not zero: the low half of a byte that the depth divides, and else by whole bytes.
 fn first_set(id: &[u8; 32], depth: u8) -> Option<u8>
     requires { depth ≤ 64 }
     ensures { result ≡ first_set_from depth (nibbles id.now) }
 {
-    for i in depth..64 {
-        if nibble(id, i) != 0 {
-            return Some(i);
+    if depth % 2 == 1 && nibble(id, depth) != 0 {
+        return Some(depth);
+    }
+    first_set_byte(id, (depth as usize + 1) / 2)
+}
+
+// The first nibble that is not zero, from a byte on.
+fn first_set_byte(id: &[u8; 32], start: usize) -> Option<u8>
+    requires { start ≤ 32 }
+    ensures { result ≡ first_set_from (2 * start) (nibbles id.now) }
+{
+    for at in start..32 {
+        let byte = id[at];
+        if byte != 0 {
+            let high = 2 * at as u8;
+            return Some(if byte < 16 { high + 1 } else { high });
         }
     }
     None
@@ -108,6 +122,23 @@ impl Model for NodeId {
     ghost inverse = { inside_of };
 
     ghost inverse_ok = { inside_of-path_of };
+}
+
+// What a hash table asks: the path's first sixteen nibbles, and its length.
+impl Hash for NodeId {
+    ghost use Rattle.std.specs.Prelude.{◌++◌, ◌∷◌, [], length, take};
+    ghost use Rattle.std.specs.Cmp.Rules.{hashing};
+    ghost use Rattle.std.proofs.Common.{rules};
+    ghost use Rattle.nib_path.specs.Paths.{id_of};
+
+    ghost hash_input = { λ path. take 8 (id_of path) ∷ (length path ∷ []) ∷ [] };
+
+    ghost respects_eq = { Prim.search (hashing, rules) };
+
+    fn hash<H: Hasher>(&self, state: &mut H) {
+        state.write(&self.id[..8]);
+        state.write(&[self.depth]);
+    }
 }
 
 impl NodeId {

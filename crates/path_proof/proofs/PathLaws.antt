@@ -46,20 +46,36 @@ nodes_are half kind other (a ∷ used) n (suc k, within, is) = nodes_are half ki
 pub law_of : (half : Half) → Sized half → (kind : Kind) (root key : Hash) (used : List (Arc Node Global)) (result : Option Outcome)
     → IsKey key
     → option_map (outcome_by (held_nodes used)) result ≡ spec.follow half kind root key (held_nodes used)
-    → IfSome result (λ o. kind ≢ Set → AnswersOrShows half kind root key (held_nodes used) (outcome_by (held_nodes used) o))
+    → IfSome result (λ o. AreNodes half kind (held_nodes used)
+    → AnswersOrShows half kind root key (held_nodes used) (outcome_by (held_nodes used) o))
 law_of half sized kind root key used None is_key exact = tt
 law_of half sized kind root key used (Some o) is_key exact =
-    λ other. answers_or_shows half sized kind root key (held_nodes used) (outcome_by (held_nodes used) o) is_key
-    (nodes_are half kind other used) (sym exact)
+    λ nodes. answers_or_shows half sized kind root key (held_nodes used) (outcome_by (held_nodes used) o) is_key nodes (sym exact)
+
+-- nodes of the code are such nodes, sets apart
+pub law_but_sets : (half : Half) (kind : Kind) (root key : Hash) (used : List (Arc Node Global)) (result : Option Outcome)
+    → IfSome result (λ o. AreNodes half kind (held_nodes used)
+    → AnswersOrShows half kind root key (held_nodes used) (outcome_by (held_nodes used) o))
+    → IfSome result (λ o. kind ≢ Set → AnswersOrShows half kind root key (held_nodes used) (outcome_by (held_nodes used) o))
+law_but_sets half kind root key used None law = tt
+law_but_sets half kind root key used (Some o) law = λ other. law (nodes_are half kind other used)
 
 pub law_of_read : (half : Half) → Sized half → (kind : Kind) (root key : Hash) (result : Result Answer ReadFault) → IsKey key
     → IfOk result (λ a. spec.follow half kind root key (held_nodes a.used.items) ≡ Some (outcome_by (held_nodes a.used.items) a.outcome))
-    → IfOk result (λ a. kind ≢ Set
+    → IfOk result (λ a. AreNodes half kind (held_nodes a.used.items)
     → AnswersOrShows half kind root key (held_nodes a.used.items) (outcome_by (held_nodes a.used.items) a.outcome))
 law_of_read half sized kind root key (Ok a) is_key path =
-    λ other. answers_or_shows half sized kind root key (held_nodes a.used.items) (outcome_by (held_nodes a.used.items) a.outcome) is_key
-    (nodes_are half kind other a.used.items) path
+    λ nodes. answers_or_shows half sized kind root key (held_nodes a.used.items) (outcome_by (held_nodes a.used.items) a.outcome) is_key
+    nodes path
 law_of_read half sized kind root key (Err _) is_key path = tt
+
+pub read_but_sets : (half : Half) (kind : Kind) (root key : Hash) (result : Result Answer ReadFault)
+    → IfOk result (λ a. AreNodes half kind (held_nodes a.used.items)
+    → AnswersOrShows half kind root key (held_nodes a.used.items) (outcome_by (held_nodes a.used.items) a.outcome))
+    → IfOk result (λ a. kind ≢ Set
+    → AnswersOrShows half kind root key (held_nodes a.used.items) (outcome_by (held_nodes a.used.items) a.outcome))
+read_but_sets half kind root key (Ok a) law = λ other. law (nodes_are half kind other a.used.items)
+read_but_sets half kind root key (Err _) law = tt
 
 -- a node that breaks no rule at a place on the way has levels below it, if it is an inner one
 pub rules_above : (kind : Kind) (over : Option (List Hash)) (path : List ℕ) (key : Hash) (depth : ℕ)

@@ -3,7 +3,7 @@ ghost use Rattle.std.specs.Prelude.{◌≡◌, ◌≢◌, IfSome, [], ◌∷◌,
 ghost use Rattle.std.specs.Option.{option_map};
 ghost use Rattle.ledger_spec.specs.Bytes.{same_bytes};
 ghost use Rattle.ledger_spec.specs.Reads as spec;
-ghost use Rattle.ledger_spec.specs.Reads.{IsKey, AnswersOrShows};
+ghost use Rattle.ledger_spec.specs.Reads.{IsKey, AreNodes, AnswersOrShows};
 ghost use Rattle.shamap_node.specs.Nodes.{held};
 ghost use Rattle.path_proof.specs.Paths.{held_nodes, outcome_by, IsAbove};
 
@@ -28,6 +28,10 @@ pub fn follow<H: NodeHash>(
 
     // it is the answer of each map of states or transactions with this root, or the nodes show two with one hash
     ensures law { IfSome result (λ o. kind ≢ Kind.Set →
+        AnswersOrShows H.half kind root.now key.now (held_nodes used.now) (outcome_by (held_nodes used.now) o)) }
+
+    // so it is for maps of sets, where each leaf of the nodes has its hash as its key
+    ensures sets { IfSome result (λ o. AreNodes H.half kind (held_nodes used.now) →
         AnswersOrShows H.half kind root.now key.now (held_nodes used.now) (outcome_by (held_nodes used.now) o)) }
 {
     known_key(key);

@@ -4,7 +4,7 @@ ghost use Rattle.nib_path.specs.Paths.{nibbles};
 ghost use Rattle.std.specs.FinMap as map;
 ghost use Rattle.run_io.specs.Bytes.{Rose};
 ghost use Rattle.ledger_spec.specs.Reads as spec;
-ghost use Rattle.ledger_spec.specs.Reads.{AnswersOrShows};
+ghost use Rattle.ledger_spec.specs.Reads.{AreNodes, AnswersOrShows};
 ghost use Rattle.shamap_node.specs.Nodes.{held, hashes_above};
 ghost use Rattle.path_proof.specs.Paths.{held_nodes, outcome_by, hashes_kept, IsAbove};
 ghost use Rattle.path_proof.specs.Sources.{AreHeld, Holds};
@@ -27,7 +27,7 @@ pub struct Answer {
 }
 
 /// Why a read gives no answer.
-#[derive(Clone, Copy)]
+#[derive(Clone, Copy, Debug)]
 pub enum ReadFault {
     /// The source holds nothing under this hash, which is the first such on the way.
     Absent(Hash32),
@@ -68,6 +68,10 @@ pub fn read<H: NodeHash, S: NodeSource<H>>(
 
     // the answer is that of each map of states or transactions with this root, or the nodes show two with one hash
     ensures law { IfOk result (λ a. kind ≢ Kind.Set →
+        AnswersOrShows H.half kind root.now key.now (held_nodes a.used.items) (outcome_by (held_nodes a.used.items) a.outcome)) }
+
+    // so it is for maps of sets, where each leaf that was read has its hash as its key
+    ensures sets { IfOk result (λ a. AreNodes H.half kind (held_nodes a.used.items) →
         AnswersOrShows H.half kind root.now key.now (held_nodes a.used.items) (outcome_by (held_nodes a.used.items) a.outcome)) }
     ensures cause { IfErr result (HasCause H.half kind root.now key.now S.tells (map.get (S.stored source.old))) }
     ensures fault { IfErr result (λ fault. fault ≡ ReadFault.Fault → Rose (S.faults source.old) (S.faults source.new)) }

@@ -1,3 +1,5 @@
+pub mod Branches
+pub mod Crossing
 pub mod Inners
 pub mod Reading
 pub mod Seen

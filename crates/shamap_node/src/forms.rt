@@ -1,10 +1,11 @@
 //! Prefix forms: written, read and hashed.
-ghost use Rattle.std.specs.Prelude.{◌≡◌, ◌≢◌, ◌++◌, ◌-◌, ◌≤◌, length, take, drop, IfErr, IfOk, IsTrue, MatchResult, None, OnOk, Some};
+ghost use Rattle.std.specs.Prelude.{◌≡◌, ◌≢◌, ◌++◌, ◌+◌, ◌-◌, ◌<◌, ◌≤◌, length, take, drop, IfErr, IfOk, IsTrue, MatchResult, None, OnOk, Some};
 ghost use Rattle.std.specs.Prelude.{nat_eq};
-ghost use Rattle.std.specs.List.{concat, starts_with};
-ghost use Rattle.std.specs.Option.{option_map};
+ghost use Rattle.std.specs.List.{concat, list_any, slice_index_or, starts_with};
+ghost use Rattle.std.specs.Option.{is_some, option_map};
 ghost use Rattle.std.specs.Int.{w32, from_be_bytes};
 ghost use Rattle.half_hash.specs.Prefix.{prefix_of};
+ghost use Rattle.half_hash.specs.Zero.{zero_hash, is_nonzero};
 ghost use Rattle.ledger_spec.specs.Bytes.{hashes_of};
 ghost use Rattle.ledger_spec.specs.Forms.{Held, IsItem, IsInner, Form, form_of, leaf_form, leaf_prefix, inner_of as inner_hashes_of};
 ghost use Rattle.ledger_spec.specs.Forms as spec;
@@ -146,6 +147,61 @@ pub fn inner_of(form: &[u8]) -> Option<Inner>
     }
     let (_prefix, body) = form.split_at(4);
     Inner::new(hashes_in(body))
+}
+
+/// Whether the bytes are an inner node's prefix form.
+pub fn is_inner_form(form: &[u8]) -> bool
+    ensures { result ≡ is_some (inner_hashes_of form.now) }
+{
+    if form.len() != 516 || !begins(form, Prefix::Min) {
+        return false;
+    }
+    let (_prefix, body) = form.split_at(4);
+    has_branch(body)
+}
+
+// Whether one of the sixteen hashes that are joined here is not zero.
+fn has_branch(body: &[u8]) -> bool
+    requires { length body.now ≡ 512 }
+    ensures { result ≡ list_any is_nonzero (hashes_of 16 body.now) }
+{
+    for b in 0..16usize {
+        if !hash_at(body, 32 * b).is_zero() {
+            return true;
+        }
+    }
+    false
+}
+
+// The 32 bytes from this place on.
+fn hash_at(bytes: &[u8], at: usize) -> Hash32
+    requires { at + 32 ≤ length bytes.now }
+    ensures { result ≡ take 32 (drop at bytes.now) }
+{
+    let (_before, rest) = bytes.split_at(at);
+    let (piece, _behind) = rest.split_at(32);
+    Hash32::from_slice(piece)
+}
+
+/// The hash at a branch of the inner node whose prefix form the bytes are, read in place; zero where the branch is empty.
+pub fn inner_branch(form: &[u8], b: u8) -> Hash32
+    requires branch { b < 16 }
+    requires inner { IsTrue (is_some (inner_hashes_of form.now)) }
+    ensures { Some result ≡ option_map (λ hashes. slice_index_or hashes b zero_hash) (inner_hashes_of form.now) }
+{
+    hash_at(form, 4 + 32 * b as usize)
+}
+
+/// The hash at a branch of the inner node whose prefix form the bytes are, read in place, or none where they are no such form.
+pub fn branch_of_form(form: &[u8], b: u8) -> Option<Hash32>
+    requires { b < 16 }
+    ensures { result ≡ option_map (λ hashes. slice_index_or hashes b zero_hash) (inner_hashes_of form.now) }
+{
+    if is_inner_form(form) {
+        Some(inner_branch(form, b))
+    } else {
+        None
+    }
 }
 
 // The item of a key and data, or why they are none.

@@ -17,7 +17,10 @@ mod forms;
 mod parts;
 mod shapes;
 
-pub use forms::{FormFault, decode_form, encode_form, hash_of, inner_of, one_form};
+pub use forms::{
+    FormFault, branch_of_form, decode_form, encode_form, hash_of, inner_branch, inner_of,
+    is_inner_form, one_form,
+};
 pub use ledger_spec::{Kind, Place, ShapeFault};
 pub use parts::{DATA_LIMIT, Inner, Item, ItemFault};
 pub use shapes::shape;

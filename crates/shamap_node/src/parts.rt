@@ -105,6 +105,13 @@ impl Inner {
     {
         nonzero_count(&self.hashes) as u8
     }
+
+    /// Whether one branch alone is not empty. No branch behind a second such is read.
+    pub fn has_one_branch(&self) -> bool
+        ensures { result ≡ (count_by is_nonzero self.now.hashes == 1) }
+    {
+        one_nonzero(&self.hashes)
+    }
 }
 
 // Whether some hash is not zero.
@@ -120,6 +127,22 @@ fn nonzero_count(hashes: &[Hash32]) -> usize
     ensures most { result ≤ length hashes.now }
 {
     hashes.iter().filter(|h| !h.is_zero()).count()
+}
+
+// Whether one hash alone is not zero.
+fn one_nonzero(hashes: &[Hash32]) -> bool
+    ensures { result ≡ (count_by is_nonzero hashes.now == 1) }
+{
+    let mut found = false;
+    for h in hashes {
+        if !h.is_zero() {
+            if found {
+                return false;
+            }
+            found = true;
+        }
+    }
+    found
 }
 
 // For proofs: each hash has 32 bytes.

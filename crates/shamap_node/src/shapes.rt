@@ -66,6 +66,6 @@ fn stands_alone(parent: Option<&Inner>, id: &NodeId) -> bool
 {
     match parent {
         None => false,
-        Some(inner) => id.depth() >= 2 && inner.count() == 1,
+        Some(inner) => id.depth() >= 2 && inner.has_one_branch(),
     }
 }
