@@ -2,6 +2,7 @@
 use Rattle.std.proofs.Common.{◌≡◌, ◌≢◌, ◌<◌, ◌+◌, ◌==◌, ℕ, Bool, true, false, cond, if◌then◌else◌, List, [], ◌∷◌, Some}
 use Rattle.std.proofs.Common.{◌&&◌, Result, Ok, Err, Ordering, Less, Equal, Greater, refl, sym, ap, ◌∙◌, subst, arith}
 use Rattle.std.specs.Map.{set_value, remove_entry}
+use Rattle.std.specs.Option.{option_map}
 use Rattle.std.specs.Ordering.{eq_by_cmp, match_ordering}
 use Rattle.std.proofs.lemmas.Bool.Decides.{nat_tests}
 use Rattle.std.proofs.lemmas.Map.Lookups.{exact_bytes}
@@ -14,6 +15,7 @@ use Rattle.ledger_spec.specs.declared.peers.Tick.TheVariants as ticks
 use Rattle.ledger_spec.specs.Acquiring.{after_verdict, is_bad, is_bad_head, is_bad_root, after_outcome}
 use Rattle.ledger_spec.specs.Peers.{Peers, is_present, was_added, after_adding, after_charging, ticked, after_tick}
 use Rattle.node_offer.specs.declared.fault.OfferFault.{OfferFault}
+use Rattle.node_offer.specs.Outcomes.{numbered}
 use Rattle.acquire_core.specs.declared.replies.BaseReply.{BaseReply as Taken}
 use Rattle.acquire_core.specs.declared.replies.BaseReply.TheVariants as taken
 use Rattle.acquire_core.specs.declared.replies.NodeReply.{NodeReply as TakenNode}
@@ -122,10 +124,12 @@ outcome_stays p bad peers = at (bad && is_present peers p)
 pub based_open : (t : Hash) (a a' : Acquiring) (p : ℕ) (r : Result Taken OfferFault) → acquire.TakesBase a p r a' → IsOpen t a → IsOpen t a'
 based_open t a a' p (Ok (taken.Parts h x y)) takes open_ =
     let first : Peers = after_outcome p (is_bad_head h) a.peers in
-    let second : Peers = after_outcome p (is_bad_root x) first in
+    let state : Bool = is_bad_root (option_map numbered x) in
+    let tx : Bool = is_bad_root (option_map numbered y) in
+    let second : Peers = after_outcome p state first in
     subst (IsOpen t) (sym takes.after)
-    (peers_open t a (after_outcome p (is_bad_root y) second)
-    (outcome_stays p (is_bad_root y) second ∙ outcome_stays p (is_bad_root x) first ∙ outcome_stays p (is_bad_head h) a.peers) open_)
+    (peers_open t a (after_outcome p tx second)
+    (outcome_stays p tx second ∙ outcome_stays p state first ∙ outcome_stays p (is_bad_head h) a.peers) open_)
 based_open t a a' p (Ok taken.Unasked) takes open_ = subst (IsOpen t) (sym takes.after) open_
 based_open t a a' p (Ok taken.NotOpen) takes open_ = subst (IsOpen t) (sym takes.after) open_
 based_open t a a' p (Err e) takes open_ = subst (IsOpen t) (sym takes.after) open_
@@ -135,7 +139,7 @@ pub noded_open : (t : Hash) (a a' : Acquiring) (p : ℕ) (r : Result TakenNode O
     → IsOpen t a'
 noded_open t a a' p (Ok (taken_node.One o)) takes open_ =
     subst (IsOpen t) (sym takes.after)
-    (peers_open t a (after_outcome p (is_bad o) a.peers) (outcome_stays p (is_bad o) a.peers) open_)
+    (peers_open t a (after_outcome p (is_bad (numbered o)) a.peers) (outcome_stays p (is_bad (numbered o)) a.peers) open_)
 noded_open t a a' p (Ok taken_node.Unasked) takes open_ = subst (IsOpen t) (sym takes.after) open_
 noded_open t a a' p (Ok taken_node.NotOpen) takes open_ = subst (IsOpen t) (sym takes.after) open_
 noded_open t a a' p (Err e) takes open_ = subst (IsOpen t) (sym takes.after) open_

@@ -1,23 +1,24 @@
 -- What an acquisition takes of a peer is what the machine does.
-use Rattle.std.proofs.Common.{◌≡◌, ℕ, List, [], Option, Some, Bool, true, false, if◌then◌else◌, Result, Ok, Err, Contains, IsTrue}
+use Rattle.std.proofs.Common.{◌≡◌, ℕ, List, [], Option, None, Some, Bool, true, false, if◌then◌else◌, Result, Ok, Err, Contains, IsTrue}
 use Rattle.std.proofs.Common.{refl, sym, ap, ◌∙◌, subst}
 use Rattle.std.proofs.lemmas.List.Elements.{Contains-append_left}
 use Rattle.std.specs.FinMap as map
+use Rattle.std.specs.Option.{option_map}
 use Rattle.ledger_spec.specs.declared.Kind.{Kind}
 use Rattle.ledger_spec.specs.declared.outcomes.Offered.{Offered}
-use Rattle.ledger_spec.specs.declared.outcomes.HeadOffered.{HeadOffered}
 use Rattle.ledger_spec.specs.Bytes.{Bytes, Hash, Half, IsHalf, Nodes, is_nonzero}
 use Rattle.ledger_spec.specs.Maps.{hash_cmp, get_in, set_in}
 use Rattle.ledger_spec.specs.Offers.{Clash, node_outcome}
 use Rattle.ledger_spec.specs.Wire.{read_wire}
 use Rattle.ledger_spec.specs.Offers.{stored_by}
-use Rattle.ledger_spec.specs.Bases.{Judged, base_outcome, base_forms}
+use Rattle.ledger_spec.specs.Bases.{Judged, given, base_outcome, base_forms}
 use Rattle.ledger_spec.specs.Peers.{Peers, is_present}
 use Rattle.ledger_spec.specs.Acquiring.{Acquiring, is_bad, after_outcome, after_judging}
 use Rattle.ledger_spec.proofs.Storing.{node_fits}
 use Rattle.rotating_store.specs.Stores.{Store}
 use Rattle.node_offer.specs.declared.fault.OfferFault.{OfferFault}
 use Rattle.node_offer.specs.declared.fault.OfferFault.TheVariants as fault
+use Rattle.node_offer.specs.Outcomes.{numbered}
 use Rattle.node_offer.specs.Stored.{HasForms}
 use Rattle.missing_walk.specs.declared.fault.SearchFault.{SearchFault}
 use Rattle.missing_walk.specs.declared.fault.SearchFault.TheVariants as search
@@ -44,46 +45,44 @@ use Rattle.store_core.specs.Wanting.{base_answer, node_answer}
 use Rattle.store_core.proofs.States.{set_same, same_shaded, refused_nothing}
 use Rattle.store_core.proofs.Tables.{IsOver, stored_over}
 
--- a base reply's parts, and a node, as the machine names them
-parts_ok : (r : Result Judged Clash) (h : HeadOffered) (x y : Option Offered) → acquire.parts_reply r ≡ Ok (taken.Parts h x y)
-    → r ≡ Ok (record { header = h; state = x; tx = y })
-parts_ok (Ok j) h x y e =
-    let first : j.header ≡ h = cc in
-    let second : j.state ≡ x = cc in
-    let third : j.tx ≡ y = cc in
-    λ i. Ok (record { header = first i; state = second i; tx = third i })
-parts_ok (Err c) h x y e = cc
+-- a base reply's parts, and a node, as they were judged
+parts_ok : (r : Result Judged Clash) (j : Judged) → acquire.parts_reply r ≡ Ok (Some j) → r ≡ Ok j
+parts_ok (Ok i) j e = let same : i ≡ j = cc in ap Ok same
+parts_ok (Err c) j e = cc
 
 parts_err : (r : Result Judged Clash) (c : Clash) → acquire.parts_reply r ≡ Err c → r ≡ Err c
 parts_err (Ok j) c e = cc
 parts_err (Err d) c e = let same : d ≡ c = cc in ap Err same
 
-one_ok : (r : Result Offered Clash) (o : Offered) → acquire.one_reply r ≡ Ok (taken_node.One o) → r ≡ Ok o
+one_ok : (r : Result Offered Clash) (o : Offered) → given r ≡ Ok (Some o) → r ≡ Ok o
 one_ok (Ok x) o e = let same : x ≡ o = cc in ap Ok same
 one_ok (Err c) o e = cc
 
-one_err : (r : Result Offered Clash) (c : Clash) → acquire.one_reply r ≡ Err c → r ≡ Err c
+one_err : (r : Result Offered Clash) (c : Clash) → given r ≡ Err c → r ≡ Err c
 one_err (Ok x) c e = cc
 one_err (Err d) c e = let same : d ≡ c = cc in ap Err same
 
 -- the parts that were lent are those that were given
 pub same_parts : (half : Half) (st st' : Store) (a : Acquiring) (p : ℕ) (r : Result Taken OfferFault) (h h' : Bytes)
     (x x' y y' : Option Bytes) → h' ≡ h → x' ≡ x → y' ≡ y
-    → Answers half (acquire.base_reply half (forms_in st) a p h' x' y') (acquire.base_stores half (forms_in st) a p h' x' y') st r st'
-    → Answers half (acquire.base_reply half (forms_in st) a p h x y) (acquire.base_stores half (forms_in st) a p h x y) st r st'
+    → Answers half (acquire.base_reply half (forms_in st) a p h' x' y') (acquire.base_stores half (forms_in st) a p h' x' y') st
+    (acquire.said_base r) st'
+    → Answers half (acquire.base_reply half (forms_in st) a p h x y) (acquire.base_stores half (forms_in st) a p h x y) st
+    (acquire.said_base r) st'
 same_parts half st st' a p r h h' x x' y y' eh ex ey =
     subst (λ (v : Bytes × Option Bytes × Option Bytes). Answers half (acquire.base_reply half (forms_in st) a p v.0 v.1 v.2)
-    (acquire.base_stores half (forms_in st) a p v.0 v.1 v.2) st r st') (λ i. (eh i, ex i, ey i))
+    (acquire.base_stores half (forms_in st) a p v.0 v.1 v.2) st (acquire.said_base r) st') (λ i. (eh i, ex i, ey i))
 
 -- and so is the blob of a node
 pub same_blob : (half : Half) (st st' : Store) (a : Acquiring) (p : ℕ) (kind : Kind) (path : List ℕ) (r : Result TakenNode OfferFault)
     (b b' : Bytes) → b' ≡ b
     → Answers half (acquire.node_reply half (forms_in st) a p kind path b')
-    (acquire.node_stores half (forms_in st) a p kind path b') st r st'
-    → Answers half (acquire.node_reply half (forms_in st) a p kind path b) (acquire.node_stores half (forms_in st) a p kind path b) st r st'
+    (acquire.node_stores half (forms_in st) a p kind path b') st (acquire.said_node r) st'
+    → Answers half (acquire.node_reply half (forms_in st) a p kind path b) (acquire.node_stores half (forms_in st) a p kind path b) st
+    (acquire.said_node r) st'
 same_blob half st st' a p kind path r b b' e =
     subst (λ v. Answers half (acquire.node_reply half (forms_in st) a p kind path v)
-    (acquire.node_stores half (forms_in st) a p kind path v) st r st') e
+    (acquire.node_stores half (forms_in st) a p kind path v) st (acquire.said_node r) st') e
 
 -- a store and the state over it, with the acquisition that is open under the target, before and after
 module _ (half : Half) (st st' : Store) (s : State) (t : Hash) (p : ℕ) (a a' : Acquiring) (is : IsOver st s)
@@ -140,7 +139,7 @@ module _ (half : Half) (st st' : Store) (s : State) (t : Hash) (p : ℕ) (a a' :
 
     -- what the acquisition answers over its store, said over the state
     reply_is : (b : Bool) → is_present a.peers p ≡ b → acquire.base_reply half (forms_in st) a p header state tx
-        ≡ (if b then acquire.parts_reply outcome else Ok taken.Unasked)
+        ≡ (if b then acquire.parts_reply outcome else Ok None)
     reply_is b present = rw (present, nodes_are, own) refl
 
     stores_are : (b : Bool) → is_present a.peers p ≡ b → acquire.base_stores half (forms_in st) a p header state tx
@@ -160,11 +159,11 @@ module _ (half : Half) (st st' : Store) (s : State) (t : Hash) (p : ℕ) (a a' :
     -- a base reply is taken
     pub does_base : (r : Result Taken OfferFault) → acquire.TakesBase a p r a'
         → Answers half (acquire.base_reply half (forms_in st) a p header state tx)
-        (acquire.base_stores half (forms_in st) a p header state tx) st r st'
+        (acquire.base_stores half (forms_in st) a p header state tx) st (acquire.said_base r) st'
         → Does half s actor asks (base_answer r) [] after
     does_base (Ok (taken.Parts h x y)) takes answers =
-        let j : Judged = record { header = h; state = x; tx = y } in
-        let judged : outcome ≡ Ok j = parts_ok outcome h x y (sym (reply_is true takes.asked) ∙ answers.0) in
+        let j : Judged = record { header = h; state = option_map numbered x; tx = option_map numbered y } in
+        let judged : outcome ≡ Ok j = parts_ok outcome j (sym (reply_is true takes.asked) ∙ answers.0) in
         record {
           outcome = record {
             says = sym (row_is true takes.asked ∙ ap base_said judged);
@@ -224,7 +223,7 @@ module _ (half : Half) (st st' : Store) (s : State) (t : Hash) (p : ℕ) (a a' :
     sends = command.Node p t kind path blob
 
     node_reply_is : (b : Bool) → is_present a.peers p ≡ b → acquire.node_reply half (forms_in st) a p kind path blob
-        ≡ (if b then acquire.one_reply node_judged else Ok taken_node.Unasked)
+        ≡ (if b then given node_judged else Ok None)
     node_reply_is b present = rw (present, nodes_are, own) refl
 
     node_stores_are : (b : Bool) → is_present a.peers p ≡ b → acquire.node_stores half (forms_in st) a p kind path blob
@@ -243,14 +242,14 @@ module _ (half : Half) (st st' : Store) (s : State) (t : Hash) (p : ℕ) (a a' :
     -- a node is taken
     pub does_node : (r : Result TakenNode OfferFault) → acquire.TakesNode a p r a'
         → Answers half (acquire.node_reply half (forms_in st) a p kind path blob)
-        (acquire.node_stores half (forms_in st) a p kind path blob) st r st'
+        (acquire.node_stores half (forms_in st) a p kind path blob) st (acquire.said_node r) st'
         → Does half s actor sends (node_answer r) [] after
     does_node (Ok (taken_node.One o)) takes answers =
-        let judged : node_judged ≡ Ok o = one_ok node_judged o (sym (node_reply_is true takes.asked) ∙ answers.0) in
+        let judged : node_judged ≡ Ok (numbered o) = one_ok node_judged (numbered o) (sym (node_reply_is true takes.asked) ∙ answers.0) in
         record {
           outcome = record {
             says = sym (node_row_is true takes.asked ∙ ap node_said judged);
-            after = same_shaded after _ (charged node_stored (after_outcome p (is_bad o)) takes.after
+            after = same_shaded after _ (charged node_stored (after_outcome p (is_bad (numbered o))) takes.after
                 (subst (λ fs. HasForms half fs st st') (node_stores_are true takes.asked) answers.1));
           };
           uses = refl;

@@ -1,6 +1,6 @@
 -- The open acquisitions, and the machine's names for what they answer.
 use Rattle.std.specs.Prelude.{◌≡◌, ◌<◌, ℕ, List, [], ◌∷◌, Option, None, Some, Result, Ok, Err}
-use Rattle.std.specs.Option.{option_map_or}
+use Rattle.std.specs.Option.{option_map, option_map_or}
 use Rattle.std.specs.List.{All}
 use Rattle.ledger_spec.specs.Bytes.{Hash}
 use Rattle.ledger_spec.specs.Maps.{ForHash}
@@ -10,6 +10,7 @@ use Rattle.ledger_spec.specs.Acquiring.{Acquiring}
 use Rattle.ledger_header.specs.declared.Header.{Header}
 use Rattle.missing_walk.specs.declared.Found.{Found}
 use Rattle.node_offer.specs.declared.fault.OfferFault.{OfferFault}
+use Rattle.node_offer.specs.Outcomes.{numbered}
 use Rattle.acquire_core.specs.declared.replies.PeerReply.{PeerReply as Joined}
 use Rattle.acquire_core.specs.declared.replies.PeerReply.TheVariants as joined
 use Rattle.acquire_core.specs.declared.replies.BaseReply.{BaseReply as Taken}
@@ -40,7 +41,7 @@ pub record IsOpen (t : Hash) (a : Acquiring) : Type 0 where
 abbrev pub AreOpen : ForHash Acquiring → Type 0
 AreOpen wanted = All (λ e. IsOpen e.0 e.1) wanted
 
--- the replies by their names in the machine
+-- the replies by their names in the machine, causes and rules by their numbers
 
 abbrev pub peer_told : Joined → PeerReply
 peer_told joined.Added = peer.Added
@@ -48,7 +49,7 @@ peer_told joined.Known = peer.Known
 peer_told joined.NotOpen = peer.NotOpen
 
 abbrev pub base_told : Taken → BaseReply
-base_told (taken.Parts header state tx) = base.Parts header state tx
+base_told (taken.Parts header state tx) = base.Parts header (option_map numbered state) (option_map numbered tx)
 base_told taken.Unasked = base.Unasked
 base_told taken.NotOpen = base.NotOpen
 
@@ -58,7 +59,7 @@ base_answer (Ok r) = says.Base (base_told r)
 base_answer (Err fault) = refusal_of fault
 
 abbrev pub node_told : TakenNode → NodeReply
-node_told (taken_node.One outcome) = node.One outcome
+node_told (taken_node.One outcome) = node.One (numbered outcome)
 node_told taken_node.Unasked = node.Unasked
 node_told taken_node.NotOpen = node.NotOpen
 

@@ -7,6 +7,7 @@ ghost use Rattle.ledger_spec.specs.Bytes.{is_nonzero};
 ghost use Rattle.ledger_spec.specs.Maps.{hash_cmp, get_in};
 ghost use Rattle.ledger_spec.specs.Acquiring.{after_verdict};
 ghost use Rattle.acquire_core.specs.Replies.{found_verdict};
+ghost use Rattle.missing_walk.specs.Founds.{IsFound};
 ghost use Rattle.ledger_machine.specs.Scripts.{AreBytes, AreOffered};
 ghost use Rattle.ledger_machine.specs.State.{stored_seq, with_wanted, ended};
 ghost use Rattle.ledger_machine.specs.Want.{want_reply, after_want};
@@ -195,6 +196,7 @@ impl<H: NodeHash, Sh: Shelf> Machine<H, Sh> {
 
     // What an acquisition comes to by what a search found.
     fn judge(&mut self, alloc: Global, target: &Hash32, found: &Found) -> Result<Checked, Memory>
+        requires { IsFound found.now }
         ensures reply { IfOk result (λ r. r ≡ judged_by (get_in hash_cmp self.old.state.wanted target.now) self.old.state.floor found.now) }
         ensures after { IfOk result (λ _. self.new.state ≡ with_wanted self.old.state target.now
             (λ a. after_verdict a (found_verdict a self.old.state.floor found.now))) }

@@ -20,7 +20,7 @@ use own_forms::own_form;
 use rotating_store::{RotStore, StoreFault};
 use std::alloc::Global;
 
-/// Puts the records into a store that holds nothing.
+/// Puts the records into a store that holds nothing. Each is noted as checked, since its reader has hashed it.
 pub(crate) fn put_records<H: NodeHash, Sh: Shelf>(
     alloc: Global,
     store: &mut RotStore<Sh>,
@@ -54,8 +54,11 @@ fn put_record<H: NodeHash, Sh: Shelf>(
     ensures later { IsLater store.old store.new }
     ensures fault { IfErr result (λ e. e ≡ BackFault.Fault → Rose store.old.faults store.new.faults) }
 {
-    match store.put::<H>(alloc, &one.hash, one.form.bytes()) {
-        Ok(_) => Ok(()),
+    match store.put_hashed::<H>(alloc, &one.hash, one.form.bytes()) {
+        Ok(_) => {
+            store.note(&one.hash);
+            Ok(())
+        }
         Err(StoreFault::Fault) => Err(BackFault::Fault),
         Err(StoreFault::Memory) => Err(BackFault::Memory),
         Err(StoreFault::Clash { .. }) => Ok(()),

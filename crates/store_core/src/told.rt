@@ -1,5 +1,7 @@
 //! The machine's names for what an acquisition, a search and a rotation answer.
 ghost use Rattle.std.specs.Prelude.{◌≡◌};
+ghost use Rattle.std.specs.Option.{option_map};
+ghost use Rattle.node_offer.specs.Outcomes.{numbered};
 ghost use Rattle.store_core.specs.Refusals.{refusal_of, search_refusal};
 ghost use Rattle.store_core.specs.Wanting as told;
 ghost use Rattle.store_core.specs.Telling as turns;
@@ -8,9 +10,11 @@ use acquire_core::{
     BaseReply as Taken, CheckReply as Checked, NodeReply as TakenNode, PeerReply as Joined,
 };
 use ledger_machine::{BaseReply, BeginReply, CheckReply, NodeReply, PeerReply, Reply, SwapReply};
+use ledger_spec::Offered;
 use missing_walk::SearchFault;
 use node_backend::BackFault;
-use node_offer::OfferFault;
+use node_offer::{OfferFault, Offered as Outcome};
+use node_wire::wire_code;
 use online_rotate::Begun;
 use rotating_store::StoreFault;
 
@@ -39,9 +43,23 @@ fn base_told(reply: Taken) -> BaseReply
     ensures { result ≡ told.base_told reply }
 {
     match reply {
-        Taken::Parts { header, state, tx } => BaseReply::Parts { header, state, tx },
+        Taken::Parts { header, state, tx } => BaseReply::Parts {
+            header,
+            state: root_told(state),
+            tx: root_told(tx),
+        },
         Taken::Unasked => BaseReply::Unasked,
         Taken::NotOpen => BaseReply::NotOpen,
+    }
+}
+
+// What became of a root, where one was given.
+fn root_told(outcome: Option<Outcome>) -> Option<Offered>
+    ensures { result ≡ option_map numbered outcome }
+{
+    match outcome {
+        Some(outcome) => Some(outcome_told(outcome)),
+        None => None,
     }
 }
 
@@ -59,9 +77,26 @@ fn node_told(reply: TakenNode) -> NodeReply
     ensures { result ≡ told.node_told reply }
 {
     match reply {
-        TakenNode::One(outcome) => NodeReply::One(outcome),
+        TakenNode::One(outcome) => NodeReply::One(outcome_told(outcome)),
         TakenNode::Unasked => NodeReply::Unasked,
         TakenNode::NotOpen => NodeReply::NotOpen,
+    }
+}
+
+// What became of a node; the cause of bad bytes and a broken rule are told by their numbers.
+fn outcome_told(outcome: Outcome) -> Offered
+    ensures { result ≡ numbered outcome }
+{
+    match outcome {
+        Outcome::Good => Offered::Good,
+        Outcome::Duplicate => Offered::Duplicate,
+        Outcome::BadWire(fault) => Offered::BadWire(wire_code(&fault)),
+        Outcome::BadHash { wanted, found } => Offered::BadHash { wanted, found },
+        Outcome::NoBase => Offered::NoBase,
+        Outcome::NoParent(id) => Offered::NoParent(id),
+        Outcome::EmptyBranch(id) => Offered::EmptyBranch(id),
+        Outcome::UnderLeaf(id) => Offered::UnderLeaf(id),
+        Outcome::Malformed(fault) => Offered::Malformed(fault.number()),
     }
 }
 

@@ -35,8 +35,8 @@ invariant_of-self-2 g c =
           let st : Store = c.self.inside.store in
           let is : IsOver st c.args.self.now.state = rw (← c.self.view_is) (record { nodes = refl; born = refl; epoch = refl }) in
           answers_forms half (acquire.base_reply half (forms_in st) a c.args.peer c.args.header.now c.args.state.now c.args.tx.now)
-          (acquire.base_stores half (forms_in st) a c.args.peer c.args.header.now c.args.state.now c.args.tx.now) st c.base-taken.result
-          c.base-taken.new.store
+          (acquire.base_stores half (forms_in st) a c.args.peer c.args.header.now c.args.state.now c.args.tx.now) st
+          (acquire.said_base c.base-taken.result) c.base-taken.new.store
           (same_parts half st c.base-taken.new.store a c.args.peer c.base-taken.result c.args.header.now _ c.args.state.now _
           c.args.tx.now _
           c.bytes.ensures c.lent-state.ensures c.lent-tx.ensures

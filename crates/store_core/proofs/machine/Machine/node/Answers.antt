@@ -35,8 +35,8 @@ invariant_of-self-2 g c =
           let st : Store = c.self.inside.store in
           let is : IsOver st c.args.self.now.state = rw (← c.self.view_is) (record { nodes = refl; born = refl; epoch = refl }) in
           answers_forms half (acquire.node_reply half (forms_in st) a c.args.peer c.args.kind c.args.id.now c.args.blob.now)
-          (acquire.node_stores half (forms_in st) a c.args.peer c.args.kind c.args.id.now c.args.blob.now) st c.node-taken.result
-          c.node-taken.new.store
+          (acquire.node_stores half (forms_in st) a c.args.peer c.args.kind c.args.id.now c.args.blob.now) st
+          (acquire.said_node c.node-taken.result) c.node-taken.new.store
           (same_blob half st c.node-taken.new.store a c.args.peer c.args.kind c.args.id.now c.node-taken.result c.args.blob.now _
           c.bytes.ensures (c.node-taken.ensures.answer told (filed_over half st c.args.self.now.state is (c.requires.filed told))))),
     )
