@@ -2,13 +2,13 @@
 //! script's records and nothing else, and its journal is printed.
 #![tactic(auto)]
 
-ghost use Rattle.std.specs.Prelude.{◌≡◌, ◌↔◌, true, ◌∷◌, [], map, IfOk, IfSome, IsNone, string_bytes};
+ghost use Rattle.std.specs.Prelude.{◌≡◌, ◌↔◌, true, ◌∷◌, [], map, IfOk, IfSome, IsSome, IsNone, MatchOption, string_bytes};
 ghost use Rattle.std.specs.Process.{exit_status};
 ghost use Rattle.run_words.specs.declared.words.Words.{Words};
 ghost use Rattle.run_words.specs.Words.{Says};
 ghost use Rattle.top_call.specs.declared.status.TheConstants.{USAGE, REFUSED, SOURCE_FAILED, STORE_FAILED, NO_MEMORY};
-ghost use Rattle.top_call.specs.Asking.{Asks, AreCommand, AskForRun, interval_in};
-ghost use Rattle.top_call.specs.Top.{IsOneOf, IsWhole, HasStatus};
+ghost use Rattle.top_call.specs.Asking.{Asks, AreCommand, AskForRun, interval_in, dump_in, IsPlanned};
+ghost use Rattle.top_call.specs.Top.{IsOneOf, IsWhole, HasStatus, HasDumped};
 
 use actor_pool::OpenGate;
 use half_hash::{Half512, NodeHash};
@@ -18,33 +18,46 @@ use std::alloc::AllocError;
 use std::process::ExitCode;
 use std::sync::Wait;
 use std::thread::Threads;
-use top_call::{Ended, NO_MEMORY, ledger_run, without_core};
 use std::{env, io};
+use top_call::{DumpEnd, Ended, NO_MEMORY, ledger_run, without_core};
+
+/// How the process ends: the code, and the run that it is of.
+#[derive(Drop)]
+struct ProgramEnd {
+    code: ExitCode,
+    run: Ended<Half512, MemShelf>,
+}
 
 fn main(rt: HostRuntime) -> ExitCode {
-    exit_code(status_of(&rt, &rt))
+    run_program(&rt, &rt).code
 }
 
-/// The status as the process ends with it.
-fn exit_code(status: u8) -> ExitCode
-    ensures { exit_status result ≡ status }
+/// The run with the words behind the program's name. Words that are no text are other words than the command's. The runtime is handed in
+/// twice: as itself for standard input, and by its bounds for the threads.
+fn run_program<R: Threads + Wait + Sync>(rt: &HostRuntime, threads: &R) -> ProgramEnd
+    ensures code { exit_status result.code ≡ result.run.status }
+    ensures status { IfSome result.run.core (HasStatus (⟦<Half512 as NodeHash>⟧.half) true (exit_status result.code)) }
 {
-    ExitCode::from(status)
-}
-
-/// The status of the run with the words behind the program's name. Words that are no text are other
-/// words than the command's. The runtime is handed in twice: as itself for standard input, and by its bounds
-/// for the threads.
-fn status_of<R: Threads + Wait + Sync>(rt: &HostRuntime, threads: &R) -> u8 {
     match words_of(rt) {
-        Ok(words) => run_with(rt, threads, &words).status,
+        Ok(words) => run_with(rt, threads, &words),
         Err(fault) => {
             if fault.kind() == io::ErrorKind::OutOfMemory {
-                NO_MEMORY
+                exit_with(without_core(NO_MEMORY))
             } else {
-                run_on(rt, threads, &[]).status
+                exit_with(run_on(rt, threads, &[]))
             }
         }
+    }
+}
+
+/// The process ends with the run's status.
+fn exit_with(run: Ended<Half512, MemShelf>) -> ProgramEnd
+    ensures code { exit_status result.code ≡ run.status }
+    ensures run { result.run ≡ run }
+{
+    ProgramEnd {
+        code: ExitCode::from(run.status),
+        run,
     }
 }
 
@@ -59,23 +72,26 @@ fn words_of(rt: &HostRuntime) -> io::Result<Vec<String>> {
     Ok(words)
 }
 
-/// A run with these words.
-fn run_with<R: Threads + Wait + Sync>(
-    rt: &HostRuntime,
-    threads: &R,
-    words: &[String],
-) -> Ended<Half512, MemShelf>
-    ensures usage { result.status ≡ USAGE → AskForRun (map string_bytes words.now) → ⊥ }
-    ensures others { (AskForRun (map string_bytes words.now) → ⊥) → IsOneOf result.status (USAGE ∷ NO_MEMORY ∷ []) }
+/// The run with these words.
+fn run_with<R: Threads + Wait + Sync>(rt: &HostRuntime, threads: &R, words: &[String]) -> ProgramEnd
+    ensures code { exit_status result.code ≡ result.run.status }
+    ensures usage { exit_status result.code ≡ USAGE → AskForRun (map string_bytes words.now) → ⊥ }
+    ensures others { (AskForRun (map string_bytes words.now) → ⊥) → IsOneOf (exit_status result.code) (USAGE ∷ NO_MEMORY ∷ []) }
     // The core and the status are those of a run.
-    ensures interval { IfSome result.core (λ c. (w : Words) → Says (map string_bytes words.now) w → c.interval ≡ interval_in w) }
-    ensures whole { IfSome result.core (IsWhole (⟦<Half512 as NodeHash>⟧.half) true) }
-    ensures status { IfSome result.core (HasStatus (⟦<Half512 as NodeHash>⟧.half) true result.status) }
-    ensures none { IsNone result.core → IsOneOf result.status (USAGE ∷ REFUSED ∷ SOURCE_FAILED ∷ STORE_FAILED ∷ NO_MEMORY ∷ []) }
+    ensures script { IfSome result.run.core (λ c. (w : Words) → Says (map string_bytes words.now) w
+        → IsPlanned (⟦<Half512 as NodeHash>⟧.half) w c.records c.lines) }
+    ensures interval { IfSome result.run.core (λ c. (w : Words) → Says (map string_bytes words.now) w → c.interval ≡ interval_in w) }
+    ensures whole { IfSome result.run.core (IsWhole (⟦<Half512 as NodeHash>⟧.half) true) }
+    ensures status { IfSome result.run.core (HasStatus (⟦<Half512 as NodeHash>⟧.half) true (exit_status result.code)) }
+    ensures dump { MatchOption result.run.core (result.run.dump ≡ DumpEnd.NotAsked) (λ c. (w : Words) → Says (map string_bytes words.now) w
+        → HasDumped (dump_in w) (exit_status result.code) result.run.dump c) }
+    ensures none { IsNone result.run.core
+        → IsOneOf (exit_status result.code) (USAGE ∷ REFUSED ∷ SOURCE_FAILED ∷ STORE_FAILED ∷ NO_MEMORY ∷ []) }
+    ensures unopened { IsSome result.run.unopened → IsNone result.run.core }
 {
     match texts_of(rt, words) {
-        Ok(texts) => run_on(rt, threads, &texts),
-        Err(AllocError) => without_core(NO_MEMORY),
+        Ok(texts) => exit_with(run_on(rt, threads, &texts)),
+        Err(AllocError) => exit_with(without_core(NO_MEMORY)),
     }
 }
 
@@ -97,10 +113,15 @@ fn run_on<R: Threads + Wait + Sync>(
     words: &[&str],
 ) -> Ended<Half512, MemShelf>
     ensures usage { (result.status ≡ USAGE) ↔ (AreCommand words.now → ⊥) }
+    ensures script { IfSome result.core (λ c. (w : Words) → Asks words.now w
+        → IsPlanned (⟦<Half512 as NodeHash>⟧.half) w c.records c.lines) }
     ensures interval { IfSome result.core (λ c. (w : Words) → Asks words.now w → c.interval ≡ interval_in w) }
     ensures whole { IfSome result.core (IsWhole (⟦<Half512 as NodeHash>⟧.half) true) }
     ensures status { IfSome result.core (HasStatus (⟦<Half512 as NodeHash>⟧.half) true result.status) }
+    ensures dump { MatchOption result.core (result.dump ≡ DumpEnd.NotAsked) (λ c. (w : Words) → Asks words.now w
+        → HasDumped (dump_in w) result.status result.dump c) }
     ensures none { IsNone result.core → IsOneOf result.status (USAGE ∷ REFUSED ∷ SOURCE_FAILED ∷ STORE_FAILED ∷ NO_MEMORY ∷ []) }
+    ensures unopened { IsSome result.unopened → IsNone result.core }
 {
     let mut source = StdSource::new(rt.stdin());
     let mut sink = StdSink::new(rt.stdout());

@@ -3,7 +3,7 @@ use Rattle.std.proofs.Common.{◌≡◌, arith, subst, Bool, IsTrue, List, [], �
 use Rattle.std.proofs.Common.{append_assoc}
 use Rattle.std.specs.Prelude.{flat_map, IfSome}
 use Rattle.std.specs.List.{filter}
-use Rattle.std.proofs.lemmas.List.{append-nil}
+use Rattle.std.proofs.lemmas.List.{append-nil, flat_map_more}
 use mathlib.Core.List.{IsPrefix}
 use Rattle.ledger_spec.specs.Bytes.{Bytes, Hash, Nodes}
 use Rattle.ledger_machine.specs.declared.commands.Record.{Record}
@@ -22,34 +22,71 @@ use Rattle.std.specs.Result.{IsErrAnd}
 use Rattle.run_io.specs.declared.io.AllFault.{AllFault}
 use Rattle.run_io.specs.declared.io.AllFault.TheVariants as sinks
 use Rattle.top_call.specs.declared.dump.DumpFault.{DumpFault}
-use Rattle.top_call.specs.Dump.{dump_text, of_sink, IsDumped, Dumps}
+use Rattle.top_call.specs.Dump.{dump_text, of_sink, AreRising, AreLines, AreFront, IsDumped, Dumps}
 use Rattle.top_call.specs.declared.dump.DumpEnd.TheVariants as ends
 use Rattle.top_call.proofs.Printing.{prefix_self}
+
+-- the hash of the last record, or this one where there is none
+abbrev pub last_hash : Option Hash → List Record → Option Hash
+last_hash after [] = after
+last_hash after (r ∷ records) = last_hash (Some r.hash) records
 
 -- the records up to here were printed, and those that come after are left
 pub record IsGoing (told : Bool) (nodes : Nodes) (last : Option Hash) (held now : Option Bytes) : Type 0 where
   pub text : Bytes
   pub wrote : Wrote held now text
+  pub lines : AreLines text
+  pub behind : last_hash None lines.records ≡ last
   pub rest : IsTrue told → text ++ flat_map record_text (records_after nodes last) ≡ dump_text nodes
 
 all_after : (rs : List Record) → filter (λ r. comes_after None r.hash) rs ≡ rs
 all_after [] = refl
 all_after (r ∷ rs) = ap (λ (x : List Record). r ∷ x) (all_after rs)
 
+-- a record more, whose hash comes after the last one's
+rising_more : (after : Option Hash) (rs : List Record) (r : Record) → AreRising after rs → Follows (last_hash after rs) r.hash
+    → AreRising after (rs ++ r ∷ [])
+rising_more after [] r rising follows = (follows, tt)
+rising_more after (x ∷ rs) r rising follows = (rising.0, rising_more (Some x.hash) rs r rising.1 follows)
+
+last_more : (after : Option Hash) (rs : List Record) (r : Record) → last_hash after (rs ++ r ∷ []) ≡ Some r.hash
+last_more after [] r = refl
+last_more after (x ∷ rs) r = last_more (Some x.hash) rs r
+
+abbrev lines_more : (text : Bytes) (last : Option Hash) (r : Record) (lines : AreLines text) → last_hash None lines.records ≡ last
+    → Follows last r.hash → AreLines (text ++ record_text r)
+lines_more text last r lines behind follows = record {
+  records = lines.records ++ r ∷ [];
+  rising = rising_more None lines.records r lines.rising (subst (λ (x : Option Hash). Follows x r.hash) (sym behind) follows);
+  lines = ap (λ (x : Bytes). x ++ record_text r) lines.lines ∙ flat_map_more record_text [] lines.records r;
+}
+
 pub dump_starts : (told : Bool) (nodes : Nodes) (held : Option Bytes) → IsGoing told nodes None held held
 dump_starts told nodes held = record {
   text = [];
   wrote = wrote_nothing held;
+  lines = record { records = []; rising = tt; lines = refl };
+  behind = refl;
   rest = λ t. ap (flat_map record_text) (all_after (records_of nodes));
 }
 
+-- lines are a front of themselves
+all_front : (text : Bytes) → AreLines text → AreFront text
+all_front text lines = record { all = text; lines = lines; front = prefix_self text text refl }
+
+-- nothing is a front
+pub none_front : AreFront []
+none_front = all_front [] (record { records = []; rising = tt; lines = refl })
+
 module _ (told : Bool) (nodes : Nodes) (last : Option Hash) (held now : Option Bytes) (going : IsGoing told nodes last held now) where
   -- a record more
-  pub dump_goes : (now' : Option Bytes) (r : Record) → (IsTrue told → IsNextRecord nodes last (Some r)) → Wrote now now' (record_text r)
-      → IsGoing told nodes (Some r.hash) held now'
-  dump_goes now' r next wrote = record {
+  pub dump_goes : (now' : Option Bytes) (r : Record) → Follows last r.hash → (IsTrue told → IsNextRecord nodes last (Some r))
+      → Wrote now now' (record_text r) → IsGoing told nodes (Some r.hash) held now'
+  dump_goes now' r follows next wrote = record {
     text = going.text ++ record_text r;
     wrote = wrote_more held now now' going.text (record_text r) going.wrote wrote;
+    lines = lines_more going.text last r going.lines going.behind follows;
+    behind = last_more None going.lines.records r;
     rest = λ t.
         append_assoc going.text (record_text r) (flat_map record_text (records_after nodes (Some r.hash)))
         ∙ ap (λ (rs : List Record). going.text ++ flat_map record_text rs) (sym (next t)) ∙ going.rest t;
@@ -59,7 +96,10 @@ module _ (told : Bool) (nodes : Nodes) (last : Option Hash) (held now : Option B
   pub dump_ends : (IsTrue told → IsNextRecord nodes last None) → (text : Bytes) × IsDumped told nodes ends.Whole text × Wrote held now text
   dump_ends none = (
     going.text,
-    (λ t. sym (append-nil going.text) ∙ ap (λ (rs : List Record). going.text ++ flat_map record_text rs) (sym (none t)) ∙ going.rest t),
+    (
+      going.lines,
+      λ t. sym (append-nil going.text) ∙ ap (λ (rs : List Record). going.text ++ flat_map record_text rs) (sym (none t)) ∙ going.rest t,
+    ),
     going.wrote,
   )
 
@@ -68,22 +108,29 @@ module _ (told : Bool) (nodes : Nodes) (last : Option Hash) (held now : Option B
 
   -- the store failed
   pub dump_faulted : (text : Bytes) × IsDumped told nodes ends.Faulted text × Wrote held now text
-  dump_faulted = (going.text, front, going.wrote)
+  dump_faulted = (going.text, (going.lines, front), going.wrote)
 
   -- memory was wanted before a record was printed
   pub dump_wanted : (text : Bytes) × IsDumped told nodes ends.Cut text × WrotePart held now text
-  dump_wanted = (going.text, front, wrote_front held now going.text going.text going.wrote (prefix_self going.text going.text refl))
+  dump_wanted = (
+    going.text,
+    (all_front going.text going.lines, front),
+    wrote_front held now going.text going.text going.wrote (prefix_self going.text going.text refl),
+  )
 
   -- a record was printed in part
-  pub dump_cut : (now' : Option Bytes) (r : Record) → (IsTrue told → IsNextRecord nodes last (Some r)) → WrotePart now now' (record_text r)
-      → (text : Bytes) × IsDumped told nodes ends.Cut text × WrotePart held now' text
-  dump_cut now' r next part = (
+  pub dump_cut : (now' : Option Bytes) (r : Record) → Follows last r.hash → (IsTrue told → IsNextRecord nodes last (Some r))
+      → WrotePart now now' (record_text r) → (text : Bytes) × IsDumped told nodes ends.Cut text × WrotePart held now' text
+  dump_cut now' r follows next part = (
     going.text ++ record_text r,
-    (λ t. (
-      flat_map record_text (records_after nodes (Some r.hash)),
-      append_assoc going.text (record_text r) (flat_map record_text (records_after nodes (Some r.hash)))
-          ∙ ap (λ (rs : List Record). going.text ++ flat_map record_text rs) (sym (next t)) ∙ going.rest t,
-    )),
+    (
+      all_front (going.text ++ record_text r) (lines_more going.text last r going.lines going.behind follows),
+      λ t. (
+        flat_map record_text (records_after nodes (Some r.hash)),
+        append_assoc going.text (record_text r) (flat_map record_text (records_after nodes (Some r.hash)))
+            ∙ ap (λ (rs : List Record). going.text ++ flat_map record_text rs) (sym (next t)) ∙ going.rest t,
+      ),
+    ),
     wrote_part held now now' going.text (record_text r) (going.text ++ record_text r) going.wrote part
         (prefix_self (going.text ++ record_text r) (going.text ++ record_text r) refl),
   )

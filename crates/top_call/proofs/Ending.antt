@@ -13,19 +13,21 @@ use Rattle.store_core.specs.Dumping.{Lists}
 use Rattle.top_call.specs.declared.status.TheConstants.{FINE, SINK_FAILED, STORE_FAILED, CLASHED, NO_MEMORY}
 use Rattle.top_call.specs.declared.dump.DumpEnd.{DumpEnd}
 use Rattle.top_call.specs.declared.dump.DumpEnd.TheVariants as ends
-use Rattle.top_call.specs.Dump.{dump_text, IsDumped}
+use Rattle.top_call.specs.Dump.{dump_text, IsDumped, IsUncut}
 use Rattle.top_call.specs.Top.{IsOneOf, text_of, HasPrinted, HasDumped, HasSaid, PrintsMore}
 use Rattle.top_call.proofs.Printing.{prefix_self}
-use Rattle.top_call.proofs.Dumping.{text_same}
+use Rattle.top_call.proofs.Dumping.{text_same, none_front}
 
 -- what was printed of a dump, where the store holds the same
 dumped_as : (told : Bool) (nodes nodes' : Nodes) (dump : DumpEnd) (text : Bytes) → (IsTrue told → nodes' ≡ nodes)
     → IsDumped told nodes dump text
     → IsDumped told nodes' dump text
 dumped_as told nodes nodes' ends.NotAsked text same is = is
-dumped_as told nodes nodes' ends.Whole text same is = λ t. is t ∙ ap dump_text (sym (same t))
-dumped_as told nodes nodes' ends.Faulted text same is = λ t. subst (λ (n : Nodes). IsPrefix text (dump_text n)) (sym (same t)) (is t)
-dumped_as told nodes nodes' ends.Cut text same is = λ t. subst (λ (n : Nodes). IsPrefix text (dump_text n)) (sym (same t)) (is t)
+dumped_as told nodes nodes' ends.Whole text same is = (is.0, λ t. is.1 t ∙ ap dump_text (sym (same t)))
+dumped_as told nodes nodes' ends.Faulted text same is =
+    (is.0, λ t. subst (λ (n : Nodes). IsPrefix text (dump_text n)) (sym (same t)) (is.1 t))
+dumped_as told nodes nodes' ends.Cut text same is =
+    (is.0, λ t. subst (λ (n : Nodes). IsPrefix text (dump_text n)) (sym (same t)) (is.1 t))
 
 -- behind the text of the journal
 pub printed_behind : (told quiet asked : Bool) (c c' : CoreView) (held mid now : Option Bytes) (n : ℕ) (dump : DumpEnd)
@@ -41,6 +43,10 @@ printed_behind told quiet asked c c' held mid now n dump lists wrote more dumped
           let m = more.whole one in
           let text = text_of quiet c' in
           (m.0, dumped_as told c.state.nodes c'.state.nodes dump m.0 nodes m.1, wrote_more held mid now text m.0 first m.2);
+      uncut = λ ended.
+          let m = more.uncut ended in
+          let text = text_of quiet c' in
+          (m.0, dumped_as told c.state.nodes c'.state.nodes dump m.0 nodes m.1, wrote_more held mid now text m.0 first m.2);
       part =
           let m = more.part in (
             m.0,
@@ -53,7 +59,7 @@ printed_behind told quiet asked c c' held mid now n dump lists wrote more dumped
 
 -- a dump of which nothing was printed
 none_dumped : (told : Bool) (nodes : Nodes) (asked : Bool) → IsDumped told nodes (if asked then ends.Cut else ends.NotAsked) []
-none_dumped told nodes true = λ t. (dump_text nodes, refl)
+none_dumped told nodes true = (none_front, λ t. (dump_text nodes, refl))
 none_dumped told nodes false = refl
 
 -- nothing was missed, and the dump was cut where one was asked for
@@ -63,6 +69,7 @@ cut_or_none true n c one missed = record {
   not_asked = ((λ e. absurd (other e)), (λ none. absurd (none refl)));
   faulted = ((λ e. absurd (faulted e)), (λ some. absurd (omega (arith, missed, some))));
   cut = λ e. one;
+  own = λ u. absurd u;
 }
   where
     other : ends.Cut ≡ ends.NotAsked → ⊥
@@ -74,6 +81,7 @@ cut_or_none false n c one missed = record {
   not_asked = ((λ e. λ t. false≢true t), (λ none. refl));
   faulted = ((λ e. absurd (faulted e)), (λ some. absurd (omega (arith, missed, some))));
   cut = λ e. absurd (cut e);
+  own = λ u. absurd u;
 }
   where
     faulted : ends.NotAsked ≡ ends.Faulted → ⊥
@@ -81,6 +89,11 @@ cut_or_none false n c one missed = record {
 
     cut : ends.NotAsked ≡ ends.Cut → ⊥
     cut e = cc
+
+-- a dump of which nothing was printed is no whole one
+unprinted : (asked : Bool) → IsUncut (if asked then ends.Cut else ends.NotAsked) → ⊥
+unprinted true u = u
+unprinted false u = u
 
 -- where the journal was printed in part
 pub printed_part : (told : Bool) (c : CoreView) (held now : Option Bytes) (n : ℕ) (quiet asked : Bool) (dump : DumpEnd)
@@ -92,27 +105,10 @@ printed_part told c held now n quiet asked dump is other one missed part =
     (none_dumped told c.state.nodes asked) in
     record {
       whole = λ one. absurd (other one);
+      uncut = λ ended. absurd (unprinted asked (subst (λ (d : DumpEnd). IsUncut d) is ended));
       part = ([], none, subst (WrotePart held now) (sym (append-nil (text_of quiet c))) part);
       dumped = subst (λ (d : DumpEnd). HasDumped asked n d c) (sym is) (cut_or_none asked n c one missed);
     }
-
-module _ (told : Bool) (nodes : Nodes) (held now : Option Bytes) (n : ℕ) (dump : DumpEnd) where
-  -- a text that was written
-  pub more_whole : (text : Bytes) × IsDumped told nodes dump text × Wrote held now text → PrintsMore told nodes held now n dump
-  more_whole m = record {
-    whole = λ one. m;
-    part = (m.0, m.1, wrote_front held now m.0 m.0 m.2 (prefix_self m.0 m.0 refl));
-  }
-
-  -- a text that was written in part
-  pub more_part : (IsOneOf n (FINE ∷ STORE_FAILED ∷ CLASHED ∷ []) → ⊥) → (text : Bytes) × IsDumped told nodes dump text
-      × WrotePart held now text
-      → PrintsMore told nodes held now n dump
-  more_part other m = record { whole = λ one. absurd (other one); part = m }
-
--- no dump
-pub more_none : (told : Bool) (nodes : Nodes) (held : Option Bytes) (n : ℕ) → PrintsMore told nodes held held n ends.NotAsked
-more_none told nodes held n = more_whole told nodes held held n ends.NotAsked ([], refl, wrote_nothing held)
 
 pub not_sink : (n : ℕ) → n ≡ SINK_FAILED → IsOneOf n (FINE ∷ STORE_FAILED ∷ CLASHED ∷ []) → ⊥
 not_sink n is one =

@@ -1,5 +1,5 @@
 -- The status of a journal without faults.
-use Rattle.std.proofs.Common.{◌≡◌, ℕ, List, [], ◌∷◌, Bool, true, false, cond, if◌then◌else◌, Option, Contains}
+use Rattle.std.proofs.Common.{◌≡◌, ℕ, List, [], ◌∷◌, Bool, true, false, cond, if◌then◌else◌, Option, Some, Contains}
 use Rattle.std.proofs.Common.{refl, sym, ◌∙◌, subst, arith, inl, inr, ◌<◌, ◌-◌, ◌^◌, ◌+◌}
 use Rattle.std.proofs.lemmas.Bool.{ne_eqb}
 use Rattle.std.specs.Prelude.{◌||◌, ◌==◌, nat_lt}
@@ -12,12 +12,10 @@ use Rattle.ledger_machine.specs.declared.replies.Reply.{Reply}
 use Rattle.ledger_machine.specs.declared.replies.Reply.TheVariants as says
 use Rattle.ledger_machine.specs.Collisions.{is_clash, ShowsIn, IsShown}
 use Rattle.ledger_laws.proofs.SoundForms.{in_head, in_tail}
-use Rattle.run_words.specs.declared.words.Words.{Words}
 use Rattle.store_core.specs.Journal.{CoreView, IsJournal, faults_in, fault_count, RoseBy}
 use Rattle.top_call.specs.declared.status.TheConstants.{FINE, SINK_FAILED, STORE_FAILED, CLASHED, NO_MEMORY}
 use Rattle.top_call.specs.Output.{status_of, met_fault, is_fault, shows_clash, wanted_memory}
-use Rattle.top_call.specs.Asking.{Asks, IsScriptOf}
-use Rattle.top_call.specs.Top.{IsOneOf, HasStatus, HasSaid, IsCalm, EndsWell}
+use Rattle.top_call.specs.Top.{IsOneOf, HasStatus, HasSaid, CountsFrom, IsCalm, EndsWell}
 
 no_fault_here : (r : Reply) → fault_count r ≡ 0 → is_fault r ≡ false
 no_fault_here says.Fault e = absurd (omega arith)
@@ -74,10 +72,11 @@ calm_faults : (n opened now : ℕ) → RoseBy n opened now → now ≡ opened �
 calm_faults n opened now (inl few) same below = omega (arith, few, same)
 calm_faults n opened now (inr top) same below = absurd (omega (arith, top, below))
 
-calm_free : (half : Half) (told : Bool) (c : CoreView) → IsJournal half told c → IsCalm c
+calm_free : (half : Half) (told : Bool) (handed : ℕ) (c : CoreView) → IsJournal half told c → CountsFrom handed c → IsCalm handed c
     → IsOneOf (status_of c.journal c.missed) (FINE ∷ CLASHED ∷ NO_MEMORY ∷ [])
-calm_free half told c kept calm =
-    let none = calm_faults (faults_in c.journal + c.missed) c.opened c.faults kept.faults calm.0 calm.1 in
+calm_free half told handed c kept from calm =
+    let still : c.faults ≡ c.opened = omega (arith, from.0, from.1, calm.0) in
+    let none = calm_faults (faults_in c.journal + c.missed) c.opened c.faults kept.faults still calm.1 in
     fault_free c.journal c.missed (omega (arith, none)) (omega (arith, none))
 
 -- what isn't a clash
@@ -91,8 +90,15 @@ but_clashed n is other =
 
 -- what a clash or a zero hash shows
 shown_of : (half : Half) (forms : List Bytes) (r : Reply) → is_clash r ≡ true → ShowsIn half forms r → IsShown half forms
-shown_of half forms (says.Clash h old new) is shows = inl shows
-shown_of half forms (says.ZeroHash form) is shows = inr shows
+shown_of half forms (says.Clash h old new) is shows = inl (record {
+  one = old;
+  other = new;
+  first = shows.first;
+  second = shows.second;
+  different = shows.different;
+  same = shows.old_hash ∙ sym shows.new_hash;
+})
+shown_of half forms (says.ZeroHash form) is shows = inr (record { form = form; among = shows.0; zero = shows.1 })
 shown_of half forms _ is shows = cc
 
 -- a journal that shows a clash shows it
@@ -144,25 +150,23 @@ memory_status half told n c is = record {
 }
 
 -- how a run ends whose text was printed
-pub said_ends : (half : Half) (told : Bool) (words : List (Bor (List ℕ))) (left : Option Bytes) (n : ℕ) (c : CoreView)
-    → IsJournal half told c
-    → ((w : Words) → Asks words w → IsScriptOf half w left c.records c.lines) → IsCalm c → n ≡ status_of c.journal c.missed
-    → EndsWell half told words left n
-said_ends half told words left n c kept script calm is =
+pub said_ends : (half : Half) (told : Bool) (words : List (Bor (List ℕ))) (left : Option Bytes) (n handed : ℕ) (c : CoreView)
+    → IsJournal half told c → CountsFrom handed c → IsCalm handed c → n ≡ status_of c.journal c.missed
+    → EndsWell half told words left n (Some c)
+said_ends half told words left n handed c kept from calm is =
     let answered : IsOneOf n (FINE ∷ CLASHED ∷ NO_MEMORY ∷ []) =
-    subst (λ m. IsOneOf m (FINE ∷ CLASHED ∷ NO_MEMORY ∷ [])) (sym is) (calm_free half told c kept calm) in
+    subst (λ m. IsOneOf m (FINE ∷ CLASHED ∷ NO_MEMORY ∷ [])) (sym is) (calm_free half told handed c kept from calm) in
     record {
       answered = λ w asks has. answered;
       fine = λ t w asks has none. but_clashed n answered
-          (λ clashed. none c.records c.lines (script w asks) c.interval c.journal c.state (kept.machine t).run
-          (shown_by half _ c.journal ((kept.machine t).clashes (kept.machine t).run)
+          (λ clashed. none.1 (shown_by half _ c.journal ((kept.machine t).clashes none.0)
           (clash_shown c.journal c.missed (sym is ∙ clashed))));
     }
 
 -- and where memory was wanted
-pub memory_ends : (half : Half) (told : Bool) (words : List (Bor (List ℕ))) (left : Option Bytes) (n : ℕ) → n ≡ NO_MEMORY
-    → EndsWell half told words left n
-memory_ends half told words left n is = record {
+pub memory_ends : (half : Half) (told : Bool) (words : List (Bor (List ℕ))) (left : Option Bytes) (n : ℕ) (core : Option CoreView)
+    → n ≡ NO_MEMORY → EndsWell half told words left n core
+memory_ends half told words left n core is = record {
   answered = λ w asks has. subst (λ m. IsOneOf m (FINE ∷ CLASHED ∷ NO_MEMORY ∷ [])) (sym is) refl;
   fine = λ t w asks has none. subst (λ m. IsOneOf m (FINE ∷ NO_MEMORY ∷ [])) (sym is) refl;
 }
@@ -174,9 +178,12 @@ status_from half told n c before now kept (inl own) = said_status half told n c 
 status_from half told n c before now kept (inr (inl sink)) = failed_status half told n c sink.0
 status_from half told n c before now kept (inr (inr memory)) = memory_status half told n c memory
 
-pub ends_from : (half : Half) (told : Bool) (words : List (Bor (List ℕ))) (left : Option Bytes) (n : ℕ) (c : CoreView) (before now : ℕ)
-    → IsJournal half told c → ((w : Words) → Asks words w → IsScriptOf half w left c.records c.lines) → IsCalm c
-    → (Rose before now → ⊥) → HasSaid n c before now → EndsWell half told words left n
-ends_from half told words left n c before now kept script calm still (inl own) = said_ends half told words left n c kept script calm own
-ends_from half told words left n c before now kept script calm still (inr (inl sink)) = absurd (still sink.1)
-ends_from half told words left n c before now kept script calm still (inr (inr memory)) = memory_ends half told words left n memory
+pub ends_from : (half : Half) (told : Bool) (words : List (Bor (List ℕ))) (left : Option Bytes) (n handed : ℕ) (c : CoreView)
+    (before now : ℕ)
+    → IsJournal half told c → CountsFrom handed c → IsCalm handed c → (Rose before now → ⊥) → HasSaid n c before now
+    → EndsWell half told words left n (Some c)
+ends_from half told words left n handed c before now kept from calm still (inl own) =
+    said_ends half told words left n handed c kept from calm own
+ends_from half told words left n handed c before now kept from calm still (inr (inl sink)) = absurd (still sink.1)
+ends_from half told words left n handed c before now kept from calm still (inr (inr memory)) =
+    memory_ends half told words left n (Some c) memory

@@ -1,5 +1,5 @@
 -- What the words ask for: how a run is printed, and the script that is run.
-use Rattle.std.specs.Prelude.{◌≡◌, ℕ, Bool, List, [], Option, Some, map, take, IfSome, IsSomeAnd}
+use Rattle.std.specs.Prelude.{◌≡◌, ℕ, Bool, List, [], Option, None, Some, map, take, IfSome, IsSomeAnd}
 use Rattle.std.specs.Borrow.{Bor}
 use Rattle.ledger_spec.specs.Bytes.{Bytes, Half}
 use Rattle.ledger_machine.specs.declared.commands.Line.{Line}
@@ -58,6 +58,10 @@ abbrev pub IsScriptOf : Half → Words → Option Bytes → List Record → List
 IsScriptOf half (Replay interval quiet dump) left records lines =
     IfSome left (λ bytes. IsScript half (take most_read bytes) records lines)
 IsScriptOf half (Swarm plan quiet dump) left records lines = (records ≡ []) × (lines ≡ swarm half plan)
+
+-- a swarm's script is its plan's; of a replay's nothing is said where the source doesn't tell what it has
+abbrev pub IsPlanned : Half → Words → List Record → List Line → Type 0
+IsPlanned half w records lines = IsScriptOf half w None records lines
 
 -- what was read for it: of a replay's source all, of a swarm's nothing
 abbrev pub WasRead : Words → Option Bytes → Option Bytes → Type 0

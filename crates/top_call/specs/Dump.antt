@@ -1,7 +1,8 @@
 -- What is printed of a dump.
-use Rattle.std.specs.Prelude.{◌≡◌, ℕ, Bool, IsTrue, [], flat_map, Option, Result, Ok, Err}
+use Rattle.std.specs.Prelude.{◌≡◌, ℕ, Bool, IsTrue, List, [], ◌∷◌, flat_map, Option, None, Some, Result, Ok, Err}
 use mathlib.Core.List.{IsPrefix}
-use Rattle.ledger_spec.specs.Bytes.{Bytes, Nodes}
+use Rattle.ledger_spec.specs.Bytes.{Bytes, Hash, Nodes}
+use Rattle.ledger_machine.specs.declared.commands.Record.{Record}
 use Rattle.run_io.specs.Bytes.{Wrote, WrotePart}
 use Rattle.run_io.specs.declared.io.AllFault.{AllFault}
 use Rattle.run_io.specs.declared.io.AllFault.TheVariants as sinks
@@ -9,7 +10,7 @@ use Rattle.node_backend.specs.Counts.{held_sum}
 use Rattle.journal_text.specs.Text.{record_text}
 use Rattle.store_core.specs.declared.store.OpenFault.{OpenFault}
 use Rattle.store_core.specs.declared.store.OpenFault.TheVariants as opens
-use Rattle.store_core.specs.Dumping.{records_of}
+use Rattle.store_core.specs.Dumping.{records_of, Follows}
 use Rattle.top_call.specs.declared.dump.DumpEnd.{DumpEnd}
 use Rattle.top_call.specs.declared.dump.DumpEnd.TheVariants as ends
 use Rattle.top_call.specs.declared.dump.DumpFault.{DumpFault}
@@ -33,12 +34,37 @@ abbrev pub missed_by : Result (Unit {0}) DumpFault → ℕ → ℕ
 missed_by (Err faults.Store) n = held_sum n 1
 missed_by _ n = n
 
--- what was printed of a dump, by how it ended: where the store tells what it holds it is the whole text, or a front of it
+-- each record's hash comes after that of the record before, and the first one's after this
+abbrev pub AreRising : Option Hash → List Record → Type 0
+AreRising after [] = Unit {0}
+AreRising after (r ∷ records) = Follows after r.hash × AreRising (Some r.hash) records
+
+-- the lines of some records, hashes rising
+pub record AreLines (text : Bytes) : Type 0 where
+  pub records : List Record
+  pub rising : AreRising None records
+  pub lines : text ≡ flat_map record_text records
+
+-- a front of such lines
+pub record AreFront (text : Bytes) : Type 0 where
+  pub all : Bytes
+  pub lines : AreLines all
+  pub front : IsPrefix text all
+
+-- what was printed of a dump, by how it ended: lines of records, or a front of that; where the store tells what it holds it is the whole
+-- text, or a front of it
 abbrev pub IsDumped : Bool → Nodes → DumpEnd → Bytes → Type 0
 IsDumped told nodes ends.NotAsked text = text ≡ []
-IsDumped told nodes ends.Whole text = IsTrue told → text ≡ dump_text nodes
-IsDumped told nodes ends.Faulted text = IsTrue told → IsPrefix text (dump_text nodes)
-IsDumped told nodes ends.Cut text = IsTrue told → IsPrefix text (dump_text nodes)
+IsDumped told nodes ends.Whole text = AreLines text × (IsTrue told → text ≡ dump_text nodes)
+IsDumped told nodes ends.Faulted text = AreLines text × (IsTrue told → IsPrefix text (dump_text nodes))
+IsDumped told nodes ends.Cut text = AreFront text × (IsTrue told → IsPrefix text (dump_text nodes))
+
+-- the dump was asked for and wasn't cut
+abbrev pub IsUncut : DumpEnd → Type 0
+IsUncut ends.NotAsked = ⊥
+IsUncut ends.Whole = Unit {0}
+IsUncut ends.Faulted = Unit {0}
+IsUncut ends.Cut = ⊥
 
 -- what printing a dump leaves in the sink
 abbrev pub Dumps : Bool → Nodes → Option Bytes → Option Bytes → Result (Unit {0}) DumpFault → Type 0

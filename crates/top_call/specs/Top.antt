@@ -22,7 +22,7 @@ use Rattle.top_call.specs.declared.status.TheConstants.{CLASHED, NO_MEMORY}
 use Rattle.top_call.specs.declared.dump.DumpEnd.{DumpEnd}
 use Rattle.top_call.specs.declared.dump.DumpEnd.TheVariants as ends
 use Rattle.top_call.specs.Output.{output, usage_text, refused_text, status_of}
-use Rattle.top_call.specs.Dump.{IsDumped}
+use Rattle.top_call.specs.Dump.{IsDumped, IsUncut}
 
 -- the number is one of these
 abbrev pub IsOneOf : ℕ → List ℕ → Type 0
@@ -42,13 +42,11 @@ NamesLine half bytes held now before after =
     (line : ℕ) × (cause : ℕ) × IsRefused half (take most_read bytes) line cause
     × WroteOrFailed held now before after (refused_text line cause)
 
--- of the forms that the script offers that is run, and those that its closes make in a run, no two different ones have one hash, and none
--- has the zero hash
-abbrev pub HasNoCollision : Half → Words → Option Bytes → Type 0
-HasNoCollision half w left =
-    (records : List Record) (lines : List Line) → IsScriptOf half w left records lines
-    → (interval : ℕ) (entries : List Entry) (s : State) (run : IsRunOf half records lines interval entries s)
-    → IsShown half (brought_by half records lines interval entries s run) → ⊥
+-- along the core's own run, of the forms that its script offers and its closes make, no two different ones have one hash, and none has the
+-- zero hash
+abbrev pub HasNoCollision : Half → CoreView → Type 0
+HasNoCollision half c =
+    (along : IsRun half c) × (IsShown half (brought_by half c.records c.lines c.interval c.journal c.state along) → ⊥)
 
 -- The headline's part on the core: all that holds of a core's journal, and each line has its entry. `told` says whether the store tells
 -- what it holds.
@@ -76,6 +74,8 @@ pub record HasDumped (asked : Bool) (status : ℕ) (dump : DumpEnd) (c : CoreVie
   pub faulted : (dump ≡ ends.Faulted) ↔ (0 < c.missed)
   -- it was cut only where the sink failed or memory was wanted
   pub cut : dump ≡ ends.Cut → IsOneOf status (SINK_FAILED ∷ NO_MEMORY ∷ [])
+  -- where it wasn't, the status is the journal's and the dump's own
+  pub own : IsUncut dump → status ≡ status_of c.journal c.missed
 
 -- What a run has printed, quiet or not, with a dump or without. `held` and `now` are what the sink held and holds, where it tells it.
 pub record HasPrinted (told quiet asked : Bool) (held now : Option Bytes) (status : ℕ) (dump : DumpEnd) (c : CoreView) : Type 0 where
@@ -84,6 +84,8 @@ pub record HasPrinted (told quiet asked : Bool) (held now : Option Bytes) (statu
       → (more : Bytes) × IsDumped told c.state.nodes dump more × Wrote held now (text_of quiet c ++ more)
   -- or a front of it, where the sink failed or memory was wanted
   pub part : (more : Bytes) × IsDumped told c.state.nodes dump more × WrotePart held now (text_of quiet c ++ more)
+  -- the whole of it, too, with a dump that wasn't cut
+  pub uncut : IsUncut dump → (more : Bytes) × IsDumped told c.state.nodes dump more × Wrote held now (text_of quiet c ++ more)
   -- how the dump ended
   pub dumped : HasDumped asked status dump c
 
@@ -91,6 +93,7 @@ pub record HasPrinted (told quiet asked : Bool) (held now : Option Bytes) (statu
 pub record PrintsMore (told : Bool) (nodes : Nodes) (held now : Option Bytes) (status : ℕ) (dump : DumpEnd) : Type 0 where
   pub whole : IsOneOf status (FINE ∷ STORE_FAILED ∷ CLASHED ∷ []) → (more : Bytes) × IsDumped told nodes dump more × Wrote held now more
   pub part : (more : Bytes) × IsDumped told nodes dump more × WrotePart held now more
+  pub uncut : IsUncut dump → (more : Bytes) × IsDumped told nodes dump more × Wrote held now more
 
 -- What the status says: it is the journal's and the dump's own, or the sink's count of faults rose, or memory was wanted.
 abbrev pub HasSaid : ℕ → CoreView → ℕ → ℕ → Type 0
@@ -108,16 +111,21 @@ pub record HasStatus (half : Half) (told : Bool) (status : ℕ) (c : CoreView) :
   pub collision : IsTrue told → status ≡ CLASHED → (along : IsRun half c)
       → IsShown half (brought_by half c.records c.lines c.interval c.journal c.state along)
 
--- the store's count of faults stands where it stood at opening, below its last value
-abbrev pub IsCalm : CoreView → Type 0
-IsCalm c = (c.faults ≡ c.opened) × (c.faults < 2 ^ 64 - 1)
+-- the store's count of faults stands where the shelf's stood as it was handed in, below its last value
+abbrev pub IsCalm : ℕ → CoreView → Type 0
+IsCalm handed c = (c.faults ≡ handed) × (c.faults < 2 ^ 64 - 1)
+
+-- at opening the store's count of faults is at least the shelf's as it was handed in, and now it is at least that at opening
+abbrev pub CountsFrom : ℕ → CoreView → Type 0
+CountsFrom handed c = (handed ≤ c.opened) × (c.opened ≤ c.faults)
 
 -- Completeness: how a run ends whose words are the command, which has a script, and in which no count of faults rose.
-pub record EndsWell (half : Half) (told : Bool) (words : List (Bor (List ℕ))) (left : Option Bytes) (status : ℕ) : Type 0 where
+pub record EndsWell (half : Half) (told : Bool) (words : List (Bor (List ℕ))) (left : Option Bytes) (status : ℕ)
+    (core : Option CoreView) : Type 0 where
   -- the whole text was printed with every line answered, or memory was wanted
   pub answered : (w : Words) → Asks words w → HasScript half w left → IsOneOf status (FINE ∷ CLASHED ∷ NO_MEMORY ∷ [])
-  -- without a clash, where no two different forms that the script offers or its closes make have one hash, and none the zero hash
-  pub fine : IsTrue told → (w : Words) → Asks words w → HasScript half w left → HasNoCollision half w left
+  -- without a clash, where no two different forms that the core's script offers or its closes make have one hash, and none the zero hash
+  pub fine : IsTrue told → (w : Words) → Asks words w → HasScript half w left → IfSome core (HasNoCollision half)
       → IsOneOf status (FINE ∷ NO_MEMORY ∷ [])
 
 -- Other words than the command's. `Unread` says that the source is as it was.
@@ -169,12 +177,14 @@ pub record HasCause (status : ℕ) (left rest : Option Bytes) (read read' wrote 
   pub taken : TookPart left rest most_read
 
 -- Where the store wasn't opened. `unopened` is what is left of the shelf; `Failed` says that it is a shelf whose count of faults rose,
--- `Wanted` that it is nothing since memory was wanted, `Unwritten` that the sink is as it was.
+-- `Wanted` that it is nothing since memory was wanted, `Unwritten` that the sink is as it was, `Done` that the script was read to its end.
 pub record HasNotOpened {U : Type 0} (status : ℕ) (core : Option CoreView) (unopened : Option U) (Failed Wanted : U → Type 0)
-    (Unwritten : Type 0) : Type 0 where
+    (Unwritten Done : Type 0) : Type 0 where
   -- there is no core, and nothing is written
   pub no_core : IsSome unopened → IsNone core
   pub unwritten : IsSome unopened → Unwritten
+  -- and the script was read: nothing of a shelf is left where memory was wanted in reading
+  pub read : IsSome unopened → Done
   -- the status tells the cause
   pub cause : IfSome unopened (λ u. ((status ≡ STORE_FAILED) × Failed u) ⊎ ((status ≡ NO_MEMORY) × Wanted u))
   -- and without a core the store failed only so

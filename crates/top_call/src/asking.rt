@@ -73,6 +73,8 @@ pub(crate) fn script_for<H: NodeHash, S: Source>(
     ensures script { IfOk result (λ s. IsScriptOf H.half asked.now (S.left source.old) s.records.items s.lines.items) }
     ensures servable { IfOk result (λ s. AreServable s.lines.items × AreRecords H.half s.records.items) }
     ensures read { OnOk result (WasRead asked.now (S.left source.old) (S.left source.new)) }
+    // Where no script is read, nothing is.
+    ensures unread { (IsRead asked.now → ⊥) → source.new ≡ source.old }
     ensures only { (l : ℕ) (n : ℕ) → result ≡ Err (ScriptFault.Refused l n) → IsRead asked.now }
     ensures cause { IfErr result
         (HasScriptCause H.half (S.left source.old) (S.left source.new) (S.faults source.old) (S.faults source.new)) }

@@ -8,4 +8,6 @@ mod status;
 
 pub use dump::DumpEnd;
 pub use run::{Ended, ledger_run, without_core};
-pub use status::{CLASHED, FINE, NO_MEMORY, REFUSED, SINK_FAILED, SOURCE_FAILED, STORE_FAILED, USAGE};
+pub use status::{
+    CLASHED, FINE, NO_MEMORY, REFUSED, SINK_FAILED, SOURCE_FAILED, STORE_FAILED, USAGE,
+};

@@ -7,9 +7,9 @@ ghost use Rattle.run_words.specs.declared.words.Words.{Words as Said};
 ghost use Rattle.top_call.specs.declared.status.TheConstants.{REFUSED, NO_MEMORY};
 ghost use Rattle.top_call.specs.Output.{entry_line, entry_lines, refused_text, status_of, shows_clash as clash_shown};
 ghost use Rattle.top_call.specs.Output.{met_fault as fault_met, wanted_memory as memory_wanted};
-ghost use Rattle.top_call.specs.Asking.{Asks, quiet_in, dump_in};
+ghost use Rattle.top_call.specs.Asking.{Asks, quiet_in, dump_in, IsRead, WasRead};
 ghost use Rattle.top_call.specs.Top.{IsOneOf, WroteOrFailed, text_of, IsRunOfInput, HasPrinted, HasDumped};
-ghost use Rattle.top_call.specs.Top.{HasStatus, HasSaid, PrintsMore, IsCalm, EndsWell};
+ghost use Rattle.top_call.specs.Top.{HasStatus, HasSaid, PrintsMore, CountsFrom, IsCalm, EndsWell};
 ghost use Rattle.store_core.specs.Dumping.{Lists};
 ghost use Rattle.top_call.specs.Top.{IsUsage, IsScriptRefusal, HasCause, HasNotOpened};
 
@@ -310,8 +310,11 @@ pub fn ledger_run<R: Threads + Wait + Sync, H: NodeHash, S: Source, K: Sink, Sh:
         → HasPrinted Sh.B.tells (quiet_in w) (dump_in w) (K.held sink.old) (K.held sink.new) result.status result.dump c) }
     ensures status { IfSome result.core (HasStatus H.half Sh.B.tells result.status) }
     ensures complete { (Rose (S.faults source.old) (S.faults source.new) → ⊥) → (Rose (K.faults sink.old) (K.faults sink.new) → ⊥)
-        → IfSome result.core IsCalm → IfSome result.unopened (λ u. u ≡ Unopened.Memory)
-        → EndsWell H.half Sh.B.tells words.now (S.left source.old) result.status }
+        → IfSome result.core (IsCalm (Sh.faults shelf)) → IfSome result.unopened (λ u. u ≡ Unopened.Memory)
+        → EndsWell H.half Sh.B.tells words.now (S.left source.old) result.status result.core }
+    ensures counts { IfSome result.core (CountsFrom (Sh.faults shelf)) }
+    // Where the words ask for no script that is read, nothing is read.
+    ensures unread { (w : Said) → Asks words.now w → (IsRead w → ⊥) → source.new ≡ source.old }
     ensures usage { IsUsage words.now result.status (K.held sink.old) (K.held sink.new) (K.faults sink.old) (K.faults sink.new)
         (source.new ≡ source.old) }
     ensures refusal { IsScriptRefusal H.half words.now result.status (S.left source.old) (S.left source.new)
@@ -321,7 +324,8 @@ pub fn ledger_run<R: Threads + Wait + Sync, H: NodeHash, S: Source, K: Sink, Sh:
     ensures opening { HasNotOpened result.status result.core result.unopened
         (λ u. ((s : Sh) × (u ≡ Unopened.Shelf s) × Rose (Sh.faults shelf) (Sh.faults s))
         ⊎ ((t : Store) × (u ≡ Unopened.Store t) × Rose (Sh.faults shelf) t.faults))
-        (λ u. u ≡ Unopened.Memory) (sink.new ≡ sink.old) }
+        (λ u. u ≡ Unopened.Memory) (sink.new ≡ sink.old)
+        ((w : Said) → Asks words.now w → WasRead w (S.left source.old) (S.left source.new)) }
 {
     let Some(asked) = asked_for(words) else {
         let _ = write_all(sink, USAGE_TEXT);

@@ -20,6 +20,7 @@ returns-in_err-print_record-clause-dumps g c =
     c.from_residual-in_err-print_record.result c.in_err-print_record.field-0.0 c.from_residual-in_err-print_record.ensures.1
     (dump_cut g.Sh.B.Backend.tells c.args.core.now.state.nodes c.loop-one.last (g.K.Sink.held c.args.sink.now)
     (g.K.Sink.held c.loop-one.sink) c.loop-one.invariant.going (g.K.Sink.held c.print_record.new.sink) c.in-Some.one
+    (follows_as _ c.loop-one.last _ c.in-Some.one c.as_ref.ensures.value c.in-Some.is c.in_ok-one.ensures.follows)
     (λ t. next_of_core c.args.core.now.state c.loop-one.core.state _ c.loop-one.last _ c.in-Some.one
     (c.loop-one.invariant.lists.state t) c.as_ref.ensures.value c.in-Some.is (c.in_ok-one.ensures.next t))
     c.in_err-print_record.ensures.part)
@@ -35,7 +36,7 @@ loop-one-preserved g c =
     let follows = follows_as _ c.loop-one.last _ c.in-Some.one c.as_ref.ensures.value c.in-Some.is c.in_ok-one.ensures.follows in
     record {
       going = dump_goes g.Sh.B.Backend.tells c.args.core.now.state.nodes c.loop-one.last (g.K.Sink.held c.args.sink.now)
-          (g.K.Sink.held c.loop-one.sink) c.loop-one.invariant.going (g.K.Sink.held c.print_record.new.sink) c.in-Some.one
+          (g.K.Sink.held c.loop-one.sink) c.loop-one.invariant.going (g.K.Sink.held c.print_record.new.sink) c.in-Some.one follows
           (λ t. next_of_core c.args.core.now.state c.loop-one.core.state _ c.loop-one.last _ c.in-Some.one
           (c.loop-one.invariant.lists.state t) c.as_ref.ensures.value c.in-Some.is (c.in_ok-one.ensures.next t))
           c.in_ok-print_record.ensures.wrote;

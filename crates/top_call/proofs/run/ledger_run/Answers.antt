@@ -1,8 +1,8 @@
 -- what the core keeps, told of its status
 use Rattle.top_call.proofs.Opening.{opened_by}
-use Rattle.std.proofs.Common.{◌≡◌, Bool, Err, refl, is_some, sym, ◌∙◌, ap, subst}
+use Rattle.std.proofs.Common.{◌≡◌, Bool, Err, arith, refl, is_some, sym, ◌∙◌, ap, subst}
 use Rattle.run_words.specs.declared.words.Words.{Words}
-use Rattle.top_call.specs.Asking.{interval_in, quiet_in, dump_in, WasRead}
+use Rattle.top_call.specs.Asking.{interval_in, quiet_in, dump_in, IsRead, WasRead}
 use Rattle.top_call.specs.Top.{HasPrinted}
 use Rattle.top_call.proofs.Refusals.{run_refusal, script_as, asked_as, full_as}
 use Rattle.top_call.proofs.Statuses.{status_from, ends_from}
@@ -54,17 +54,37 @@ pub returns-clause-refusal : goal.returns-clause-refusal
 returns-clause-refusal g c = run_refusal g.H.NodeHash.half _ _ _ _ _ _ _ _ _ (returns-clause-run g c).script
     (returns-clause-status g c).one_of
 
+-- the store was opened with a count that isn't below the shelf's, and its count never falls
+pub returns-clause-counts : goal.returns-clause-counts
+returns-clause-counts g c = (
+  omega (
+    arith,
+    c.print_all-status.ensures.lists.opened,
+    c.run_actors-core.ensures.same.opened,
+    c.in-Ok-open.ensures.counts.1,
+  ),
+  c.journal.ensures.kept.since,
+)
+
+-- the words ask for nothing else
+pub returns-clause-unread : goal.returns-clause-unread
+returns-clause-unread g c w asks none =
+    c.script_for.ensures.unread (λ read. none (subst IsRead (sym (c.in-Some.ensures.only w asks)) read))
+
 pub returns-clause-complete : goal.returns-clause-complete
 returns-clause-complete g c _ calm still _ =
     ends_from g.H.NodeHash.half g.Sh.B.Backend.tells c.args.words.now (g.S.Source.left c.args.source.now) c.print_all-status.result.0
-    c.print_all-status.new.core (g.K.Sink.faults c.args.sink.now) (g.K.Sink.faults c.print_all-status.new.sink) c.journal.ensures.kept
-    (returns-clause-run g c).script still calm c.print_all-status.ensures.said
+    (g.Sh.Shelf.faults c.args.shelf) c.print_all-status.new.core (g.K.Sink.faults c.args.sink.now)
+    (g.K.Sink.faults c.print_all-status.new.sink) c.journal.ensures.kept (returns-clause-counts g c) still calm
+    c.print_all-status.ensures.said
 
 -- without a store there is no core and nothing is written, and the status tells a failure from want of memory
 pub returns-in-Err-clause-opening : goal.returns-in-Err-clause-opening
 returns-in-Err-clause-opening g c = record {
   no_core = λ s. ap is_some c.not_opened.ensures.core;
   unwritten = λ s. refl;
+  read = λ s w asks. subst (λ (x : Words). WasRead x (g.S.Source.left c.args.source.now) (g.S.Source.left c.script_for.new.source))
+      (sym (c.in-Some.ensures.only w asks)) c.in-Ok.ensures.read;
   cause = rw c.not_opened.ensures.unopened
       (opened_by g.Sh.Shelf.faults (g.Sh.Shelf.faults c.args.shelf) c.not_opened.result.status c.in-Err.unopened
       c.not_opened.ensures.shelf c.not_opened.ensures.store c.not_opened.ensures.memory
