@@ -14,7 +14,6 @@ ghost use Rattle.store_core.specs.Totals.{totals_of, is_complete as completes, i
 
 use crate::bench::Bench;
 use crate::records::put_records;
-use cow_map::what_is_left_is_whole;
 use half_hash::{Hash32, NodeHash, known_half};
 use ledger_machine::{CheckReply, CloseReply, Entry, Line, Record, Reply, Script, Totals};
 use node_backend::{BackFault, Shelf};
@@ -141,7 +140,6 @@ impl<H: NodeHash, Sh: Shelf> Core<H, Sh> {
         ensures few { length self.new.journal ≤ length self.new.lines }
     {
         known_half::<H>();
-        what_is_left_is_whole();
         if actor as usize >= self.cursors.len() {
             return Stepped::Finished;
         }
@@ -209,7 +207,6 @@ impl<H: NodeHash, Sh: Shelf> Core<H, Sh> {
         ensures few { length self.now.journal ≤ length self.now.lines }
     {
         known_half::<H>();
-        what_is_left_is_whole();
         &self.journal
     }
 

@@ -25,7 +25,7 @@ returns-clause-kept g c =
         reads = λ run. reads_exact g.H.NodeHash.half c.known_half.ensures _ (kept_ranges _ _ _ _ _ _ _ _ _ _ _ _ k) _ _ _ run;
         sound = k.sound told;
         present = λ t i. retained_stored g.H.NodeHash.half _ t (k.sound told) i;
-        in_order = λ run. run_in_order g.H.NodeHash.half c.known_half.ensures c.what_is_left_is_whole.ensures _
+        in_order = λ run. run_in_order g.H.NodeHash.half c.known_half.ensures _
             (kept_ranges _ _ _ _ _ _ _ _ _ _ _ _ k) _ _ _ run (records_are_sound g.H.NodeHash.half _ _ k.recorded);
         swaps = λ run. kept_swaps _ _ _ _ _ _ _ _ _ _ _ _ k run;
         clashes = λ run e among. entry_shown g.H.NodeHash.half _ _ _ _ _ e k.recorded run among;

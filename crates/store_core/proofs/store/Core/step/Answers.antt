@@ -148,7 +148,7 @@ invariant_of-self-2 g c =
     rw (pushed c.push.result _ _ _ _ c.push.ensures.items c.unwrap.ensures)
     (kept_step _ _ _ _ _ _ _ _ _ _ _ _ k c.args.actor _ (omega (arith, k.cursor_count, c.len.ensures, c.if-actor-len.false)) next
     c.index-line.result.now c.index-line.ensures _ _ _ _ refl refl free step
-    (λ t. step_sound _ c.known_half.ensures c.what_is_left_is_whole.ensures _ _ _ _ _ _ range (k.sound t) (step t))
+    (λ t. step_sound _ c.known_half.ensures _ _ _ _ _ _ range (k.sound t) (step t))
     c.answer-reply.ensures.told c.answer-reply.ensures.grows.few c.answer-reply.ensures.grows.ages
     c.push.ensures.capacity c.answer-reply.ensures.grows.later
     c.answer-reply.ensures.fault)
