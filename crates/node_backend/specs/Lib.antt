@@ -1,4 +1,5 @@
 pub mod Order
+pub mod Rising
 pub mod Counts
 pub mod Numbers
 pub mod Doubts

@@ -114,7 +114,7 @@ impl Backend for MemBackend {
         Ok(())
     }
 
-    fn next(&mut self, _: Global, after: Option<&Hash32>) -> Result<Option<Hash32>, BackFault>
+    fn next(&mut self, alloc: Global, after: Option<&Hash32>) -> Result<Option<Hash32>, BackFault>
         ensures same { self.new.map ≡ self.old.map }
         ensures next { IfOk result (IsNext self.old.map (option_copied after.entry)) }
         ensures later { self.old.faults ≤ self.new.faults }
@@ -129,7 +129,7 @@ impl Backend for MemBackend {
         if call_fails(&mut self.calls, &mut self.faults, &self.failing) {
             return Err(BackFault::Fault);
         }
-        Ok(self.map.next(after))
+        Ok(self.map.next(alloc, after)?)
     }
 
     fn faults(&self) -> u64 {
