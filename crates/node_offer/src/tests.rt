@@ -1,8 +1,9 @@
-use crate::{OfferFault, Spot, offer, offer_header, place};
+use crate::{OfferFault, Offered, Spot, offer, offer_header, place};
 use half_hash::{Hash32, TinyHash};
-use ledger_spec::{HeadOffered, Offered};
+use ledger_spec::HeadOffered;
 use nib_path::NodeId;
 use node_backend::MemShelf;
+use node_wire::wire_code;
 use rotating_store::RotStore;
 use shamap_node::Kind;
 use std::alloc::Global;
@@ -60,13 +61,13 @@ fn word(outcome: &Offered) -> (&'static str, u8) {
     match outcome {
         Offered::Good => ("good", 0),
         Offered::Duplicate => ("duplicate", 0),
-        Offered::BadWire(cause) => ("bad wire", *cause),
+        Offered::BadWire(cause) => ("bad wire", wire_code(cause)),
         Offered::BadHash { found, .. } => ("bad hash", found.bytes[0]),
         Offered::NoBase => ("no base", 0),
         Offered::NoParent(place) => ("no parent", place.depth()),
         Offered::EmptyBranch(place) => ("empty branch", place.depth()),
         Offered::UnderLeaf(place) => ("under leaf", place.depth()),
-        Offered::Malformed(rule) => ("malformed", *rule),
+        Offered::Malformed(rule) => ("malformed", rule.number()),
     }
 }
 
