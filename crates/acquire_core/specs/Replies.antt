@@ -70,8 +70,10 @@ base_stores half nodes a p header state tx =
 -- the bad parts charge the peer; after a fault, a clash or want of memory nothing has changed
 abbrev pub after_base : Acquiring → ℕ → Result BaseReply OfferFault → Acquiring
 after_base a p (Ok (base.Parts header state tx)) =
-    record a { peers = after_judging p
-        (record { header = header; state = option_map numbered state; tx = option_map numbered tx }) a.peers }
+    record a {
+      peers = after_judging p
+          (record { header = header; state = option_map numbered state; tx = option_map numbered tx }) a.peers;
+    }
 after_base a p _ = a
 
 abbrev pub IsBaseOf : Bool → Result BaseReply OfferFault → Type 0

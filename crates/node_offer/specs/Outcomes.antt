@@ -1,5 +1,5 @@
 -- What is answered of an offered node, as the definitions have it.
-use Rattle.std.specs.Prelude.{◌≡◌, ◌≢◌, ℕ, List, Option, Some, Result, Err}
+use Rattle.std.specs.Prelude.{◌≡◌, ◌≢◌, ℕ, List, Option, Some, Err}
 use Rattle.ledger_spec.specs.declared.Kind.{Kind}
 use Rattle.ledger_spec.specs.declared.outcomes.Offered.{Offered as Outcome}
 use Rattle.ledger_spec.specs.declared.outcomes.Offered.TheVariants as outcome

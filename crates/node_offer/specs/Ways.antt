@@ -1,6 +1,8 @@
 -- What the answers on the way to a place stand for.
-use Rattle.std.specs.Prelude.{ℕ, if◌then◌else◌, List, Option, None, Some, Result, Ok, Err}
+use Rattle.std.specs.Prelude.{ℕ, if◌then◌else◌, IsTrue, is_some, List, Option, None, Some, Result, Ok, Err}
+use Rattle.std.specs.Option.{option_map_or}
 use Rattle.ledger_spec.specs.Bytes.{Bytes, Hash, is_zero}
+use Rattle.ledger_spec.specs.Forms.{inner_of}
 use Rattle.ledger_spec.specs.Spots as way
 use Rattle.ledger_spec.specs.Spots.{into}
 use Rattle.shamap_node.specs.declared.parts.Inner.{Inner}
@@ -30,10 +32,15 @@ spot (spots.UnderLeaf path) = way.under_leaf path
 abbrev pub step_down : List ℕ → (List Hash → way.Spot) → Hash → Option Bytes → way.Spot
 step_down path on h form = if is_zero h then way.empty_branch path else into path on form
 
--- the same, from the inner node there, or what stands in the way
-abbrev pub step_of : Result Inner Spot → (List Hash → way.Spot) → way.Spot
-step_of (Ok inner) on = on inner.hashes
+-- the same, from the form of the inner node there, or what stands in the way
+abbrev pub step_of : Result Bytes Spot → (List Hash → way.Spot) → way.Spot
+step_of (Ok form) on = option_map_or on (inner_of form) way.no_base
 step_of (Err s) on = spot s
+
+-- a form there is an inner node's
+abbrev pub HasInner : Result Bytes Spot → Type 0
+HasInner (Ok form) = IsTrue (is_some (inner_of form))
+HasInner (Err s) = Unit {0}
 
 -- what became of a node that was to have this hash, and the rule that it breaks
 abbrev pub offered_as : Hash → Option ShapeFault → Stored → Offered

@@ -1,7 +1,7 @@
 //! The way from a ledger's header to a place in one of its maps.
 ghost use Rattle.std.specs.Prelude.{◌≡◌, ◌+◌, ◌*◌, ◌≤◌, [], None, List, length, IfOk, IfErr};
 ghost use Rattle.std.specs.FinMap as map;
-ghost use Rattle.std.specs.Option.{option_map, option_map_or};
+ghost use Rattle.std.specs.Option.{option_and_then, option_map, option_map_or};
 ghost use Rattle.ledger_spec.specs.Forms.{header_of, inner_of as inner_form};
 ghost use Rattle.ledger_spec.specs.Bytes.{Hash};
 ghost use Rattle.ledger_spec.specs.Spots as way;
@@ -11,16 +11,16 @@ ghost use Rattle.ledger_spec.specs.Own.{own_forms};
 ghost use Rattle.rotating_store.specs.Stores.{nodes_of};
 ghost use Rattle.own_forms.specs.Reading.{WasRead, IsReadable};
 ghost use Rattle.node_offer.specs.Stored.{IsPlain};
-ghost use Rattle.node_offer.specs.Ways.{spot, step_down, step_of};
+ghost use Rattle.node_offer.specs.Ways.{hashes_of_parent, spot, step_down, step_of, HasInner};
 
 use crate::fault::OfferFault;
-use half_hash::{Hash32, NodeHash};
+use half_hash::{Blob, Hash32, NodeHash};
 use ledger_header::Header;
 use nib_path::{NodeId, nibble};
 use node_backend::{BackFault, Shelf};
 use own_forms::own_form;
 use rotating_store::RotStore;
-use shamap_node::{Inner, Kind, inner_of};
+use shamap_node::{Inner, Kind, inner_branch, inner_of, is_inner_form};
 use std::alloc::Global;
 
 /// What a place in a ledger's map is.
@@ -108,13 +108,13 @@ fn walk<H: NodeHash, Sh: Shelf>(
     id.known();
     let key = id.id();
     let mut hash = root;
-    let mut parent = None;
+    let mut parent: Option<Blob> = None;
     for depth in 0..id.depth() {
         let at = NodeId::of_key(&key, depth);
         match step::<H, Sh>(alloc, store, &hash, at)? {
-            Ok(inner) => {
-                hash = inner.branch(nibble(&key, depth));
-                parent = Some(inner);
+            Ok(form) => {
+                hash = inner_branch(form.bytes(), nibble(&key, depth));
+                parent = Some(form);
             }
             Err(spot) => return Ok(spot),
         }
@@ -122,18 +122,32 @@ fn walk<H: NodeHash, Sh: Shelf>(
     if hash.is_zero() {
         return Ok(Spot::EmptyBranch(*id));
     }
-    Ok(Spot::Wanted { hash, parent })
+    Ok(Spot::Wanted {
+        hash,
+        parent: inner_in(&parent),
+    })
 }
 
-// The inner node that is held at a place on the way, or what stands in the way there.
+// The inner node whose form this is, if one is given.
+fn inner_in(form: &Option<Blob>) -> Option<Inner>
+    ensures { hashes_of_parent result ≡ option_and_then inner_form form.now }
+{
+    match form {
+        Some(form) => inner_of(form.bytes()),
+        None => None,
+    }
+}
+
+// The form of the inner node that is held at a place on the way, or what stands in the way there.
 fn step<H: NodeHash, Sh: Shelf>(
     alloc: Global,
     store: &mut RotStore<Sh>,
     hash: &Hash32,
     at: NodeId,
-) -> Result<Result<Inner, Spot>, BackFault>
+) -> Result<Result<Blob, Spot>, BackFault>
     ensures step { IsReadable Sh.B.tells H.half store.old → IfOk result (λ s. (on : List Hash → way.Spot)
         → step_of s on ≡ step_down at on hash.now (own_forms H.half (map.get (nodes_of store.old)) hash.now)) }
+    ensures inner { IfOk result HasInner }
     ensures read { WasRead Sh.B.tells H.half store.old store.new }
     ensures few { store.new.gets ≤ store.old.gets + 2 }
     ensures fault { IfErr result (λ e. e ≡ BackFault.Fault → Rose store.old.faults store.new.faults) }
@@ -143,16 +157,18 @@ fn step<H: NodeHash, Sh: Shelf>(
     }
     match own_form::<H, Sh>(alloc, store, hash)? {
         None => Ok(Err(Spot::NoParent(at))),
-        Some(form) => Ok(inner_at(form.bytes(), at)),
+        Some(form) => Ok(inner_at(form, at)),
     }
 }
 
-// The inner node whose form this is, which is held at this place, or what stands in the way there.
-fn inner_at(form: &[u8], at: NodeId) -> Result<Inner, Spot>
-    ensures { (on : List Hash → way.Spot) → step_of result on ≡ option_map_or on (inner_form form.now) (way.under_leaf at) }
+// The form, which is held at this place, where it is an inner node's, or what stands in the way there.
+fn inner_at(form: Blob, at: NodeId) -> Result<Blob, Spot>
+    ensures way { (on : List Hash → way.Spot) → step_of result on ≡ option_map_or on (inner_form form) (way.under_leaf at) }
+    ensures inner { HasInner result }
 {
-    match inner_of(form) {
-        Some(inner) => Ok(inner),
-        None => Err(Spot::UnderLeaf(at)),
+    if is_inner_form(form.bytes()) {
+        Ok(form)
+    } else {
+        Err(Spot::UnderLeaf(at))
     }
 }

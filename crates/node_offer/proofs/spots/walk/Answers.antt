@@ -1,10 +1,13 @@
-use Rattle.std.proofs.Common.{◌≡◌, arith, ◌<◌, length, [], None, Ok, Err}
+use Rattle.std.proofs.Common.{◌≡◌, ◌∙◌, ap, arith, ◌<◌, length, [], None, Ok, Err}
+use Rattle.std.specs.Option.{option_and_then, option_map}
+use Rattle.std.specs.List.{slice_index_or}
+use Rattle.ledger_spec.specs.Bytes.{zero_hash}
+use Rattle.ledger_spec.specs.Forms.{inner_of}
 use Rattle.ledger_spec.specs.Spots.{spot_from}
 use Rattle.std.specs.FinMap as map
 use Rattle.ledger_spec.specs.Own.{own_forms}
 use Rattle.rotating_store.specs.Stores.{nodes_of}
 use Rattle.own_forms.proofs.Reading.{same_nodes, read_then}
-use Rattle.node_offer.specs.Ways.{hashes_of_parent}
 use Rattle.node_offer.proofs.Walking.{goes_on, ends, step_at}
 use Rattle.node_offer.proofs.spots.walk.Goals as goal
 
@@ -15,12 +18,12 @@ returns-in-Err-clause-spot g c tells =
     let same : nodes_of c.loop-depth.store ≡ nodes_of c.args.store.now =
     same_nodes c.args.store.now c.loop-depth.store (c.loop-depth.invariant.0.same tells.0) in
     ends (own_forms g.H.NodeHash.half (map.get (nodes_of c.args.store.now))) c.args.id.now c.id-key.result c.loop-depth.depth
-    (hashes_of_parent c.loop-depth.parent) c.loop-depth.hash c.of_key-at.result c.in-Err.spot
+    (option_and_then inner_of c.loop-depth.parent) c.loop-depth.hash c.of_key-at.result c.in-Err.spot
     (spot_from (own_forms g.H.NodeHash.half (map.get (nodes_of c.args.store.now))) [] None c.args.root c.args.id.now)
     c.known.ensures lt c.id-key.ensures c.of_key-at.ensures
     (step_at g.H.NodeHash.half (nodes_of c.args.store.now)
-    (nodes_of c.loop-depth.store) c.of_key-at.result c.loop-depth.hash c.in_ok-inner.field-0 (Err c.in-Err.spot) same c.in-Err.is
-    (c.in_ok-inner.ensures.step
+    (nodes_of c.loop-depth.store) c.of_key-at.result c.loop-depth.hash c.in_ok-form.field-0 (Err c.in-Err.spot) same c.in-Err.is
+    (c.in_ok-form.ensures.step
     (c.loop-depth.invariant.0.notes tells)))
     (c.loop-depth.invariant.1 tells)
 
@@ -33,13 +36,16 @@ loop-depth-preserved g c = (
       let same : nodes_of c.loop-depth.store ≡ nodes_of c.args.store.now =
       same_nodes c.args.store.now c.loop-depth.store (c.loop-depth.invariant.0.same tells.0) in
       goes_on (own_forms g.H.NodeHash.half (map.get (nodes_of c.args.store.now))) c.args.id.now c.id-key.result c.loop-depth.depth
-      c.nibble.result (hashes_of_parent c.loop-depth.parent) c.loop-depth.hash c.branch-hash.result c.of_key-at.result c.in-Ok.inner
+      c.nibble.result (option_and_then inner_of c.loop-depth.parent) c.loop-depth.hash c.inner_branch-hash.result c.of_key-at.result
+      c.in-Ok.form
       (spot_from (own_forms g.H.NodeHash.half (map.get (nodes_of c.args.store.now))) [] None c.args.root c.args.id.now)
-      c.known.ensures lt c.id-key.ensures c.of_key-at.ensures c.nibble.ensures.value c.branch-hash.ensures
+      c.known.ensures lt c.id-key.ensures c.of_key-at.ensures c.nibble.ensures.value
+      (c.inner_branch-hash.ensures ∙ ap (λ x. option_map (λ hashes. slice_index_or hashes c.nibble.result zero_hash) (inner_of x))
+      c.bytes.ensures)
       (step_at g.H.NodeHash.half (nodes_of c.args.store.now)
-      (nodes_of c.loop-depth.store) c.of_key-at.result c.loop-depth.hash c.in_ok-inner.field-0 (Ok c.in-Ok.inner) same c.in-Ok.is
-      (c.in_ok-inner.ensures.step
+      (nodes_of c.loop-depth.store) c.of_key-at.result c.loop-depth.hash c.in_ok-form.field-0 (Ok c.in-Ok.form) same c.in-Ok.is
+      (c.in_ok-form.ensures.step
       (c.loop-depth.invariant.0.notes tells)))
       (c.loop-depth.invariant.1 tells),
-  omega (arith, c.loop-depth.invariant.2, c.in_ok-inner.ensures.few),
+  omega (arith, c.loop-depth.invariant.2, c.in_ok-form.ensures.few),
 )
