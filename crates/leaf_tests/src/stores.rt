@@ -22,14 +22,16 @@ note one => done
 noted one => yes
 noted two => no
 turn one => swapped
-noted one => no
+noted one => yes
 forward one => copied
 forward one => there
 put two => new
 turn one => swapped
 get one => this
 get two => this
+noted one => yes
 turn one => swapped
+noted one => no
 get one => nothing
 has two => no";
 
