@@ -20,7 +20,6 @@ use Rattle.cow_map.specs.declared.fault.MapFault.TheVariants as maps
 use Rattle.cow_map.specs.Trees.{StandsFor}
 use Rattle.cow_map.specs.Seals.{Picks}
 use Rattle.cow_map.specs.Sealing.{named}
-use Rattle.cow_map.specs.Unloaded.{IsLeftWhole}
 use Rattle.edit_session.specs.declared.close.Closed.{Closed}
 use Rattle.edit_session.specs.declared.close.Fields.{Fields}
 use Rattle.edit_session.specs.Closing.{IsOccupied}
@@ -117,7 +116,7 @@ module _ (half : Half) (ms : State) (drafts : ForActor Draft) (x : ℕ × ℕ) (
       by [] not = absurd (not refl)
       by (y ∷ i) not = grind (arith, nat_tests)
 
-  module _ (sized : IsHalf half) (law : IsLeftWhole) (sound : Sound half s) (kept : IsKept half (form_in ms) d) (are : AreFields given)
+  module _ (sized : IsHalf half) (sound : Sound half s) (kept : IsKept half (form_in ms) d) (are : AreFields given)
       (some : e.accounts ≢ []) where
     same_header : header ≡ header_bytes (fields next)
     same_header = header_same half ms d given kept
@@ -128,7 +127,7 @@ module _ (half : Half) (ms : State) (drafts : ForActor Draft) (x : ℕ × ℕ) (
     -- its sequence is the one after its parent's
     after_parent : seq_of header ≡ d.parent.seq + 1
     after_parent =
-        next_seq half sized law s sound e (all_found (IsFit half s) (is_at (numbered_cmp x)) s.sessions e (fits_of half s sound) opened)
+        next_seq half sized s sound e (all_found (IsFit half s) (is_at (numbered_cmp x)) s.sessions e (fits_of half s sound) opened)
         given are (header_bytes (fields d.parent)) kept.header
         ∙ ap (λ n. n + 1) kept.reads.seq
 
@@ -210,13 +209,13 @@ module _ (half : Half) (ms : State) (drafts : ForActor Draft) (x : ℕ × ℕ) (
   }
   unmade_empty false a none = record { row = λ told. absurd (false≢true told); free = λ e. cc }
 
-  module _ (sized : IsHalf half) (law : IsLeftWhole) (some : IsOccupied d.state) where
+  module _ (sized : IsHalf half) (some : IsOccupied d.state) where
     pub unmade_low : (tells : Bool) (next floor : ℕ) → Asked half tells ms drafts x d given → next ≡ d.parent.seq + 1 → floor ≡ ms.floor
         → next < floor
         → IsUnmade half tells (with_open half tells ms drafts) x given (says.Close (close.BelowFloor floor))
     unmade_low true next floor a is at low = record {
       row = λ told. ap (λ n. says.Close (close.BelowFloor n)) at
-          ∙ low_row half ms drafts x d a.is given sized law (a.sound refl) (kept_of a) a.are
+          ∙ low_row half ms drafts x d a.is given sized (a.sound refl) (kept_of a) a.are
           (some half (form_in ms) accounts (kept_of a).edits.state) (lt-ltb (d.parent.seq + 1) ms.floor (omega (arith, is, at, low)));
       free = λ e. cc;
     }
@@ -228,7 +227,7 @@ module _ (half : Half) (ms : State) (drafts : ForActor Draft) (x : ℕ × ℕ) (
         → draft.NamesFirst half stored d f accounts txs (Err why))
         → IsUnmade half tells (with_open half tells ms drafts) x given (unsealed_by why)
     unmade_fault true next floor f (maps.ZeroHash form) a is at high same first = record {
-      row = λ told. zero_row half ms drafts x d a.is given sized law (a.sound refl) (kept_of a) a.are
+      row = λ told. zero_row half ms drafts x d a.is given sized (a.sound refl) (kept_of a) a.are
           (some half (form_in ms) accounts (kept_of a).edits.state) form
           (not_less (d.parent.seq + 1) ms.floor (omega (arith, is, at, high)))
           (subst (λ (y : Fields). draft.NamesFirst half (form_in ms) d y accounts txs (Err (maps.ZeroHash form))) same
@@ -255,7 +254,7 @@ module _ (half : Half) (ms : State) (drafts : ForActor Draft) (x : ℕ × ℕ) (
         → IsMade half (with_open half tells ms drafts) x given c
     made_whole true next floor f c a is at high same g told =
         let own : AreOwn half (form_in ms) = λ h form held. ((a.sound refl).forms h form held).own in
-        made_of half ms drafts x d a.is given sized law (a.sound refl) (kept_of a) a.are
+        made_of half ms drafts x d a.is given sized (a.sound refl) (kept_of a) a.are
         (some half (form_in ms) accounts (kept_of a).edits.state) c
         (not_less (d.parent.seq + 1) ms.floor (omega (arith, is, at, high)))
         (subst (λ (y : Fields). draft.Follows half d y c) same g.follows)

@@ -18,7 +18,7 @@ ghost use Rattle.store_core.specs.Telling.{Hears, TellsRoot};
 use crate::bench::Bench;
 use crate::machine::Machine;
 use crate::told::refusal;
-use cow_map::{FormOf, MapFault, what_is_left_is_whole};
+use cow_map::{FormOf, MapFault};
 use edit_session::{Closed, Fields, a_session_stays_over_its_ledger};
 use half_hash::{Hash32, Memory, NodeHash, known_half};
 use ledger_machine::{CloseReply, Command, Reply};
@@ -55,7 +55,6 @@ impl<H: NodeHash, Sh: Shelf> Bench<H, Sh> {
         ensures unmade { IfErr result (IsUnmade H.half Sh.B.tells self.now.state id given.now) }
     {
         known_half::<H>();
-        what_is_left_is_whole();
         let Some(session) = self.sessions.session(id) else {
             return Err(Reply::Close(CloseReply::NoSession));
         };

@@ -26,7 +26,7 @@ pub returns-then-next_seq-floor-clause-unmade : goal.returns-then-next_seq-floor
 returns-then-next_seq-floor-clause-unmade g c =
     rw (← c.self.view_is)
     (unmade_low g.H.NodeHash.half c.self.inside.machine.state c.self.inside.sessions c.args.id c.in-Some.session.now c.args.given.now
-    c.known_half.ensures c.what_is_left_is_whole.ensures c.if-is_empty.ensures
+    c.known_half.ensures c.if-is_empty.ensures
     g.Sh.B.Backend.tells c.next_seq.result c.floor-floor.result (record {
       is = c.in-Some.ensures;
       keeps = c.self.invariant;
@@ -38,7 +38,7 @@ pub returns-in-Err-clause-unmade : goal.returns-in-Err-clause-unmade
 returns-in-Err-clause-unmade g c =
     rw (← c.self.view_is, c.unsealed.ensures)
     (unmade_fault g.H.NodeHash.half c.self.inside.machine.state c.self.inside.sessions c.args.id c.in-Some.session.now c.args.given.now
-    c.known_half.ensures c.what_is_left_is_whole.ensures c.if-is_empty.ensures
+    c.known_half.ensures c.if-is_empty.ensures
     g.Sh.B.Backend.tells c.next_seq.result c.floor-floor.result c.fields.result c.in-Err.fault (record {
       is = c.in-Some.ensures;
       keeps = c.self.invariant;
@@ -50,7 +50,7 @@ pub returns-in-Ok-clause-made : goal.returns-in-Ok-clause-made
 returns-in-Ok-clause-made g c told =
     rw (← c.self.view_is)
     (made_whole g.H.NodeHash.half c.self.inside.machine.state c.self.inside.sessions c.args.id c.in-Some.session.now c.args.given.now
-    c.known_half.ensures c.what_is_left_is_whole.ensures c.if-is_empty.ensures
+    c.known_half.ensures c.if-is_empty.ensures
     g.Sh.B.Backend.tells c.next_seq.result c.floor-floor.result c.fields.result c.in-Ok.made (record {
       is = c.in-Some.ensures;
       keeps = c.self.invariant;

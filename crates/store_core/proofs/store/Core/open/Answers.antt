@@ -1,4 +1,5 @@
-use Rattle.std.proofs.Common.{sym, ap, ◌∙◌, rules}
+use Rattle.std.proofs.Common.{◌≡◌, ◌<◌, ℕ, List, sym, ap, ◌∙◌, rules, replicate, slice_index}
+use Rattle.std.proofs.lemmas.List.{get_or-replicate}
 use Rattle.std.proofs.lemmas.Grind.{common_steps}
 use Rattle.std.specs.FinMap as map
 use Rattle.ledger_machine.specs.Records.{with_records}
@@ -16,12 +17,17 @@ returns-clause-state g c told =
     (stored.0 ∙ ap (with_records map.empty) c.deref.ensures.value) stored.1
     (c.put_records.ensures.later.past.0 ∙ c.in_ok-store.ensures.state.0)
 
+-- each cursor stands before the first line
+at_start : (cursors : List ℕ) (a : ℕ) → cursors ≡ replicate 64 0 → a < 64 → slice_index cursors a ≡ 0
+at_start cursors a is low = ap (λ (xs : List ℕ). slice_index xs a) is ∙ get_or-replicate 64 a 0 0 low
+
 -- nothing was answered and every cursor stands before the first line, which fits the empty journal and the opening state
 pub invariant_of-result : goal.invariant_of-result
 invariant_of-result g c =
     kept_open g.H.NodeHash.half c.args.script.records.items c.args.script.lines.items c.in-Ok-vec.cursors.items
     c.in-Ok-with_capacity.journal.items _ c.args.interval g.Sh.B.Backend.tells _ _ c.new.result.state
-    c.in-Ok-with_capacity.ensures.items (search (rules, common_steps)) (λ a l. search (rules, common_steps)) c.requires.lines
+    c.in-Ok-with_capacity.ensures.items (search (rules, common_steps)) (λ a l. at_start c.in-Ok-vec.cursors.items a
+    (c.in-Ok-vec.ensures.items_if_clones_equal (λ y same. same)) l) c.requires.lines
     c.requires.records (search (rules, common_steps)) (c.faults-opened.ensures ∙ sym c.new.ensures.faults)
     (ap (λ (s : State). s.listed) c.new.ensures.state) (ap (λ (s : State). s.turning) c.new.ensures.state)
     (ap (λ (s : State). s.epoch) c.new.ensures.state ∙ c.put_records.ensures.later.past.0 ∙ c.in_ok-store.ensures.state.0)
