@@ -1,15 +1,12 @@
-//! Maps that are made of items at once: two whose keys differ in the last byte, so that an inner node stands at each depth.
-ghost use Rattle.std.specs.Prelude.{IfOk};
-ghost use Rattle.ledger_spec.specs.Maps.{hash_cmp, IsMap};
-ghost use Rattle.cow_map.specs.Gathered.{entries_of};
-
+//! Maps of two items whose keys differ in the last byte, so that an inner node stands at each depth: built of items at once, gathered of
+//! sixteen maps, and edited.
 use crate::words::{first, item};
 use cow_build::{BuildFault, build};
 use cow_map::CowMap;
-use half_hash::{Blob, Half512, Hash32, NodeHash, TinyHash};
+use half_hash::{Blob, Half512, Hash32, TinyHash};
+use path_proof::NoSource;
 use shamap_node::{Item, Kind};
 use std::alloc::Global;
-use std::cmp::Ordering;
 use std::test::Fail;
 
 /// The root by the ledger's own hash, worked out by the tools' tree of dictionaries; that by byte sums, from two leaves [FA] and [FB]
@@ -23,29 +20,6 @@ fn ended(alloc: Global, first: u8, last: u8) -> Result<Item, Fail> {
     bytes[31] = last;
     let value = Blob::from_slice(alloc, &[1, 2])?;
     Ok(Item::new(Hash32 { bytes }, value).ok().ok_or("no item")?)
-}
-
-/// Two items, where their keys rise.
-fn rising(alloc: Global, low: Item, high: Item) -> Result<Vec<Item>, Fail>
-    ensures { IfOk result (λ items. IsMap hash_cmp (entries_of items.items)) }
-{
-    match low.key().cmp(high.key()) {
-        Ordering::Less => (),
-        _ => return Err("keys".into()),
-    }
-    let mut items = Vec::new(alloc);
-    items.push(low)?;
-    items.push(high)?;
-    Ok(items)
-}
-
-/// The two items.
-fn two(alloc: Global) -> Result<Vec<Item>, Fail>
-    ensures { IfOk result (λ items. IsMap hash_cmp (entries_of items.items)) }
-{
-    let low = ended(alloc, 0x10, 0)?;
-    let high = ended(alloc, 0x10, 1)?;
-    rising(alloc, low, high)
 }
 
 /// What is sealed of a map.
@@ -76,18 +50,23 @@ fn gathered(alloc: Global) -> Result<CowMap, Fail> {
     Ok(CowMap::gather(alloc, Kind::State, parts)?)
 }
 
+/// Both items, or none.
 fn part(alloc: Global, b: u8) -> Result<CowMap, Fail> {
-    if b != 1 {
-        return Ok(CowMap::new(alloc, Kind::State));
+    let mut map = CowMap::new(alloc, Kind::State);
+    if b == 1 {
+        for last in [0, 1] {
+            let item = ended(alloc, 0x10, last)?;
+            let put = map.put::<TinyHash, NoSource>(alloc, &mut NoSource, item);
+            put.ok().ok_or("no put")?;
+        }
     }
-    Ok(CowMap::from_sorted(alloc, Kind::State, two(alloc)?)?)
+    Ok(map)
 }
 
 #[test]
 fn one_deep_map_however_it_is_made(rt: HostRuntime) -> Result<(), Fail> {
     let alloc = rt.alloc();
-    let sorted = CowMap::from_sorted(alloc, Kind::State, two(alloc)?)?;
-    assert_eq!(rt; sealed(alloc, &sorted)?.as_str(), DEEP);
+    assert_eq!(rt; sealed(alloc, &part(alloc, 1)?)?.as_str(), DEEP);
     assert_eq!(rt; sealed(alloc, &gathered(alloc)?)?.as_str(), DEEP);
     for workers in [1, 5, 16] {
         let mut items = Vec::new(alloc);
@@ -100,6 +79,13 @@ fn one_deep_map_however_it_is_made(rt: HostRuntime) -> Result<(), Fail> {
     Ok(())
 }
 
+fn repeated(fault: BuildFault) -> Option<Hash32> {
+    match fault {
+        BuildFault::Repeated(key) => Some(key),
+        BuildFault::Memory => None,
+    }
+}
+
 #[test]
 fn the_least_key_that_stands_twice_is_named(rt: HostRuntime) -> Result<(), Fail> {
     let alloc = rt.alloc();
@@ -107,9 +93,10 @@ fn the_least_key_that_stands_twice_is_named(rt: HostRuntime) -> Result<(), Fail>
     for key in ["30", "20", "10", "30", "20"] {
         items.push(item(alloc, key, "01")?)?;
     }
-    match build(&rt, alloc, Kind::State, items, 4) {
-        Err(BuildFault::Repeated(key)) => assert_eq!(rt; key.bytes[0], 0x20),
-        _ => return Err("built".into()),
-    }
+    let fault = build(&rt, alloc, Kind::State, items, 4)
+        .err()
+        .ok_or("built")?;
+    let key = repeated(fault).ok_or("memory")?;
+    assert_eq!(rt; key.bytes[0], 0x20);
     Ok(())
 }
