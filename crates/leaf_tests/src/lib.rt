@@ -15,8 +15,6 @@ mod scripts;
 #[cfg(test)]
 mod stores;
 #[cfg(test)]
-mod swarms;
-#[cfg(test)]
 mod wires;
 #[cfg(test)]
 mod words;
