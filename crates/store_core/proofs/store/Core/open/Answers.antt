@@ -1,9 +1,12 @@
-use Rattle.std.proofs.Common.{◌≡◌, ◌<◌, ℕ, List, sym, ap, ◌∙◌, rules, replicate, slice_index}
+use Rattle.std.proofs.Common.{◌≡◌, ◌<◌, ℕ, List, sym, ap, ◌∙◌, subst, rules, replicate, slice_index}
 use Rattle.std.proofs.lemmas.List.{get_or-replicate}
 use Rattle.std.proofs.lemmas.Grind.{common_steps}
 use Rattle.std.specs.FinMap as map
+use Rattle.ledger_machine.specs.declared.commands.Record.{Record}
 use Rattle.ledger_machine.specs.Records.{with_records}
 use Rattle.ledger_machine.specs.State.{State}
+use Rattle.rotating_store.specs.Stores.{Store, nodes_of}
+use Rattle.store_core.specs.Dumping.{HoldsOf}
 use Rattle.store_core.proofs.Journals.{kept_open}
 use Rattle.store_core.proofs.Tables.{over_open}
 use Rattle.store_core.proofs.store.Core.open.Goals as goal
@@ -16,6 +19,13 @@ returns-clause-state g c told =
     ∙ over_open c.put_records.new.store c.args.interval (with_records map.empty c.args.script.records.items)
     (stored.0 ∙ ap (with_records map.empty) c.deref.ensures.value) stored.1
     (c.put_records.ensures.later.past.0 ∙ c.in_ok-store.ensures.state.0)
+
+-- the store that is handed back is the one that the records were put into
+pub returns-in-Err-Fault-clause-held : goal.returns-in-Err-Fault-clause-held
+returns-in-Err-Fault-clause-held g c told s same =
+    let stays : c.put_records.new.store ≡ s = cc in
+    subst (λ (rs : List Record). HoldsOf rs (nodes_of s)) c.deref.ensures.value
+    (subst (λ (x : Store). HoldsOf c.deref.result.now (nodes_of x)) stays (c.put_records.ensures.held told))
 
 -- each cursor stands before the first line
 at_start : (cursors : List ℕ) (a : ℕ) → cursors ≡ replicate 64 0 → a < 64 → slice_index cursors a ≡ 0
