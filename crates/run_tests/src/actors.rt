@@ -1,7 +1,10 @@
 //! Actors on threads of their own, and the points at which the gate is passed.
+ghost use Rattle.ledger_machine.specs.Records.{AreRecords};
+ghost use Rattle.script_form.specs.Servable.{AreServable};
+
 use actor_pool::{Gate, Point, run_actors};
-use half_hash::TinyHash;
-use ledger_machine::{Reply, WantReply};
+use half_hash::{NodeHash, TinyHash};
+use ledger_machine::{Reply, Script, WantReply};
 use node_backend::MemShelf;
 use run_io::MemSource;
 use script_form::read_script;
@@ -77,10 +80,21 @@ impl Gate for Counts {
 fn opened(alloc: Global, lines: &str) -> Result<Core<TinyHash, MemShelf>, Fail> {
     let bytes = Vec::from_slice(alloc, lines.as_bytes())?;
     let mut source = MemSource::new(bytes, 500, Vec::new(alloc));
-    let script = read_script::<TinyHash, MemSource>(alloc, &mut source);
-    let script = script.or(Err("no script"))?;
+    match read_script::<TinyHash, MemSource>(alloc, &mut source) {
+        Ok(script) => core_of(alloc, script),
+        Err(_) => Err("no script".into()),
+    }
+}
+
+fn core_of(alloc: Global, script: Script) -> Result<Core<TinyHash, MemShelf>, Fail>
+    requires lines { AreServable script.lines.items }
+    requires records { AreRecords (⟦<TinyHash as NodeHash>⟧.half) script.records.items }
+{
     let shelf = MemShelf::new(alloc, Vec::new(alloc), Vec::new(alloc));
-    Ok(Core::open(alloc, TinyHash, script, 256, shelf).or(Err("no core"))?)
+    match Core::open(alloc, TinyHash, script, 256, shelf) {
+        Ok(core) => Ok(core),
+        Err(_) => Err("no core".into()),
+    }
 }
 
 /// Two actors with one line each.
