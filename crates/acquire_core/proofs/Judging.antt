@@ -22,7 +22,7 @@ use Rattle.node_offer.specs.Stored.{HasForms, Refuses}
 use Rattle.acquire_core.specs.declared.parts.Parts.{Parts}
 use Rattle.node_offer.specs.declared.outcome.Offered.{Offered as Told}
 use Rattle.node_offer.specs.Outcomes.{numbered}
-use Rattle.acquire_core.specs.Parts.{said, said_root, judged as judged_by}
+use Rattle.acquire_core.specs.Parts.{said, judged as judged_by}
 use Rattle.acquire_core.specs.Answers.{forms_in, HasFront, Answers}
 use Rattle.acquire_core.proofs.Growing.{holds, has_more, front_more, front_of}
 
@@ -50,7 +50,8 @@ one_part half outcome forms s s' (Err faults.Memory) none is has refused = part_
 -- the same of a node, whose outcome is said with numbers
 pub one_node : (half : Half) (outcome : Result Offered Clash) (forms : Result Offered Clash → List Bytes) (s s' : Store)
     (r : Result Told OfferFault)
-    → ((c : Clash) → forms (Err c) ≡ []) → IfOk r (λ o. outcome ≡ Ok (numbered o)) → IfOk r (λ o. HasForms half (forms (Ok (numbered o))) s s')
+    → ((c : Clash) → forms (Err c) ≡ []) → IfOk r (λ o. outcome ≡ Ok (numbered o))
+    → IfOk r (λ o. HasForms half (forms (Ok (numbered o))) s s')
     → IfErr r (λ e. Refuses half outcome (forms outcome) s e s') → Answers half outcome (forms outcome) s (said r) s'
 one_node half outcome forms s s' (Ok o) none is has refused = one_part half outcome forms s s' (Ok (numbered o)) none is has refused
 one_node half outcome forms s s' (Err e) none is has refused = one_part half outcome forms s s' (Err e) none tt tt refused

@@ -138,7 +138,8 @@ pub apart : (xs ys : List ℕ) (at a b : ℕ) → at + 8 ≤ length xs → at + 
     → a ≡ from_be_bytes w64 (take 8 (drop at xs)) → b ≡ from_be_bytes w64 (take 8 (drop at ys)) → (a ≡ b → ⊥)
     → slice_cmp nat_cmp (drop at xs) (drop at ys) ≡ nat_cmp a b
 apart xs ys at a b le lt small less e f differ =
-    word_decides xs ys at a b le lt small less e f ∙ by (nat_cmp a b) (slice_cmp nat_cmp (drop 8 (drop at xs)) (drop 8 (drop at ys))) (ranks a b)
+    word_decides xs ys at a b le lt small less e f
+    ∙ by (nat_cmp a b) (slice_cmp nat_cmp (drop 8 (drop at xs)) (drop 8 (drop at ys))) (ranks a b)
   where
     by : (r o : Ordering) → MatchOrdering r (a < b) (a ≡ b) (b < a) → ordering_then r o ≡ r
     by Less o h = refl

@@ -1,5 +1,5 @@
 -- Each state of a run is in order.
-use Rattle.std.proofs.Common.{◌≡◌, ℕ, List, [], ◌∷◌, Option, Some, None, Contains, IsTrue, is_some, IsSomeAnd, refl, sym, subst}
+use Rattle.std.proofs.Common.{◌≡◌, List, [], ◌∷◌, Option, Some, None, Contains, IsTrue, is_some, IsSomeAnd, refl, sym, subst}
 use Rattle.std.specs.Option.{option_map, option_and_then}
 use Rattle.std.proofs.lemmas.Bool.{false≢true}
 use Rattle.ledger_spec.specs.declared.Kind.{Kind}

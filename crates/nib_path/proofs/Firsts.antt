@@ -19,7 +19,8 @@ pub here : (d : ℕ) (ns : List ℕ) → d < length ns → 0 < slice_index ns d 
 here d ns lt set = ap (position_from (λ n. nat_lt 0 n) d) (drop_more ns d 0 lt) ∙ is_set (slice_index ns d) d (drop (d + 1) ns) set
 
 -- a nibble that is zero is passed over
-pub further : (d next : ℕ) (ns : List ℕ) → d < length ns → next ≡ d + 1 → slice_index ns d ≡ 0 → first_set_from d ns ≡ first_set_from next ns
+pub further : (d next : ℕ) (ns : List ℕ) → d < length ns → next ≡ d + 1 → slice_index ns d ≡ 0
+    → first_set_from d ns ≡ first_set_from next ns
 further d next ns lt to none =
     ap (position_from (λ n. nat_lt 0 n) d) (drop_more ns d 0 lt) ∙ is_zero (slice_index ns d) d (drop (d + 1) ns) none
     ∙ ap (λ k. first_set_from k ns) (sym to)

@@ -1,5 +1,6 @@
 -- The next hash of a list that rises.
-use Rattle.std.proofs.Common.{◌≡◌, ◌≤◌, ◌<◌, ℕ, Bool, true, false, List, [], ◌∷◌, Option, Some, None, is_some, IsTrue, ◌⊎◌, inl, inr, length, get_or, refl, sym, ◌∙◌, ap, subst, arith}
+use Rattle.std.proofs.Common.{◌≡◌, ◌≤◌, ◌<◌, ℕ, Bool, true, false, List, [], ◌∷◌, Option, Some, None, is_some, IsTrue, ◌⊎◌, inl, inr}
+use Rattle.std.proofs.Common.{length, get_or, refl, sym, ◌∙◌, ap, subst, arith}
 use Rattle.std.specs.Option.{IsSome}
 use Rattle.std.specs.List.{slice_get, slice_index_or, list_any, Any}
 use Rattle.std.specs.List.Sorted.{IsPermutation, IsSorted, IsPartitionedBy, IsPartitionPoint}
@@ -50,7 +51,8 @@ no_true e = cc
 
 -- an entry that is held is among the keys, and one that comes after is none of those before the place
 held_behind : {X : Type 0} (order : List Hash) (m : MapOf X) (after : Option Hash) (i : ℕ) → IsRising order m → Parts order after i
-    → (h : Hash) → IsAfter after h → is_some (map.get m h) ≡ true → (k : ℕ) × (d : Hash) × (i ≤ k) × (k < length order) × (get_or order k d ≡ h)
+    → (h : Hash) → IsAfter after h → is_some (map.get m h) ≡ true
+    → (k : ℕ) × (d : Hash) × (i ≤ k) × (k < length order) × (get_or order k d ≡ h)
 held_behind order m after i r p h is held =
     let at : (k : ℕ) × (d : Hash) × (k < length order) × (get_or order k d ≡ h) = at_place order h (sym (r.has h) ∙ held) in
     elim (cases_lt at.0 i) [
@@ -62,7 +64,8 @@ none_left : {X : Type 0} (order : List Hash) (m : MapOf X) (after : Option Hash)
     → length order ≤ i → (h : Hash) → IsAfter after h → (o : Option X) → map.get m h ≡ o → o ≡ None
 none_left order m after i r p past h is None e = refl
 none_left order m after i r p past h is (Some x) e =
-    let at : (k : ℕ) × (d : Hash) × (i ≤ k) × (k < length order) × (get_or order k d ≡ h) = held_behind order m after i r p h is (ap is_some e) in
+    let at : (k : ℕ) × (d : Hash) × (i ≤ k) × (k < length order) × (get_or order k d ≡ h) =
+    held_behind order m after i r p h is (ap is_some e) in
     let le : i ≤ at.0 = at.2 in
     let lt : at.0 < length order = at.3 in
     absurd (omega arith)
@@ -79,7 +82,8 @@ next_of {X} order m after i r p =
         subst (λ (x : Hash). IsAfter after x) is.3 (p.behind i is.0 (omega arith) is.1),
         r.has is.0 ∙ list_any_at (same_bytes is.0) order i is.0 is.1 (ap (same_bytes is.0) is.3 ∙ same_self is.0),
         λ h after_it held.
-            let at : (k : ℕ) × (d : Hash) × (i ≤ k) × (k < length order) × (get_or order k d ≡ h) = held_behind order m after i r p h after_it held in
+            let at : (k : ℕ) × (d : Hash) × (i ≤ k) × (k < length order) × (get_or order k d ≡ h) =
+            held_behind order m after i r p h after_it held in
             subst (λ (x : Hash). is_gt (hash_cmp is.0 x) ≡ false) at.4
             (subst (λ (x : Hash). is_gt (hash_cmp x (get_or order at.0 at.1)) ≡ false) (get_or_from_slice_get order i is.0 at.1 is.2)
             (not_greater (get_or order i at.1) (get_or order at.0 at.1) (far order r.up i at.0 at.1 at.2 at.3))),
@@ -113,7 +117,8 @@ comes_behind Less s e not = absurd (no_true not)
 comes_behind Equal s e not = absurd (no_true not)
 comes_behind Greater s e not = e
 
-pub parts_at : (order : List Hash) (last : Hash) (i : ℕ) → IsPartitionPoint (λ y. is_up_to last y ≡ true) (λ y. is_up_to last y ≡ false) order i
+pub parts_at : (order : List Hash) (last : Hash) (i : ℕ) → IsPartitionPoint (λ y. is_up_to last y ≡ true)
+    (λ y. is_up_to last y ≡ false) order i
     → Parts order (Some last) i
 parts_at order last i p = record {
   before = λ k d lt is. not_up_to (hash_cmp (get_or order k d) last) (hash_cmp last (get_or order k d))
@@ -125,5 +130,7 @@ parts_at order last i p = record {
 pub parts_first : (order : List Hash) → Parts order None 0
 parts_first order = record { before = λ k d lt is. absurd (omega (arith, lt)); behind = λ k d le lt. tt }
 
-pub parts_as : (order : List Hash) (after after' : Option Hash) (i i' : ℕ) → Parts order after i → after' ≡ after → i' ≡ i → Parts order after' i'
-parts_as order after after' i i' p e f = subst (λ (x : Option Hash). Parts order x i') (sym e) (subst (λ (x : ℕ). Parts order after x) (sym f) p)
+pub parts_as : (order : List Hash) (after after' : Option Hash) (i i' : ℕ) → Parts order after i → after' ≡ after → i' ≡ i
+    → Parts order after' i'
+parts_as order after after' i i' p e f = subst (λ (x : Option Hash). Parts order x i') (sym e)
+    (subst (λ (x : ℕ). Parts order after x) (sym f) p)

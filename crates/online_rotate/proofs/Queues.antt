@@ -1,5 +1,6 @@
 -- What a queue has, as hashes are added.
-use Rattle.std.proofs.Common.{◌≡◌, ◌⊎◌, inl, inr, ◌++◌, ◌∷◌, [], List, Bool, cond, IsTrue, Result, Ok, Err, OnOk, OnErr, true, false, Contains, refl, ◌∙◌, sym, ap, subst, arith}
+use Rattle.std.proofs.Common.{◌≡◌, ◌⊎◌, inl, inr, ◌++◌, ◌∷◌, [], List, Bool, cond, IsTrue, Result, Ok, Err, OnOk, OnErr, true, false}
+use Rattle.std.proofs.Common.{Contains, refl, ◌∙◌, sym, ap, subst, arith}
 use Rattle.std.proofs.Common.{append_assoc, ◌<◌}
 use Rattle.std.proofs.lemmas.List.{append-nil}
 use Rattle.std.proofs.lemmas.List.Elements.{Contains-append_left, Contains-push, Contains-push_cases}
@@ -28,7 +29,8 @@ module _ {S : Type 0} (old new : HashSet Hash S) (h : Hash) where
 
   -- what is seen after an insertion was found before, or is the hash that was pushed
   pub found_more : (found found' : List Hash) → AreFound old.keys found → found' ≡ found ++ h ∷ []
-      → {T E : Type 0} (r : Result T E) → OnOk r (Updates same_bytes old new h true) → OnErr r (new.keys ≡ old.keys) → AreFound new.keys found'
+      → {T E : Type 0} (r : Result T E) → OnOk r (Updates same_bytes old new h true) → OnErr r (new.keys ≡ old.keys)
+      → AreFound new.keys found'
   found_more found found' were added r sets same q has =
       subst (λ (hs : List Hash). Contains hs q) (sym added) (elim (found_then r sets same q has) [
         | inl before ↦ Contains-append_left found (h ∷ []) q (were q before)

@@ -1,5 +1,6 @@
 -- The sets of notes.
-use Rattle.std.proofs.Common.{◌≡◌, ◌∙◌, ◌⊎◌, inl, inr, ℕ, List, [], ◌∷◌, Bool, true, false, cond, ◌||◌, IsTrue, Result, Ok, Err, OnOk, OnErr, Option, Some, None, refl, sym, ap, subst}
+use Rattle.std.proofs.Common.{◌≡◌, ◌∙◌, ◌⊎◌, inl, inr, ℕ, List, [], ◌∷◌, Bool, true, false, cond, ◌||◌, IsTrue, Result, Ok, Err, OnOk}
+use Rattle.std.proofs.Common.{OnErr, Option, Some, None, refl, sym, ap, subst}
 use Rattle.std.specs.Prelude.{nat_eq, is_some}
 use Rattle.std.specs.List.{list_any}
 use Rattle.std.specs.Option.{IsSome}
@@ -35,7 +36,8 @@ or_cond true b c e = ap (λ (x : Bool). x || b) e
 or_cond false b c e = ap (λ (x : Bool). x || b) e
 
 module _ {S : Type 0} (old new : HashSet Hash S) (h : Hash) where
-  pub listed_then : Updates (pointwise nat_eq) old new h true → set.from_list {R = hash_cmp} new.keys ≡ set.insert (set.from_list old.keys) h
+  pub listed_then : Updates (pointwise nat_eq) old new h true
+      → set.from_list {R = hash_cmp} new.keys ≡ set.insert (set.from_list old.keys) h
   listed_then sets = same_set nat_list_cmp_total hashes_antisymmetric _ _ (λ q.
       sym (has_listed q new.keys) ∙ sets.0 q
       ∙ or_cond (pointwise nat_eq h q) (contains (pointwise nat_eq) old q) (eq_by_cmp hash_cmp q h)
@@ -44,7 +46,8 @@ module _ {S : Type 0} (old new : HashSet Hash S) (h : Hash) where
       ∙ sym (contains-insert nat_list_cmp_total (set.from_list old.keys) h q))
 
   -- after an insertion that may have been refused
-  pub may_add : {T E : Type 0} (o : SetOf) (r : Result T E) → OnOk r (Updates (pointwise nat_eq) old new h true) → OnErr r (new.keys ≡ old.keys)
+  pub may_add : {T E : Type 0} (o : SetOf) (r : Result T E) → OnOk r (Updates (pointwise nat_eq) old new h true)
+      → OnErr r (new.keys ≡ old.keys)
       → MayAdd (record { fresh = set.from_list old.keys; earlier = o }) h (record { fresh = set.from_list new.keys; earlier = o })
   may_add o (Ok x) sets same = inr (ap (λ (f : SetOf). record { fresh = f; earlier = o }) (listed_then sets))
   may_add o (Err e) sets same = inl (ap (λ (ks : List Hash). record { fresh = set.from_list ks; earlier = o }) same)
@@ -61,7 +64,8 @@ or_right : (a b : Bool) → IsTrue b → IsTrue (a || b)
 or_right true b h = refl
 or_right false b h = h
 
-pub in_either : (n : Noted) (q : Hash) → IsTrue (set.contains (noted_of n) q) → IsTrue (set.contains n.fresh q) ⊎ IsTrue (set.contains n.earlier q)
+pub in_either : (n : Noted) (q : Hash) → IsTrue (set.contains (noted_of n) q)
+    → IsTrue (set.contains n.fresh q) ⊎ IsTrue (set.contains n.earlier q)
 in_either n q has = true_or _ _ (sym (contains-union nat_list_cmp_total n.fresh n.earlier q) ∙ has)
 
 pub in_fresh : (n : Noted) (q : Hash) → IsTrue (set.contains n.fresh q) → IsTrue (set.contains (noted_of n) q)
@@ -116,7 +120,8 @@ pub carried_from : (w w' : Nodes) (n n' : Noted) → AreCarried w n → w' ≡ w
     → ((q : Hash) → IsTrue (set.contains n.fresh q) → IsTrue (set.contains n'.fresh q)) → AreCarried w' n'
 carried_from w w' n n' k same earlier more = carried_as w w' n' n' (carried_more w n n' k earlier more) same refl
 
-pub carried_here : (n n' : Noted) (h : Hash) → n'.earlier ≡ n.earlier → (IsTrue (set.contains n.earlier h) → IsTrue (set.contains n'.fresh h))
+pub carried_here : (n n' : Noted) (h : Hash) → n'.earlier ≡ n.earlier
+    → (IsTrue (set.contains n.earlier h) → IsTrue (set.contains n'.fresh h))
     → IsTrue (set.contains n'.earlier h) → IsTrue (set.contains n'.fresh h)
 carried_here n n' h same carried has = carried (subst (λ (x : SetOf). IsTrue (set.contains x h)) same has)
 
@@ -129,7 +134,8 @@ carried_note w n n' h k (inr e) = carried_as w w (record n { fresh = set.insert 
 carried_insert : (w : Nodes) (n : Noted) (h : Hash) (form : Bytes) → AreCarried w n
     → (IsTrue (set.contains n.earlier h) → IsTrue (set.contains n.fresh h)) → AreCarried (map.insert w h form) n
 carried_insert w n h form k here q has held =
-    elim (eq_by_cmp hash_cmp q h) as (λ b. eq_by_cmp hash_cmp q h ≡ b → IsSome (cond b (Some form) (map.get w q)) → IsTrue (set.contains n.fresh q)) [
+    elim (eq_by_cmp hash_cmp q h) as (λ b. eq_by_cmp hash_cmp q h ≡ b → IsSome (cond b (Some form) (map.get w q))
+    → IsTrue (set.contains n.fresh q)) [
       | true ↦ λ tied _. subst (λ (x : Hash). IsTrue (set.contains n.fresh x)) (sym (tells_apart exact_bytes q h tied))
           (here (subst (λ (x : Hash). IsTrue (set.contains n.earlier x)) (tells_apart exact_bytes q h tied) has))
       | false ↦ λ _ there. k q has there
@@ -138,7 +144,8 @@ carried_insert w n h form k here q has held =
 pub carried_put : (w w' : Nodes) (d d' : Option Pair) (n : Noted) (h : Hash) (form : Bytes) → AreCarried w n
     → (IsTrue (set.contains n.earlier h) → IsTrue (set.contains n.fresh h)) → FailedPut w d (h, form) w' d' → AreCarried w' n
 carried_put w w' d d' n h form k here (inl (same, doubt)) = carried_as w w' n n k same refl
-carried_put w w' d d' n h form k here (inr (set', sure)) = carried_as (map.insert w h form) w' n n (carried_insert w n h form k here) set' refl
+carried_put w w' d d' n h form k here (inr (set', sure)) = carried_as (map.insert w h form) w' n n
+    (carried_insert w n h form k here) set' refl
 
 pub carried_copy : (w a w' : Nodes) (d d' : Option Pair) (n : Noted) (h : Hash) → AreCarried w n
     → (IsTrue (set.contains n.earlier h) → IsTrue (set.contains n.fresh h)) → Writes w a d h w' d' → AreCarried w' n
@@ -192,7 +199,8 @@ noted_then n n' h q (inr e) has =
 -- by the two sets' keys
 
 module _ {S : Type 0} (fresh earlier : HashSet Hash S) (h : Hash) where
-  pub has_fresh : IsTrue (contains (pointwise nat_eq) fresh h) → IsTrue (set.contains (noted_of (record { fresh = set.from_list fresh.keys; earlier = set.from_list earlier.keys })) h)
+  pub has_fresh : IsTrue (contains (pointwise nat_eq) fresh h)
+      → IsTrue (set.contains (noted_of (record { fresh = set.from_list fresh.keys; earlier = set.from_list earlier.keys })) h)
   has_fresh has = in_fresh (record { fresh = set.from_list fresh.keys; earlier = set.from_list earlier.keys }) h
       (sym (has_listed h fresh.keys) ∙ has)
 
@@ -205,5 +213,6 @@ module _ {S : Type 0} (fresh earlier : HashSet Hash S) (h : Hash) where
   pub in_earlier : IsTrue (contains (pointwise nat_eq) earlier h) → IsTrue (set.contains (set.from_list {R = hash_cmp} earlier.keys) h)
   in_earlier has = sym (has_listed h earlier.keys) ∙ has
 
-  pub not_in_earlier : (P : Type 0) → contains (pointwise nat_eq) earlier h ≡ false → IsTrue (set.contains (set.from_list {R = hash_cmp} earlier.keys) h) → P
+  pub not_in_earlier : (P : Type 0) → contains (pointwise nat_eq) earlier h ≡ false
+      → IsTrue (set.contains (set.from_list {R = hash_cmp} earlier.keys) h) → P
   not_in_earlier P none has = absurd (no_true (sym none ∙ has_listed h earlier.keys ∙ has))

@@ -1,6 +1,6 @@
 -- One branch of an inner node, read out of its prefix form.
-use Rattle.std.proofs.Common.{◌≡◌, ◌<◌, ◌+◌, ◌*◌, ◌==◌, ◌||◌, ◌++◌, not, ℕ, zero, suc, Bool, true, false, List, [], ◌∷◌, length, take, drop, nat_eq}
-use Rattle.std.proofs.Common.{IsTrue, Option, Some, None, refl, sym, ap, ◌∙◌, arith, inl, inr, drop-drop}
+use Rattle.std.proofs.Common.{◌≡◌, ◌<◌, ◌+◌, ◌*◌, ◌==◌, ◌||◌, ◌++◌, not, ℕ, zero, suc, Bool, true, false, List, [], ◌∷◌}
+use Rattle.std.proofs.Common.{length, take, drop, nat_eq, IsTrue, Option, Some, None, refl, sym, ap, ◌∙◌, arith, inl, inr, drop-drop}
 use Rattle.std.specs.List.{list_any, slice_index_or, starts_with}
 use Rattle.std.specs.Option.{is_some, option_map}
 use Rattle.std.proofs.lemmas.Bool.{cases_Bool, eq-eqb, eqb-true}

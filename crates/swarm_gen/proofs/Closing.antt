@@ -6,7 +6,7 @@ use Rattle.std.specs.List.{slice_get}
 use Rattle.std.proofs.lemmas.List.{get_or_past, map-append, take_more}
 use Rattle.ledger_spec.specs.Bytes.{Hash}
 use Rattle.cow_map.specs.declared.link.Link.{Link}
-use Rattle.cow_map.specs.declared.link.Link.TheVariants.{Empty, Unloaded, Own}
+use Rattle.cow_map.specs.declared.link.Link.TheVariants.{Empty, Own}
 use Rattle.cow_map.specs.Bodies.{Body, leaf, inner}
 use Rattle.cow_map.specs.Gathered.{branch_in}
 use Rattle.cow_map.proofs.Leading.{get_within}

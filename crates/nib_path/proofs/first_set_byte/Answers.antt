@@ -12,7 +12,8 @@ returns-then-byte-lt16 c =
 
 pub returns-else-byte-lt16 : goal.returns-else-byte-lt16
 returns-else-byte-lt16 c =
-    high_half c.args.id.now c.loop-at.at (2 * c.loop-at.at) (omega arith) (omega arith) (omega arith) (omega arith) ∙ sym c.loop-at.invariant
+    high_half c.args.id.now c.loop-at.at (2 * c.loop-at.at) (omega arith) (omega arith) (omega arith) (omega arith)
+    ∙ sym c.loop-at.invariant
 
 pub loop-at-preserved : goal.loop-at-preserved
 loop-at-preserved c =

@@ -25,7 +25,8 @@ returns-clause-rest g c = rw (← c.self.view_is) (
             ∙ spare_unready g.Sh.B.Backend.number (g.Sh.Shelf.live c.self.inside.shelf) _ _ c.self.inside.ready none,
         c.fresh.ensures.others,
       ),
-      ap (λ (x : ℕ). sum_of c.self.inside.past_gets (g.Sh.B.Backend.gets c.self.inside.writable) (g.Sh.B.Backend.gets c.self.inside.archive) x)
+      ap (λ (x : ℕ). sum_of c.self.inside.past_gets (g.Sh.B.Backend.gets c.self.inside.writable)
+          (g.Sh.B.Backend.gets c.self.inside.archive) x)
           (c.in_ok-fresh.ensures.uncounted.1 ∙ sym (none_counted g.Sh.B.Backend.gets c.self.inside.ready none)),
       refl,
     ))

@@ -11,9 +11,12 @@ invariant_of-self-in_err-put g c = (
       (c.get_either.ensures.first tells) (c.get_either.ensures.second tells)
       c.get_either.ensures.doubts.0 c.get_either.ensures.doubts.1 (c.in_ok-old.ensures.found tells) c.in_default.is
       (c.in_err-put.ensures.partly tells),
-  λ tells. carried_put (g.Sh.B.Backend.held c.get_either.new.first) _ (g.Sh.B.Backend.doubt c.get_either.new.first) _ c.carry.new.self c.args.h.now c.args.form.now
-      (carried_from (g.Sh.B.Backend.held c.self.inside.writable) _ c.self.inside.noted c.carry.new.self (c.self.invariant.2 tells) (c.get_either.ensures.first tells) c.carry.ensures.earlier c.carry.ensures.more)
-      (carried_here c.self.inside.noted c.carry.new.self c.args.h.now c.carry.ensures.earlier c.in_ok-carry.ensures.carried) (c.in_err-put.ensures.partly tells),
+  λ tells. carried_put (g.Sh.B.Backend.held c.get_either.new.first) _
+      (g.Sh.B.Backend.doubt c.get_either.new.first) _ c.carry.new.self c.args.h.now c.args.form.now
+      (carried_from (g.Sh.B.Backend.held c.self.inside.writable) _ c.self.inside.noted c.carry.new.self (c.self.invariant.2 tells)
+      (c.get_either.ensures.first tells) c.carry.ensures.earlier c.carry.ensures.more)
+      (carried_here c.self.inside.noted c.carry.new.self c.args.h.now c.carry.ensures.earlier c.in_ok-carry.ensures.carried)
+      (c.in_err-put.ensures.partly tells),
 )
 
 -- neither backend held the hash, so with the new pair the two maps agree, and a put that worked leaves none in doubt
@@ -24,8 +27,10 @@ invariant_of-self-2 g c = (
       (c.get_either.ensures.first tells) (c.get_either.ensures.second tells)
       c.get_either.ensures.doubts.0 c.get_either.ensures.doubts.1 (c.in_ok-old.ensures.found tells) c.in_default.is
       (inr (c.in_ok-put.ensures.set tells, c.in_ok-put.ensures.sure)),
-  λ tells. carried_put (g.Sh.B.Backend.held c.get_either.new.first) _ (g.Sh.B.Backend.doubt c.get_either.new.first) _ c.carry.new.self c.args.h.now c.args.form.now
-      (carried_from (g.Sh.B.Backend.held c.self.inside.writable) _ c.self.inside.noted c.carry.new.self (c.self.invariant.2 tells) (c.get_either.ensures.first tells) c.carry.ensures.earlier c.carry.ensures.more)
+  λ tells. carried_put (g.Sh.B.Backend.held c.get_either.new.first) _
+      (g.Sh.B.Backend.doubt c.get_either.new.first) _ c.carry.new.self c.args.h.now c.args.form.now
+      (carried_from (g.Sh.B.Backend.held c.self.inside.writable) _ c.self.inside.noted c.carry.new.self (c.self.invariant.2 tells)
+      (c.get_either.ensures.first tells) c.carry.ensures.earlier c.carry.ensures.more)
       (carried_here c.self.inside.noted c.carry.new.self c.args.h.now c.carry.ensures.earlier c.in_ok-carry.ensures.carried)
       (inr (c.in_ok-put.ensures.set tells, c.in_ok-put.ensures.sure)),
 )
