@@ -83,14 +83,20 @@ fn a_deep_map_is_built(rt: HostRuntime) -> Result<(), Fail> {
     Ok(())
 }
 
+/// The first byte of the key that stands twice.
+fn repeated(fault: BuildFault) -> u8 {
+    match fault {
+        BuildFault::Repeated(key) => key.bytes[0],
+        BuildFault::Memory => 0,
+    }
+}
+
 #[test]
 fn the_least_key_that_stands_twice_is_named(rt: HostRuntime) -> Result<(), Fail> {
     let alloc = rt.alloc();
     let items = items(alloc, &[(3, 0), (2, 0), (1, 0), (3, 0), (2, 0)])?;
-    let named = match build(&rt, alloc, Kind::State, items, 4) {
-        Err(BuildFault::Repeated(key)) => key.bytes[0],
-        _ => 0,
-    };
+    let fault = build(&rt, alloc, Kind::State, items, 4).err();
+    let named = repeated(fault.ok_or("built")?);
     assert_eq!(rt; named, 2);
     Ok(())
 }

@@ -7,6 +7,6 @@ mod builds;
 #[cfg(test)]
 mod maps;
 #[cfg(test)]
-mod stores;
+mod records;
 #[cfg(test)]
 mod wires;

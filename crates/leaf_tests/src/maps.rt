@@ -1,15 +1,13 @@
 //! A map that is edited over a ledger's root.
-use crate::stores::{key, stored};
+use crate::records::{Records, key, known_records};
 use cow_map::CowMap;
 use half_hash::{Blob, TinyHash};
-use node_backend::MemShelf;
-use rotating_store::RotStore;
 use shamap_node::{Item, Kind};
 use std::alloc::Global;
 use std::test::Fail;
 
-/// Steps over the root DE, and what is sealed then: the first byte of the root and of each form's hash, in hex. `keep` takes a snapshot,
-/// and `old` goes back to it. What the ledger has is made by nobody.
+/// Steps over the root DE, with the first byte of a key as a number, and what is sealed then: the first byte of the root and of each form's
+/// hash, in hex. `keep` takes a snapshot, and `old` goes back to it. What the ledger has is made by nobody.
 const STEPS: &str = "keep => DE
 del 32 => DE
 put 17 => BF FD DB BF
@@ -27,33 +25,40 @@ struct Maps {
     kept: CowMap,
 }
 
+fn put(alloc: Global, map: &mut CowMap, source: &mut Records, at: &str) -> Result<(), Fail> {
+    let value = Blob::from_slice(alloc, &[5])?;
+    let item = Item::new(key(at)?, value).ok().ok_or("no item")?;
+    let put = map.put::<TinyHash, Records>(alloc, source, item);
+    put.ok().ok_or("no put")?;
+    Ok(())
+}
+
+fn remove(alloc: Global, map: &mut CowMap, source: &mut Records, at: &str) -> Result<(), Fail> {
+    let at = key(at)?;
+    let removed = map.remove::<TinyHash, Records>(alloc, source, &at);
+    removed.ok().ok_or("not removed")?;
+    Ok(())
+}
+
 fn step(
     alloc: Global,
     maps: &mut Maps,
-    store: &mut RotStore<MemShelf>,
+    source: &mut Records,
     word: &str,
     at: &str,
 ) -> Result<(), Fail> {
     match word {
-        "put" => {
-            let value = Blob::from_slice(alloc, &[5])?;
-            let item = Item::new(key(at)?, value).ok().ok_or("no item")?;
-            let put = maps
-                .map
-                .put::<TinyHash, RotStore<MemShelf>>(alloc, store, item);
-            put.ok().ok_or("no put")?;
+        "put" => put(alloc, &mut maps.map, source, at),
+        "del" => remove(alloc, &mut maps.map, source, at),
+        "keep" => {
+            maps.kept = maps.map.snapshot(alloc)?;
+            Ok(())
         }
-        "del" => {
-            let at = key(at)?;
-            let removed = maps
-                .map
-                .remove::<TinyHash, RotStore<MemShelf>>(alloc, store, &at);
-            removed.ok().ok_or("not removed")?;
+        _ => {
+            maps.map = maps.kept.snapshot(alloc)?;
+            Ok(())
         }
-        "keep" => maps.kept = maps.map.snapshot(alloc)?,
-        _ => maps.map = maps.kept.snapshot(alloc)?,
     }
-    Ok(())
 }
 
 /// The first bytes of the root and of each form's hash.
@@ -70,14 +75,14 @@ fn sealed(alloc: Global, map: &CowMap) -> Result<String, Fail> {
 #[test]
 fn a_map_over_a_ledger(rt: HostRuntime) -> Result<(), Fail> {
     let alloc = rt.alloc();
-    let mut store = stored(alloc)?;
+    let mut source = known_records(alloc)?;
     let map = CowMap::over(alloc, Kind::State, &key("222")?);
     let kept = CowMap::new(alloc, Kind::State);
     let mut maps = Maps { map, kept };
     for line in STEPS.lines() {
         let (words, says) = line.split_once(" => ").ok_or("answer")?;
         let (word, at) = words.split_once(' ').unwrap_or((words, "0"));
-        step(alloc, &mut maps, &mut store, word, at)?;
+        step(alloc, &mut maps, &mut source, word, at)?;
         let said = sealed(alloc, &maps.map)?;
         assert_eq!(rt; said.as_str(), says, "{line}");
     }
