@@ -8,8 +8,9 @@ use std::alloc::Global;
 use std::sync::Arc;
 use std::test::Fail;
 
-/// What follows the word `store`, and the first byte of the hash as a number, or the cause of the refusal. `]` stands for 62 zeros, and `_`
-/// for 64. Under DE (222) stands an account state of one item, whose key begins with 10 (16); under BF (191) there is one at 11 (17) beside.
+/// What follows the word `store`, and the first byte of the hash as a number, or the cause of the refusal. `]` stands for 62 zeros, and
+/// `_` for 64. Under DE (222) stands an account state of one item, whose key begins with 10 (16); under BF (191) there is one more, at
+/// 11 (17).
 const RECORDS: &str = " FA] 4D4C4E00010210] => 250
  FD] 4D4C4E000511] => 253
  DE] 4D494E00_FA]______________ => 222

@@ -1,7 +1,7 @@
 //! Wire forms of inner nodes: up to eleven branches are sent as chunks, more as all sixteen hashes, and either form is read.
 use half_hash::{Half512, Hash32};
 use node_wire::{decode_wire, encode_wire};
-use shamap_node::{Inner, Node, encode_form, hash_of};
+use shamap_node::{Inner, Node, hash_of};
 use std::alloc::Global;
 use std::test::Fail;
 
@@ -14,10 +14,7 @@ fn either_form_is_read(rt: HostRuntime) -> Result<(), Fail> {
     for (branches, size, other_size) in &SIZES {
         let node = inner(*branches)?;
         let wire = encode_wire(alloc, &node)?;
-        let mut other = chunks(alloc, &node)?;
-        if *branches < 12 {
-            other = hashes(alloc, &node)?;
-        }
+        let other = wire_of(alloc, &node, *branches < 12)?;
         assert_eq!(rt; wire.bytes().len(), *size);
         assert_eq!(rt; other.len(), *other_size);
         assert!(rt; is_of(alloc, wire.bytes(), &node), "{branches}");
@@ -39,28 +36,21 @@ fn inner(branches: usize) -> Result<Node, Fail> {
     Ok(Node::Inner(Inner::new(hashes).ok_or("no branch")?))
 }
 
-/// Its sixteen hashes.
-fn hashes(alloc: Global, node: &Node) -> Result<Vec<u8>, Fail> {
-    let form = encode_form(alloc, node)?;
-    let rest = form.bytes().get(4..).ok_or("short")?;
-    let mut wire = Vec::from_slice(alloc, rest)?;
-    wire.push(2)?;
-    Ok(wire)
-}
-
-/// Each hash that isn't zero, and its branch.
-fn chunks(alloc: Global, node: &Node) -> Result<Vec<u8>, Fail> {
+/// Its sixteen hashes, or each that isn't zero with its branch.
+fn wire_of(alloc: Global, node: &Node, is_whole: bool) -> Result<Vec<u8>, Fail> {
     let mut wire = Vec::new(alloc);
     if let Node::Inner(inner) = node {
         for b in 0..16u8 {
             let hash = inner.branch(b);
-            if !hash.is_zero() {
+            if is_whole {
+                wire.extend_from_slice(&hash.bytes)?;
+            } else if !hash.is_zero() {
                 wire.extend_from_slice(&hash.bytes)?;
                 wire.push(b)?;
             }
         }
     }
-    wire.push(3)?;
+    wire.push(if is_whole { 2 } else { 3 })?;
     Ok(wire)
 }
 
