@@ -15,12 +15,13 @@ use Rattle.missing_walk.specs.Sees.{Seen, is_over, noted, sees, found_in_maps}
 use Rattle.tree_laws.specs.Walks.{finding_of, found_below}
 use Rattle.missing_walk.proofs.Noting.{sees-append, sees_one}
 
-maps_found : (half : Half) (nodes : Lookup) (bytes : Bytes)
+pub maps_found : (half : Half) (nodes : Lookup) (bytes : Bytes)
     → found_in_maps half nodes bytes ≡ found_below half nodes State 64 None []
     (state_root_of bytes) ++ found_below half nodes Tx 64 None [] (tx_root_of bytes)
 unfolding found_in_maps found_below walk_map
 maps_found half nodes bytes =
-    filter_map-append finding_of (walk half nodes State 64 None [] (state_root_of bytes)) (walk half nodes Tx 64 None [] (tx_root_of bytes))
+    filter_map-append finding_of (walk half nodes State 64 None [] (state_root_of bytes)) (walk half nodes Tx 64 None []
+    (tx_root_of bytes))
 
 -- below a root
 from_root : (half : Half) (nodes : Lookup) (kind : Kind) (path : List ℕ) (h root : Hash) → path ≡ [] → h ≡ root
@@ -41,7 +42,7 @@ walked_maps half nodes bytes path state tx s mid after top state_is tx_is first 
     ∙ sym (sees-append s below_state below_tx)
     ∙ ap (sees s) (sym (maps_found half nodes bytes))
 
-from_header : (half : Half) (nodes : Lookup) (target : Hash) (sight : Sight) → header_sight (nodes target) ≡ sight
+pub from_header : (half : Half) (nodes : Lookup) (target : Hash) (sight : Sight) → header_sight (nodes target) ≡ sight
     → findings half nodes target ≡ cons_option (finding_at Header sight) (filter_map finding_of (maps_of half nodes sight))
 unfolding walk_ledger
 from_header half nodes target sight e = ap (λ x. cons_option (finding_at Header x) (filter_map finding_of (maps_of half nodes x))) e

@@ -25,7 +25,7 @@ use Rattle.tree_laws.proofs.Below.{below_zero, below_end, below_inner, in_more, 
 shows : (a b : Look) (sight : Sight) → a ≡ b → LooksAs a sight → LooksAs b sight
 shows a b sight e h = subst (λ x. LooksAs x sight) e h
 
-leaf_end : (sight : Sight) (place : Rattle.ledger_spec.specs.declared.Place.Place) → is_sound_leaf sight ≡ true
+pub leaf_end : (sight : Sight) (place : Rattle.ledger_spec.specs.declared.Place.Place) → is_sound_leaf sight ≡ true
     → cons_option (finding_at place sight) [] ≡ []
 leaf_end (sound (leaf kind key bytes)) place e = refl
 leaf_end (sound (inner hashes)) place e = cc
@@ -33,7 +33,7 @@ leaf_end (sound (header bytes)) place e = cc
 leaf_end missing place e = cc
 leaf_end (broken fault) place e = cc
 
-leaf_bare : (sight : Sight) → is_sound_leaf sight ≡ true → (each : List Hash → List Met) → branches_of sight each ≡ []
+pub leaf_bare : (sight : Sight) → is_sound_leaf sight ≡ true → (each : List Hash → List Met) → branches_of sight each ≡ []
 leaf_bare (sound (leaf kind key bytes)) e each = refl
 leaf_bare (sound (inner hashes)) e each = cc
 leaf_bare (sound (header bytes)) e each = refl
@@ -53,7 +53,7 @@ sight_pass : (half : Half) (rules : Held → Option ShapeFault) (form : Option B
 sight_pass half rules None n e = cc
 sight_pass half rules (Some form) n e = rules_pass rules (held_of half form) n e
 
-no_fault : (t : Bool) (fault : ShapeFault) → (if t then Some fault else None) ≡ None → t ≡ false
+pub no_fault : (t : Bool) (fault : ShapeFault) → (if t then Some fault else None) ≡ None → t ≡ false
 no_fault true fault e = cc
 no_fault false fault e = refl
 
@@ -66,7 +66,7 @@ has_below half kind parent path form (look.Inner i) shown =
     no_fault (length path == 64) InnerAtBottom (sight_pass half (λ n. fault_of n parent kind path) form (inner i.hashes) shown)
 has_below half kind parent path form look.Leaf shown = tt
 
-above_bottom : (n : ℕ) → n ≤ 64 → (n == 64) ≡ false → n < 64
+pub above_bottom : (n : ℕ) → n ≤ 64 → (n == 64) ≡ false → n < 64
 above_bottom n h e = grind (arith, nat_tests)
 
 pub above_inner : (seen : Look) (node : Inner) (n : ℕ) → seen ≡ look.Inner node → HasBelow n seen → n ≤ 64 → n < 64

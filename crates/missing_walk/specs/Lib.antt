@@ -1,3 +1,13 @@
 pub mod Faults
 pub mod Founds
 pub mod Sees
+pub mod Pending
+pub mod Views
+pub mod Stacks
+pub mod Searching
+pub mod Moves
+pub mod Places
+pub mod Begins
+pub mod Ends
+pub mod Passes
+pub mod Rests

@@ -19,19 +19,29 @@ ghost use Rattle.missing_walk.specs.Founds.{HasNoHeader, IsFound};
 ghost use Rattle.missing_walk.specs.Sees.{Finds, IsHeaderOf, Walks, shown, nothing_seen, sees, is_over as has_ended, noted, found_in_maps};
 
 mod descent;
+mod ending;
+mod entering;
 mod fault;
+mod laws;
+mod search;
 mod sight;
+mod stack;
+mod todo;
+mod view;
 
 use descent::walk;
 pub use fault::SearchFault;
 use half_hash::{Hash32, Memory, NodeHash};
+pub use laws::{a_new_search_keeps_the_rule, a_turn_keeps_the_rule, growth_keeps_the_rule};
 use ledger_header::Header;
 use ledger_spec::{Kind, Place, Places, ShapeFault};
 use nib_path::NodeId;
 use node_backend::{BackFault, Shelf};
 use own_forms::own_form;
 use rotating_store::RotStore;
+pub use search::{Search, Slice};
 use std::alloc::Global;
+pub use todo::{Open, Todo};
 
 /// The most missing places that a search finds.
 const MOST_MISSING: usize = 256;

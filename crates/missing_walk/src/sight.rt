@@ -1,5 +1,5 @@
 //! What is seen at one place.
-ghost use Rattle.std.specs.Prelude.{◌≡◌, ◌+◌, ◌&&◌, [], if◌then◌else◌, length, nat_eq, nat_le, None, Some};
+ghost use Rattle.std.specs.Prelude.{◌≡◌, ◌+◌, ◌≤◌, ◌&&◌, [], if◌then◌else◌, length, nat_eq, nat_le, None, Some};
 ghost use Rattle.std.specs.Option.{option_map};
 ghost use Rattle.std.specs.List.{starts_with};
 ghost use Rattle.std.specs.Prelude.{IsTrue, IfOk, IfErr};
@@ -48,6 +48,7 @@ pub(crate) fn look<H: NodeHash, Sh: Shelf>(
         (λ n. fault_of n (hashes_above parent.entry) kind id.now) (own_forms H.half (map.get (nodes_of store.old)) hash.now))) }
     ensures inner { IfOk result (HasBelow (length id.now)) }
     ensures read { WasRead Sh.B.tells H.half store.old store.new }
+    ensures few { store.new.gets ≤ store.old.gets + 2 }
     ensures fault { IfErr result (λ e. e ≡ BackFault.Fault → Rose store.old.faults store.new.faults) }
 {
     match own_form::<H, Sh>(alloc, store, hash)? {

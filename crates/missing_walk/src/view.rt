@@ -1,0 +1,196 @@
+//! What a search sees at a place: what is marked or cached is not asked of the store.
+ghost use Rattle.std.specs.Prelude.{◌≡◌, ◌+◌, ◌≤◌, true, false, None, Some, IfOk, IfErr, OnOk, OnErr, length};
+ghost use Rattle.run_io.specs.Bytes.{Rose};
+ghost use Rattle.ledger_spec.specs.Bytes.{Lookup, is_zero};
+ghost use Rattle.ledger_spec.specs.Findings.{seen_as, sound as sound_node};
+ghost use Rattle.ledger_spec.specs.Rules.{fault_of};
+ghost use Rattle.shamap_node.specs.Nodes.{held, hashes_above};
+ghost use Rattle.own_forms.specs.Reading.{WasRead};
+ghost use Rattle.tree_laws.specs.Walks.{at_place};
+ghost use Rattle.full_below.specs.Marking.{AreMarked, is_marked};
+ghost use Rattle.missing_walk.specs.Passes.{SeesNothing, StillMarked};
+ghost use Rattle.tree_cache.specs.Caching.{AreCached, shown as shown_node, cached as cached_in, after_get};
+ghost use Rattle.missing_walk.specs.Pending.{above, branches_in, pending_of, IsFull, IsCachedTrue};
+ghost use Rattle.missing_walk.specs.Views.{Tells, Views, ShowsAs, KeepsMarks, KeepsCache, HasLevels, MayPut, is_inner_node};
+ghost use Rattle.missing_walk.specs.Rests.{weight, stored_weight, Weighs};
+ghost use Rattle.shamap_node.specs.declared.Node.TheVariants as nodes;
+
+use crate::sight::{Sight, look};
+use crate::todo::Todo;
+use full_below::Marks;
+use half_hash::{Hash32, NodeHash};
+use ledger_spec::ShapeFault;
+use node_backend::{BackFault, Shelf};
+use rotating_store::RotStore;
+use shamap_node::{Inner, Node, shape};
+use std::alloc::Global;
+use std::sync::Arc;
+use tree_cache::TreeCache;
+
+/// What is seen at a place: its hash isn't stored, it breaks a rule, it has an inner node to go below, or nothing is found at it and
+/// below.
+#[derive(Drop)]
+pub(crate) enum View {
+    Missing,
+    Broken(ShapeFault),
+    Below(Arc<Node>),
+    Nothing,
+}
+
+/// What is seen at a place. It asks each backend at most once.
+pub(crate) fn see<H: NodeHash, Sh: Shelf>(
+    alloc: Global,
+    store: &mut RotStore<Sh>,
+    cache: &mut TreeCache,
+    marks: &mut Marks,
+    todo: &Todo,
+) -> Result<View, BackFault>
+    ensures view { (nodes : Lookup) → Tells Sh.B.tells H.half store.old nodes → AreMarked (IsFull H.half nodes) marks.old
+        → AreCached (IsCachedTrue H.half nodes) cache.old → IfOk result (Views H.half nodes (pending_of todo.now)) }
+    ensures weighs { (nodes : Lookup) → Tells Sh.B.tells H.half store.old nodes → AreMarked (IsFull H.half nodes) marks.old
+        → AreCached (IsCachedTrue H.half nodes) cache.old → is_zero todo.now.at.hash ≡ false
+        → IfOk result (Weighs (weight H.half nodes) (stored_weight H.half nodes) (pending_of todo.now)) }
+    ensures levels { IfOk result (HasLevels (length todo.now.at.id)) }
+    ensures short { length todo.now.at.id ≤ 64 }
+    ensures cache { (nodes : Lookup) → Tells Sh.B.tells H.half store.old nodes
+        → KeepsCache (IsCachedTrue H.half nodes) cache.old cache.new }
+    ensures marks { KeepsMarks marks.old marks.new }
+    ensures generation { cache.new.generation ≡ cache.old.generation }
+    ensures passes { is_marked marks.old todo.now.at ≡ true → SeesNothing result }
+    ensures still { is_marked marks.old todo.now.at ≡ true → StillMarked marks.old marks.new }
+    ensures idle { is_marked marks.old todo.now.at ≡ true → store.new.gets ≡ store.old.gets }
+    ensures read { WasRead Sh.B.tells H.half store.old store.new }
+    ensures few { store.new.gets ≤ store.old.gets + 2 }
+    ensures fault { IfErr result (λ e. e ≡ BackFault.Fault → Rose store.old.faults store.new.faults) }
+{
+    todo.at.id.known();
+    // no place without a hash is put on the stack
+    if todo.at.hash.is_zero() {
+        return Ok(View::Nothing);
+    }
+    if marks.is_full(&todo.at) {
+        return Ok(View::Nothing);
+    }
+    match cached(cache, &todo.at.hash)? {
+        Some(node) => Ok(judge(node, todo)),
+        None => Ok(fetch::<H, Sh>(alloc, store, cache, todo)?),
+    }
+}
+
+// The node that is cached under the hash.
+fn cached(cache: &mut TreeCache, h: &Hash32) -> Result<Option<Arc<Node>>, BackFault>
+    ensures value { IfOk result (λ o. shown_node o ≡ cached_in cache.old h.now cache.old.generation) }
+    ensures used { OnOk result (cache.new ≡ after_get cache.old h.now cache.old.generation) }
+    ensures err { OnErr result (cache.new ≡ cache.old) }
+    ensures fault { IfErr result (λ e. e ≡ BackFault.Memory) }
+{
+    let generation = cache.generation();
+    match cache.get(h, generation) {
+        Ok(node) => Ok(node),
+        Err(_) => Err(BackFault::Memory),
+    }
+}
+
+// What is seen where this node stands.
+fn judge(node: Arc<Node>, todo: &Todo) -> View
+    ensures shows { ShowsAs result (seen_as (held node.value)
+        (fault_of (held node.value) (above todo.now.parent) todo.now.at.kind todo.now.at.id)) }
+    ensures levels { HasLevels (length todo.now.at.id) result }
+{
+    match shape(&node, inner_above(&todo.parent), todo.at.kind, &todo.at.id) {
+        Ok(()) => below_or_nothing(node),
+        Err(fault) => View::Broken(fault),
+    }
+}
+
+// What is seen where this node belongs.
+fn below_or_nothing(node: Arc<Node>) -> View
+    ensures { ShowsAs result (sound_node (held node.value)) }
+{
+    if is_inner(&node) {
+        View::Below(node)
+    } else {
+        View::Nothing
+    }
+}
+
+fn is_inner(node: &Node) -> bool
+    ensures { result ≡ is_inner_node node.now }
+{
+    matches!(node, Node::Inner(_))
+}
+
+// The inner node above a place.
+fn inner_above(parent: &Option<Arc<Node>>) -> Option<&Inner>
+    ensures { hashes_above result ≡ above parent.now }
+{
+    match parent {
+        None => None,
+        Some(node) => inner_in(node),
+    }
+}
+
+fn inner_in(node: &Node) -> Option<&Inner>
+    ensures { hashes_above result ≡ branches_in node.now }
+{
+    match node {
+        Node::Inner(inner) => Some(inner),
+        Node::Leaf(_) => None,
+    }
+}
+
+// What is seen where the store is asked. An inner node is cached, where memory for that is there.
+fn fetch<H: NodeHash, Sh: Shelf>(
+    alloc: Global,
+    store: &mut RotStore<Sh>,
+    cache: &mut TreeCache,
+    todo: &Todo,
+) -> Result<View, BackFault>
+    ensures shows { (nodes : Lookup) → Tells Sh.B.tells H.half store.old nodes → IfOk result (λ v. ShowsAs v
+        (at_place H.half nodes todo.now.at.kind (above todo.now.parent) todo.now.at.id todo.now.at.hash)) }
+    ensures levels { IfOk result (HasLevels (length todo.now.at.id)) }
+    ensures cache { (nodes : Lookup) → Tells Sh.B.tells H.half store.old nodes
+        → KeepsCache (IsCachedTrue H.half nodes) cache.old cache.new }
+    ensures generation { cache.new.generation ≡ cache.old.generation }
+    ensures read { WasRead Sh.B.tells H.half store.old store.new }
+    ensures few { store.new.gets ≤ store.old.gets + 2 }
+    ensures fault { IfErr result (λ e. e ≡ BackFault.Fault → Rose store.old.faults store.new.faults) }
+{
+    let parent = inner_above(&todo.parent);
+    match look::<H, Sh>(
+        alloc,
+        store,
+        todo.at.kind,
+        parent,
+        &todo.at.id,
+        &todo.at.hash,
+    )? {
+        Sight::Missing => Ok(View::Missing),
+        Sight::Broken(fault) => Ok(View::Broken(fault)),
+        Sight::Inner(inner) => Ok(View::Below(keep(alloc, cache, &todo.at.hash, inner)?)),
+        Sight::Leaf => Ok(View::Nothing),
+    }
+}
+
+// The inner node that is held under the hash, put into the cache where memory for that is there.
+fn keep(
+    alloc: Global,
+    cache: &mut TreeCache,
+    h: &Hash32,
+    inner: Inner,
+) -> Result<Arc<Node>, BackFault>
+    ensures node { IfOk result (λ node. node.value ≡ nodes.Inner inner) }
+    ensures cache { MayPut cache.old h.now inner cache.new }
+    ensures generation { cache.new.generation ≡ cache.old.generation }
+    ensures fault { IfErr result (λ e. e ≡ BackFault.Memory) }
+{
+    let Ok(node) = Arc::new(alloc, Node::Inner(inner)) else {
+        return Err(BackFault::Memory);
+    };
+    let Ok(again) = Arc::try_clone(&node) else {
+        return Err(BackFault::Memory);
+    };
+    let generation = cache.generation();
+    let _kept = cache.put_hashed(h, again, generation);
+    Ok(node)
+}
