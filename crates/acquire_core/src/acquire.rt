@@ -4,7 +4,7 @@ ghost use Rattle.std.specs.Option.{option_copied};
 ghost use Rattle.run_io.specs.Bytes.{Rose};
 ghost use Rattle.ledger_spec.specs.Bytes.{is_nonzero};
 ghost use Rattle.ledger_spec.specs.Own.{AreStored};
-ghost use Rattle.ledger_spec.specs.Peers.{added, after_adding, ticked, after_tick, most_ticks};
+ghost use Rattle.ledger_spec.specs.Peers.{added, after_adding, is_present, ticked, after_tick, most_ticks};
 ghost use Rattle.ledger_spec.specs.Acquiring.{acquiring, after_verdict};
 ghost use Rattle.own_forms.specs.Reading.{IsLater, IsReadable};
 ghost use Rattle.missing_walk.specs.Founds.{IsFound};
@@ -72,6 +72,13 @@ impl Acquire {
             Added::Added => PeerReply::Added,
             Added::Known => PeerReply::Known,
         })
+    }
+
+    /// Whether the peer is present.
+    pub fn has(&self, peer: u16) -> bool
+        ensures { result ≡ is_present self.now.peers peer }
+    {
+        self.peers.has(peer)
     }
 
     /// Takes a base reply of a peer that is present: a header, and the roots of its maps where they are given, each judged over what

@@ -220,11 +220,12 @@ module _ (lines : List Line) (journal : List Entry) (servable : AreServable line
             ∙ (list_any-append (λ (x : Entry). x.line == line.number) journal (e ∷ [])
             ∙ rw here (last (is_answered journal line.number)))
 
--- what is neither blocked nor finished was answered
-pub no_other : (r : Stepped) → (r ≡ step.Answered → ⊥) → (r ≡ step.Blocked → ⊥) → (r ≡ step.Finished → ⊥) → ⊥
-no_other step.Answered a b f = a refl
-no_other step.Blocked a b f = b refl
-no_other step.Finished a b f = f refl
+-- what is neither a slice, nor blocked, nor finished was answered
+pub no_other : (r : Stepped) → (r ≡ step.Answered → ⊥) → (r ≡ step.More → ⊥) → (r ≡ step.Blocked → ⊥) → (r ≡ step.Finished → ⊥) → ⊥
+no_other step.Answered a m b f = a refl
+no_other step.More a m b f = m refl
+no_other step.Blocked a m b f = b refl
+no_other step.Finished a m b f = f refl
 
 -- what a place of a copy of the lines reads
 pub read_line : (lines ls : List Line) (at : ℕ) (line : Line) → ls ≡ lines → line ≡ get_or ls at line → line ≡ get_or lines at line

@@ -20,6 +20,9 @@ use store_core::{Core, Stepped};
 /// How many actors there are, numbered from 0.
 const ACTORS: u8 = 64;
 
+/// The most sections of a swap: 64 slices, and the one that answers.
+const SECTIONS: u32 = 65;
+
 /// How often a worker tries a line that waits before it leaves it to the next round.
 const TRIES: u32 = 64;
 
@@ -132,17 +135,34 @@ fn answer<R: Wait, H: NodeHash, Sh: Shelf, G: Gate, J: Pinned>(
     actor: u8,
 ) -> bool {
     for _ in 0..TRIES {
-        gate.pass(actor, Point::BeforeCommit);
-        match step_locked(rt, alloc, shared, actor) {
+        match try_line(rt, alloc, shared, gate, actor) {
             Stepped::Answered => {
                 gate.pass(actor, Point::Answered);
                 return true;
             }
-            Stepped::Blocked => thread::yield_now(),
+            Stepped::Blocked | Stepped::More => thread::yield_now(),
             Stepped::Finished => return false,
         }
     }
     false
+}
+
+/// Does sections of the actor's next line as long as each is a slice of a swap, of which a rotation has few.
+fn try_line<R: Wait, H: NodeHash, Sh: Shelf, G: Gate, J: Pinned>(
+    rt: &R,
+    alloc: Global,
+    shared: &Mutex<Shared<H, Sh, J>>,
+    gate: &G,
+    actor: u8,
+) -> Stepped {
+    for _ in 0..SECTIONS {
+        gate.pass(actor, Point::BeforeCommit);
+        match step_locked(rt, alloc, shared, actor) {
+            Stepped::More => gate.pass(actor, Point::BetweenSlices),
+            stepped => return stepped,
+        }
+    }
+    Stepped::More
 }
 
 /// Answers every line that has no entry yet, in line order.
@@ -181,7 +201,7 @@ fn run_line<H: NodeHash, Sh: Shelf, G: Gate>(
         return;
     }
     gate.pass(actor, Point::BeforeCommit);
-    match core.step(alloc, actor) {
+    match core.step_whole(alloc, actor) {
         Stepped::Answered => gate.pass(actor, Point::Answered),
         _ => unreachable!(),
     }

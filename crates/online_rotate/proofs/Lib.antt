@@ -1,5 +1,1 @@
-pub mod Queues
-pub mod Copying
-pub mod Walking
 pub mod Rotating
-pub mod Sets

@@ -1,18 +1,16 @@
 -- What a copy of all that some hashes reach does to the two backends.
-use Rattle.std.specs.Prelude.{◌≡◌, ◌≢◌, ◌⊎◌, IsTrue, List, [], Option, None, Some, Result, OnOk, OnErr}
+use Rattle.std.specs.Prelude.{◌≡◌, ◌≢◌, ◌⊎◌, IsTrue, List, None, Some, Result, OnOk, OnErr}
+use Rattle.std.specs.List.{Contains}
 use Rattle.std.specs.FinMap as finite
 use Rattle.ledger_spec.specs.Bytes.{Bytes, Hash, Lookup, Nodes}
-use Rattle.ledger_spec.specs.Reach.{Reach, kids}
+use Rattle.ledger_spec.specs.Reach.{Reach, Stored}
 use Rattle.std.specs.FinSet as set
 use Rattle.run_io.specs.Bytes.{Rose}
-use Rattle.rotating_store.specs.Stores.{Store, nodes_of, born_of, SamePast}
+use Rattle.rotating_store.specs.Stores.{Store, nodes_of, born_of}
 use Rattle.rotating_store.specs.declared.store.StoreFault.{StoreFault}
 use Rattle.rotating_store.specs.declared.store.StoreFault.TheVariants as fault
-
--- what is stored names these
-abbrev pub kids_at : Option Bytes → List Hash
-kids_at None = []
-kids_at (Some form) = kids form
+use Rattle.copy_walk.specs.Walks.{Walk, Colours}
+use Rattle.copy_walk.specs.Walks as walks
 
 -- what the writable backend has besides what it had is reached
 abbrev pub OnlyReached : Lookup → List Hash → Nodes → Nodes → Type 0
@@ -23,14 +21,6 @@ OnlyReached nodes shaded w w' = (h : Hash) (form : Bytes) → finite.get w' h �
 abbrev pub KeepsWritten : Nodes → Nodes → Type 0
 KeepsWritten w w' = (h : Hash) (form : Bytes) → finite.get w h ≡ Some form → finite.get w' h ≡ Some form
 
--- at most this hash's form was copied
-pub record CopiesOne (h : Hash) (s s' : Store) : Type 0 where
-  pub nodes : nodes_of s' ≡ nodes_of s
-  pub archive : s'.archive ≡ s.archive
-  pub others : (q : Hash) (form : Bytes) → finite.get s'.writable q ≡ Some form → (finite.get s.writable q ≡ Some form)
-      ⊎ ((q ≡ h) × (finite.get (nodes_of s) q ≡ Some form))
-  pub kept : KeepsWritten s.writable s'.writable
-
 -- some of what the hashes reach was copied: the store's one map and the archive are as before
 pub record CopiesSome (shaded : List Hash) (s s' : Store) : Type 0 where
   pub nodes : nodes_of s' ≡ nodes_of s
@@ -38,18 +28,17 @@ pub record CopiesSome (shaded : List Hash) (s s' : Store) : Type 0 where
   pub kept : KeepsWritten s.writable s'.writable
   pub only : OnlyReached (finite.get (nodes_of s)) shaded s.writable s'.writable
 
--- all of it is in the writable backend
-abbrev pub HasReached : List Hash → Store → Type 0
-HasReached shaded s = (h : Hash) → Reach (finite.get (nodes_of s)) shaded h → finite.get s.writable h ≡ finite.get (nodes_of s) h
+-- A walk that copies what the hashes reach: the colours are as they should be; each of the hashes that is stored is shaded; and what is
+-- shaded and stored is reached.
+pub record IsWalking (shaded : List Hash) (w : Walk) (s : Store) : Type 0 where
+  pub colours : Colours (finite.get (nodes_of s)) (finite.get s.writable) w
+  pub told : (h : Hash) → Contains shaded h → Stored (finite.get (nodes_of s)) h → Contains (walks.shaded w) h
+  pub kept : (h : Hash) → Contains (walks.shaded w) h → Stored (finite.get (nodes_of s)) h → Reach (finite.get (nodes_of s)) shaded h
 
 -- what both backends have is reached: nothing was copied but that
 abbrev pub IsFit : List Hash → Store → Type 0
 IsFit shaded s = (h : Hash) → finite.get s.writable h ≢ None → finite.get s.archive h ≢ None
     → Reach (finite.get (nodes_of s)) shaded h
-
--- the epoch, what is past, what is ready and what is noted are as before
-abbrev pub SameRest : Store → Store → Type 0
-SameRest s s' = SamePast s s' × (s'.ready ≡ s.ready) × (s'.noted ≡ s.noted)
 
 -- A rotation: what is stored is what was, and all that these hashes reach is there, with nothing else but what the writable backend had.
 -- That one is empty now.

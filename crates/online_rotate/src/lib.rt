@@ -1,9 +1,7 @@
-//! A rotation in one section: what the hashes that were shaded reach is copied forward, and the archive is dropped.
+//! A rotation: what is kept is copied forward in slices, and at its end the archive is dropped.
 #![tactic(auto)]
 
-mod copy;
-mod kids;
-mod queue;
 mod rotator;
 
-pub use rotator::{Begun, Left, Rotator};
+pub use copy_walk::Left;
+pub use rotator::{Begun, Rotator};

@@ -1,20 +1,20 @@
-//! The rotator: it is told what to keep, and swaps when that was copied.
-ghost use Rattle.std.specs.Prelude.{◌≡◌, ◌≤◌, ◌<◌, ◌+◌, ◌-◌, ◌^◌, true, false, [], IsTrue};
+//! The rotator: a walk from the roots, which is told of what is written meanwhile, and the swap once nothing is grey.
+ghost use Rattle.std.specs.Prelude.{◌≡◌, ◌≤◌, ◌<◌, ◌+◌, ◌-◌, ◌^◌, true, false, [], ℕ, List, IsTrue};
 ghost use Rattle.std.specs.Prelude.{IsSome, IfOk, IfErr, IsOk, OnOk, OnErr, Ok, Err};
 ghost use Rattle.run_io.specs.Bytes.{Rose};
 ghost use Rattle.rotating_store.specs.Puts.{IsPlain};
 ghost use Rattle.rotating_store.specs.Stores.{HasNoNewNotes, KeepsNotes, AddsAtMostOne};
 ghost use Rattle.ledger_spec.specs.Retaining.{due};
-ghost use Rattle.online_rotate.specs.Queues.{Inserts};
-ghost use Rattle.online_rotate.specs.Copying.{IsFit, CopiesSome, SameRest, Rotated, AfterRotation, AfterFit, RefusedBy};
+ghost use Rattle.copy_walk.specs.Slices.{Slices, IsCutShort, LeftBy, SameRest};
+ghost use Rattle.online_rotate.specs.Rotators.{slices_after};
+ghost use Rattle.online_rotate.specs.Copying.{IsFit, IsWalking, CopiesSome, Rotated, AfterRotation, AfterFit, RefusedBy};
 
-use crate::copy::copy_reached;
+use copy_walk::{CopyWalk, Left};
 use half_hash::{Hash32, Memory};
 use node_backend::Shelf;
 use retain_book::Book;
 use rotating_store::{RotStore, StoreFault};
 use std::alloc::Global;
-use std::collections::BTreeSet;
 use std::marker::Model;
 
 /// What a begin came to.
@@ -28,41 +28,40 @@ pub enum Begun {
     Busy,
 }
 
-/// Whether a slice left something to copy.
-#[derive(Clone, Copy, Debug, PartialEq, Eq)]
-pub enum Left {
-    /// Some hashes are still to be copied.
-    More,
-    /// Nothing is left.
-    Done,
-}
-
-/// What a rotation is told to keep. Contracts see that, whether one is under way, and its slices.
+/// What a rotation is told to keep, and its walk. Contracts see these, whether one is under way, and its slices.
 #[derive(Drop)]
 pub struct Rotator {
-    turning: bool,
-    shaded: BTreeSet<Hash32>,
+    told: Vec<Hash32>,
+    walk: Option<CopyWalk>,
+    /// How many slices of this rotation left something to copy.
     slices: u32,
 }
 
 impl Model for Rotator {
-    ghost use Rattle.online_rotate.specs.Rotators.{Turning};
+    ghost use Rattle.std.specs.Prelude.{is_some};
+    ghost use Rattle.std.specs.Option.{unwrap_or};
+    ghost use Rattle.online_rotate.specs.Rotators.{Turning, no_walk};
 
     ghost Value = { Turning };
 
-    ghost view = { λ r. record { turning = r.turning; shaded = r.shaded.keys; slices = r.slices } };
+    ghost view = { λ r. record {
+      turning = is_some r.walk;
+      shaded = r.told.items;
+      walk = unwrap_or r.walk no_walk;
+      slices = r.slices;
+    } };
 }
 
 impl Rotator {
-    ghost use Rattle.online_rotate.specs.Rotators.{Turning, InStep, begun_by, AfterBegin, Shades, AfterFinish};
+    ghost use Rattle.online_rotate.specs.Rotators.{Turning, at_rest, InStep, begun_by, AfterBegin, Shades, Heeds, AfterFinish, SlicesBy};
 
     /// No rotation is under way.
     pub fn new(alloc: Global) -> Rotator
-        ensures { result ≡ record { turning = false; shaded = []; slices = 0 } }
+        ensures { result ≡ at_rest }
     {
         Rotator {
-            turning: false,
-            shaded: BTreeSet::new(alloc),
+            told: Vec::new(alloc),
+            walk: None,
             slices: 0,
         }
     }
@@ -83,7 +82,7 @@ impl Rotator {
         // Memory is asked for only where a rotation would begin.
         ensures asked { OnErr result ((self.old.turning ≡ false) × IsSome (due book.old)) }
     {
-        if self.turning {
+        if self.walk.is_some() {
             return Ok(Begun::Busy);
         }
         book.known();
@@ -91,11 +90,12 @@ impl Rotator {
             return Ok(Begun::NotDue);
         };
         let floor = last + 1;
-        let roots = book.roots(alloc, floor)?;
-        let shaded = both(alloc, &roots, targets)?;
+        let mut roots = book.roots(alloc, floor)?;
+        roots.extend_from_slice(targets)?;
+        let walk = CopyWalk::start(alloc, &roots)?;
         book.begin();
-        self.turning = true;
-        self.shaded = shaded;
+        self.told = roots;
+        self.walk = Some(walk);
         self.slices = 0;
         Ok(Begun::Begun { seq, floor })
     }
@@ -106,28 +106,60 @@ impl Rotator {
         ensures idle { self.old.turning ≡ false → IsOk result × (self.new ≡ self.old) }
         ensures err { OnErr result (self.new ≡ self.old) }
     {
-        if !self.turning {
+        let Some(walk) = &mut self.walk else {
             return Ok(());
-        }
-        self.shaded.insert(*h)?;
+        };
+        self.told.reserve(1)?;
+        walk.shade(h)?;
+        self.told.push(*h).unwrap();
         Ok(())
     }
 
-    /// Copies nothing, and leaves all to `finish`.
+    /// Has a hash taken, where a rotation is under way, which is about to be written below one that is kept. Where memory is refused
+    /// nothing changes.
+    pub fn heed(&mut self, h: &Hash32) -> Result<(), Memory>
+        ensures heeds { self.old.turning ≡ true → OnOk result (Heeds self.old h.now self.new) }
+        ensures idle { self.old.turning ≡ false → IsOk result × (self.new ≡ self.old) }
+        ensures err { OnErr result (self.new ≡ self.old) }
+    {
+        let Some(walk) = &mut self.walk else {
+            return Ok(());
+        };
+        walk.shade(h)?;
+        Ok(())
+    }
+
+    /// Takes up to n grey hashes of the walk. After an error, a device's or for want of memory, no grey hash is lost, and a later call goes
+    /// on.
     pub fn slice<Sh: Shelf>(
         &mut self,
+        alloc: Global,
         store: &mut RotStore<Sh>,
         n: usize,
     ) -> Result<Left, StoreFault>
-        requires { self.old.turning ≡ true }
-        ensures done { result ≡ Ok Left.Done }
-        ensures same { (self.new ≡ self.old) × (store.new ≡ store.old) }
+        requires turning { self.old.turning ≡ true }
+        requires some { 0 < n }
+        ensures ok { IsTrue Sh.B.tells → IfOk result (λ l. Slices n self.old.walk store.old l self.new.walk store.new) }
+        ensures err { IsTrue Sh.B.tells → OnErr result (IsCutShort n self.old.walk store.old self.new.walk store.new) }
+        ensures walks { IsTrue Sh.B.tells → IsWalking self.old.shaded self.old.walk store.old
+            → CopiesSome self.old.shaded store.old store.new × IsWalking self.old.shaded self.new.walk store.new }
+        ensures left { IfOk result (λ l. LeftBy l self.new.walk) }
+        ensures counts { SlicesBy self.old result self.new }
+        ensures rest { SameRest store.old store.new }
+        ensures later { store.old.faults ≤ store.new.faults }
+        ensures gets { store.old.gets ≤ store.new.gets }
+        ensures cause { IfErr result (λ e. RefusedBy store.old e store.new) }
     {
-        Ok(Left::Done)
+        let Some(walk) = &mut self.walk else {
+            return Ok(Left::Done);
+        };
+        let left = walk.slice(alloc, store, n)?;
+        self.slices = counted(left, self.slices);
+        Ok(left)
     }
 
-    /// Copies forward what the hashes reach, drops the archive, and tells the new epoch. After an error, a device's or for want of
-    /// memory, the rotation is still under way, and a later `finish` goes on with it.
+    /// Copies forward what is left, drops the archive, and tells the new epoch. After an error, a device's or for want of memory, the
+    /// rotation is still under way, and a later `finish` goes on with it.
     pub fn finish<Sh: Shelf>(
         &mut self,
         alloc: Global,
@@ -138,17 +170,24 @@ impl Rotator {
         requires turning { self.old.turning ≡ true }
         requires room { store.old.epoch < 2 ^ 64 - 1 }
         ensures after { AfterFinish self.old book.old store.old result self.new book.new store.new }
-        ensures nodes { IsTrue Sh.B.tells → AfterRotation self.old.shaded store.old result store.new }
-        ensures fit { IsTrue Sh.B.tells → IsFit self.old.shaded store.old → AfterFit self.old.shaded store.old result store.new }
+        ensures nodes { IsTrue Sh.B.tells → IsWalking self.old.shaded self.old.walk store.old
+            → AfterRotation self.old.shaded store.old result store.new }
+        ensures fit { IsTrue Sh.B.tells → IsWalking self.old.shaded self.old.walk store.old → IsFit self.old.shaded store.old
+            → AfterFit self.old.shaded store.old result store.new }
+        ensures walks { IsTrue Sh.B.tells → IsWalking self.old.shaded self.old.walk store.old
+            → OnErr result (IsWalking self.old.shaded self.new.walk store.new) }
         ensures notes { IsTrue Sh.B.tells → OnOk result (KeepsNotes store.old store.new) }
         ensures later { store.old.faults ≤ store.new.faults }
         ensures gets { store.old.gets ≤ store.new.gets }
         ensures cause { IfErr result (λ e. RefusedBy store.old e store.new) }
     {
-        rotate(alloc, store, &self.shaded)?;
+        let Some(walk) = &mut self.walk else {
+            unreachable!();
+        };
+        rotate(alloc, store, walk)?;
         book.finish();
-        self.turning = false;
-        self.shaded.clear();
+        self.walk = None;
+        self.told.clear();
         Ok(store.epoch())
     }
 
@@ -156,7 +195,7 @@ impl Rotator {
     pub fn busy(&self) -> bool
         ensures { result ≡ self.now.turning }
     {
-        self.turning
+        self.walk.is_some()
     }
 
     /// How many slices of this rotation left something to copy.
@@ -167,15 +206,17 @@ impl Rotator {
     }
 }
 
-// Copies what the hashes reach, and swaps.
+// Copies what is left of a walk, and swaps.
 fn rotate<Sh: Shelf>(
     alloc: Global,
     store: &mut RotStore<Sh>,
-    shaded: &BTreeSet<Hash32>,
+    walk: &mut CopyWalk,
 ) -> Result<(), StoreFault>
     requires { store.old.epoch < 2 ^ 64 - 1 }
-    ensures rotated { IsTrue Sh.B.tells → OnOk result (Rotated shaded.now.keys store.old store.new) }
-    ensures some { IsTrue Sh.B.tells → OnErr result (CopiesSome shaded.now.keys store.old store.new) }
+    ensures rotated { IsTrue Sh.B.tells → (told : List (List ℕ)) → IsWalking told walk.old store.old
+        → OnOk result (Rotated told store.old store.new) }
+    ensures some { IsTrue Sh.B.tells → (told : List (List ℕ)) → IsWalking told walk.old store.old
+        → OnErr result (CopiesSome told store.old store.new × IsWalking told walk.new store.new) }
     ensures ok { OnOk result ((store.new.epoch ≡ store.old.epoch + 1) × HasNoNewNotes store.old store.new
         × (store.new.spare ≡ store.old.spare) × AddsAtMostOne store.old.undone store.new.undone) }
     ensures notes { IsTrue Sh.B.tells → OnOk result (KeepsNotes store.old store.new) }
@@ -184,28 +225,18 @@ fn rotate<Sh: Shelf>(
     ensures gets { store.old.gets ≤ store.new.gets }
     ensures cause { (result ≡ Err StoreFault.Fault → Rose store.old.faults store.new.faults) × IfErr result IsPlain }
 {
-    copy_reached(alloc, store, shaded)?;
+    walk.drain(alloc, store)?;
     store.prepare(alloc)?;
     store.swap();
     Ok(())
 }
 
-// The hashes of both, each once.
-fn both(alloc: Global, roots: &[Hash32], targets: &[Hash32]) -> Result<BTreeSet<Hash32>, Memory>
-    ensures { IfOk result (λ s. Inserts roots.now targets.now s.keys) }
+// How many slices left something, after one more.
+fn counted(left: Left, slices: u32) -> u32
+    ensures { result ≡ slices_after left slices }
 {
-    let mut hashes = BTreeSet::new(alloc);
-    insert_all(&mut hashes, roots)?;
-    insert_all(&mut hashes, targets)?;
-    Ok(hashes)
-}
-
-// Inserts hashes.
-fn insert_all(hashes: &mut BTreeSet<Hash32>, more: &[Hash32]) -> Result<(), Memory>
-    ensures { OnOk result (Inserts hashes.old.keys more.now hashes.new.keys) }
-{
-    for hash in more {
-        hashes.insert(*hash)?;
+    match left {
+        Left::More => slices.saturating_add(1),
+        Left::Done => slices,
     }
-    Ok(())
 }

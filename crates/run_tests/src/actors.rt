@@ -3,7 +3,7 @@ ghost use Rattle.ledger_machine.specs.Records.{AreRecords};
 ghost use Rattle.script_form.specs.Servable.{AreServable};
 
 use actor_pool::{Gate, Point, run_actors};
-use half_hash::{NodeHash, TinyHash};
+use half_hash::{Half512, NodeHash, TinyHash};
 use ledger_machine::{Reply, Script, WantReply};
 use node_backend::MemShelf;
 use run_io::MemSource;
@@ -12,6 +12,7 @@ use std::alloc::Global;
 use std::sync::atomic::{AtomicU64, Ordering};
 use std::test::Fail;
 use store_core::Core;
+use swarm_gen::{Plan, make};
 
 /// How long an actor is held at most.
 const MOST_TURNS: u32 = 100_000_000;
@@ -55,11 +56,20 @@ impl Gate for Meeting {
     }
 }
 
-/// Counts the sections that recorded an entry, and the points that no section has yet.
+/// Counts the sections that recorded an entry, and the points between slices.
 #[derive(Drop)]
 struct Counts {
     answered: AtomicU64,
-    others: AtomicU64,
+    between: AtomicU64,
+}
+
+impl Counts {
+    fn new() -> Counts {
+        Counts {
+            answered: AtomicU64::new(0),
+            between: AtomicU64::new(0),
+        }
+    }
 }
 
 impl Gate for Counts {
@@ -70,7 +80,7 @@ impl Gate for Counts {
                 self.answered.fetch_add(1, Ordering::SeqCst);
             }
             _ => {
-                self.others.fetch_add(1, Ordering::SeqCst);
+                self.between.fetch_add(1, Ordering::SeqCst);
             }
         }
     }
@@ -128,16 +138,46 @@ fn two_actors_run_on_threads_of_their_own(rt: HostRuntime) -> Result<(), Fail> {
 fn lines_wait_for_their_turn(rt: HostRuntime) -> Result<(), Fail> {
     let alloc = rt.alloc();
     let core = opened(alloc, IN_TURN)?;
-    let gate = Counts {
-        answered: AtomicU64::new(0),
-        others: AtomicU64::new(0),
-    };
+    let gate = Counts::new();
     let core = run_actors(&rt, alloc, core, &gate);
     assert_eq!(rt; core.journal().len(), 3);
     assert_eq!(rt; gate.answered.load(Ordering::SeqCst), 3);
-    assert_eq!(rt; gate.others.load(Ordering::SeqCst), 0);
+    assert_eq!(rt; gate.between.load(Ordering::SeqCst), 0);
     for (entry, number) in core.journal().iter().zip([1, 2, 3]) {
         assert_eq!(rt; entry.line, number);
     }
+    Ok(())
+}
+
+/// A core of a small swarm with one rotation, whose ledgers have some hundred nodes.
+fn swarmed(alloc: Global) -> Result<Core<Half512, MemShelf>, Fail> {
+    let plan = Plan {
+        number: 1,
+        ledgers: 9,
+        items: 300,
+        liars: 0,
+        actors: 3,
+        interval: 8,
+    };
+    let script = make::<Half512>(alloc, &plan)?;
+    let shelf = MemShelf::new(alloc, Vec::new(alloc), Vec::new(alloc));
+    match Core::open(alloc, Half512, script, 8, shelf) {
+        Ok(core) => Ok(core),
+        Err(_) => Err("no core".into()),
+    }
+}
+
+#[test]
+fn a_rotation_is_copied_in_slices(rt: HostRuntime) -> Result<(), Fail> {
+    let alloc = rt.alloc();
+    let core = swarmed(alloc)?;
+    let gate = Counts::new();
+    let core = run_actors(&rt, alloc, core, &gate);
+    assert_eq!(rt;
+        gate.answered.load(Ordering::SeqCst),
+        core.journal().len() as u64
+    );
+    assert!(rt; gate.between.load(Ordering::SeqCst) > 0);
+    assert_eq!(rt; core.totals().epoch, 1);
     Ok(())
 }

@@ -56,8 +56,7 @@ del_by half tells m n key old new x (Err e) told same c = tt
 
 -- what only reads the store lists nothing
 pub reads_stays : (half : Half) (tells : Bool) (d d' : Desk) (old new : ForActor Draft) → OnlyReads tells d d'
-    → Stays (record { state = with_open half tells d.state old; faults = d.faults })
-    (record { state = with_open half tells d'.state new; faults = d'.faults })
+    → Stays (record d { state = with_open half tells d.state old }) (record d' { state = with_open half tells d'.state new })
 reads_stays half tells d d' old new read = record {
   later = read.later;
   listed = ap (λ (s : State). s.listed) read.tables;

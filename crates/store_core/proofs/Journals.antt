@@ -30,6 +30,7 @@ use Rattle.ledger_machine.specs.Swaps.{AllSwapsKeep}
 use Rattle.ledger_laws.proofs.RunLaws.{run_more}
 use Rattle.ledger_machine.specs.Runs.{IsDone, is_answered, next_line}
 use Rattle.run_io.specs.Bytes.{Rose}
+use Rattle.store_core.specs.Desks.{KeepsRest}
 use Rattle.store_core.specs.Journal.{CoreKeeps, IsNext, RoseBy, faults_in, fault_count}
 use Rattle.store_core.proofs.Finding.{rising, line_there}
 use Rattle.store_core.proofs.Waiting.{read_at, next_left, next_at, answered_any, any_answered, number_at, number_in, same_place, waits_more}
@@ -121,6 +122,10 @@ bound_more es e missed opened now now' (inl b) later cause =
       ]
       | inr none ↦ inl (omega (arith, faults_push es e, none))
     ]
+
+rose_by_later : (n before now now' : ℕ) → now ≤ now' → RoseBy n before now → RoseBy n before now'
+rose_by_later n before now now' later (inl le) = inl (omega (arith, le, later))
+rose_by_later n before now now' later (inr top) = inr (omega (arith, top, later))
 
 -- the entry answers the line that is next
 pub answers : (half : Half) (lines : List Line) (s s' : State) (line : Line) (e : Entry) (from at : ℕ) → IsNext lines from e.actor at
@@ -258,6 +263,27 @@ module _ (half : Half) (records : List Record) (lines : List Line) (cursors : Li
     room = k.room;
     since = k.since;
     fault_bound = k.fault_bound;
+  }
+
+  -- a slice leaves what is kept: the state is as it was, but for where forms lie
+  pub kept_sliced : (s' : State) (now' : ℕ) → (IsTrue told → s' ≡ s) → KeepsRest s s' → now ≤ now'
+      → CoreKeeps half records lines cursors journal capacity interval told opened now' missed s'
+  kept_sliced s' now' same rest later = record {
+    run = λ t. subst (IsRunOf half records lines interval journal) (sym (same t)) (k.run t);
+    sound = λ t. subst (Sound half) (sym (same t)) (k.sound t);
+    roots = λ t. subst AreTold (sym (same t)) (k.roots t);
+    listed_few = omega (arith, k.listed_few, ap (λ (x : State). length x.listed) rest);
+    young = omega (arith, k.young, ap (λ (x : State). x.epoch) rest);
+    cursor_count = k.cursor_count;
+    behind = k.behind;
+    done = k.done;
+    waits = k.waits;
+    known = k.known;
+    servable = k.servable;
+    recorded = k.recorded;
+    room = k.room;
+    since = omega (arith, k.since, later);
+    fault_bound = rose_by_later (faults_in journal + missed) opened now now' later k.fault_bound;
   }
 
   module _ (a at : ℕ) (lt : a < 64) (next : IsNext lines (slice_index cursors a) a at) (line : Line)

@@ -24,8 +24,11 @@ pub mod Sealing
 pub mod Publishing
 pub mod Roots
 pub mod Turns
+pub mod Offered
+pub mod Parting
 pub mod Retold
 pub mod Beginning
 pub mod Rotations
 pub mod Besides
 pub mod Refusing
+pub mod Sections

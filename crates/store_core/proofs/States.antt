@@ -36,7 +36,7 @@ set_same test (x ∷ es) w e =
 
 -- the acquisitions of a desk alone change, or nothing does
 abbrev pub desk_with : Desk → ForHash Acquiring → Desk
-desk_with d m = record { state = record d.state { wanted = m }; faults = d.faults }
+desk_with d m = record d { state = record d.state { wanted = m } }
 
 pub same_desk : (d0 d : Desk) → d0 ≡ d → (n : ForHash Acquiring) → n ≡ d0.state.wanted → desk_with d0 n ≡ d
 same_desk d0 d e n h = ap (desk_with d0) h ∙ e

@@ -1,6 +1,6 @@
 -- What the machine keeps of its book, its rotator and its store, as these change.
-use Rattle.std.proofs.Common.{◌≡◌, ◌≢◌, ◌⊎◌, inl, inr, ⊎_elim, ℕ, Bool, true, false, not, ◌&&◌, if◌then◌else◌, IsTrue, IsSome, is_some}
-use Rattle.std.proofs.Common.{List, [], ◌∷◌, Option, None, Some, Contains, Result, Ok, Err, OnErr, IfOk, IfErr, length, ◌≤◌, refl}
+use Rattle.std.proofs.Common.{◌≡◌, ◌≢◌, ◌⊎◌, ◌↔◌, inl, inr, ⊎_elim, ℕ, Bool, true, false, not, ◌&&◌, if◌then◌else◌, IsTrue, IsSome, is_some}
+use Rattle.std.proofs.Common.{List, [], ◌∷◌, Option, None, Some, Contains, Result, Ok, Err, OnOk, OnErr, IfOk, IfErr, IfSome, length, ◌≤◌, refl}
 use Rattle.std.proofs.Common.{sym, ap, ◌∙◌, subst, arith}
 use Rattle.std.specs.Option.{option_or}
 use Rattle.std.specs.FinMap as finite
@@ -12,10 +12,10 @@ use Rattle.std.specs.Cmp.Lexicographic.{nat_list_cmp_total}
 use Rattle.std.proofs.lemmas.Bool.{false≢true}
 use Rattle.ledger_spec.specs.Bytes.{Bytes, Hash, Half, Lookup, Nodes}
 use Rattle.ledger_spec.specs.Maps.{ForHash, ForActor, hashes_in, hash_cmp}
-use Rattle.ledger_spec.specs.Reach.{Reach, root, kid}
+use Rattle.ledger_spec.specs.Reach.{Reach, Stored, root, kid}
 use Rattle.ledger_spec.specs.Retaining.{Retention, none_retained, due, after_listing, after_finish}
 use Rattle.ledger_spec.specs.Acquiring.{Acquiring}
-use Rattle.ledger_spec.proofs.ReachLaws.{Grows}
+use Rattle.ledger_spec.proofs.ReachLaws.{Grows, reach_grows}
 use Rattle.ledger_spec.proofs.Storing.{in_one}
 use Rattle.rotating_store.specs.Stores.{Store, merged, nodes_of, born_of, Counted, with_pair}
 use Rattle.rotating_store.specs.Puts.{Puts, MayStore}
@@ -30,14 +30,24 @@ use Rattle.node_offer.specs.Stored as store
 use Rattle.acquire_core.specs.Answers.{Answers}
 use Rattle.ledger_spec.specs.Offers.{Clash}
 use Rattle.own_forms.specs.Reading.{WasRead}
+use Rattle.copy_walk.specs.Walks.{Walk}
+use Rattle.copy_walk.specs.Walks as walks
+use Rattle.copy_walk.proofs.Lists.{shaded_stays, is_shaded, shaded_from}
+use Rattle.copy_walk.proofs.Striding.{one_form, colours_shaded}
+use Rattle.online_rotate.proofs.Rotating.{walking_alike, fit_on}
+use Rattle.std.proofs.lemmas.List.{append-nil}
+use Rattle.std.proofs.lemmas.List.Elements.{Contains-append_left}
 use Rattle.online_rotate.specs.declared.rotator.Begun.{Begun}
 use Rattle.online_rotate.specs.declared.rotator.Begun.TheVariants as begun
-use Rattle.online_rotate.specs.Copying.{IsFit, CopiesSome, Rotated, OnlyReachedOrBorn, AfterRotation, AfterFit, RefusedBy}
-use Rattle.online_rotate.specs.Rotators.{Turning, InStep, begun_by, AfterBegin, Shades, Ends, GoesOn, AfterFinish}
-use Rattle.ledger_laws.proofs.SoundForms.{new_or_old, get_more, same_hash, in_nothing, in_head}
+use Rattle.online_rotate.specs.Copying.{IsFit, IsWalking, CopiesSome, Rotated, OnlyReachedOrBorn, AfterRotation, AfterFit, RefusedBy}
+use Rattle.copy_walk.specs.declared.walk.Left.{Left}
+use Rattle.online_rotate.specs.Rotators.{SlicesBy, slices_after}
+use Rattle.online_rotate.specs.Rotators.{Turning, no_walk, at_rest, InStep, begun_by, AfterBegin, Shades, Ends, GoesOn, AfterFinish}
+use Rattle.ledger_laws.proofs.SoundForms.{new_or_old, get_more, same_hash, in_nothing, in_head, in_tail}
 use Rattle.ledger_machine.specs.State.{State, form_in, opening}
 use Rattle.ledger_machine.specs.Rotation.{Tells}
 use Rattle.store_core.specs.Desks.{Desk, OnlyReads, over, state_of}
+use Rattle.store_core.specs.Heeds.{Heeds}
 use Rattle.store_core.specs.Telling.{KeepsTurning, Hears, SwapsTold, AfterSwap, swap_told}
 use Rattle.store_core.specs.Desks as Desks
 use Rattle.node_backend.specs.declared.back.BackFault.TheVariants as back
@@ -75,6 +85,34 @@ hears_on a more b c h first next among = record {
 some_none : {X : Type 0} (o : Option X) (x : X) → o ≡ Some x → o ≢ None
 some_none None x e n = cc
 some_none (Some y) x e n = cc
+
+-- what was stored and written stays, where a form is put that wasn't stored
+grown_pair : (st : Store) (h : Hash) (form : Bytes) → finite.get (nodes_of st) h ≡ None
+    → Grows (finite.get (nodes_of st)) (finite.get (nodes_of (with_pair st h form)))
+grown_pair st h form none q f e =
+    ap (λ (n : Nodes). finite.get n q) (merged-insert st.writable st.archive h form) ∙ at (eq_by_cmp hash_cmp q h) refl
+  where
+    at : (b : Bool) → eq_by_cmp hash_cmp q h ≡ b → finite.get (finite.insert (nodes_of st) h form) q ≡ Some f
+    at true same =
+        absurd (some_none (finite.get (nodes_of st) q) f e
+        (ap (finite.get (nodes_of st)) (same_hash q h same) ∙ none))
+    at false other = get_more (nodes_of st) h form q false other ∙ e
+
+unwritten : (st : Store) (h : Hash) → finite.get (nodes_of st) h ≡ None → finite.get st.writable h ≡ None
+unwritten st h none = at (finite.get st.writable h) refl (sym (get-merged st.writable st.archive h) ∙ none)
+  where
+    at : (o : Option Bytes) → finite.get st.writable h ≡ o → option_or o (finite.get st.archive h) ≡ None → finite.get st.writable h ≡ None
+    at None e n = e
+    at (Some x) e n = cc
+
+written_pair : (st : Store) (h : Hash) (form : Bytes) → finite.get (nodes_of st) h ≡ None
+    → Grows (finite.get st.writable) (finite.get (finite.insert st.writable h form))
+written_pair st h form none q f e = at (eq_by_cmp hash_cmp q h) refl
+  where
+    at : (b : Bool) → eq_by_cmp hash_cmp q h ≡ b → finite.get (finite.insert st.writable h form) q ≡ Some f
+    at true same =
+        absurd (some_none (finite.get st.writable q) f e (ap (finite.get st.writable) (same_hash q h same) ∙ unwritten st h none))
+    at false other = get_more st.writable h form q false other ∙ e
 
 -- a fit store in which a form is stored that it didn't hold
 module _ (shaded : List Hash) (st : Store) (h : Hash) (form : Bytes) (none : finite.get (nodes_of st) h ≡ None)
@@ -129,49 +167,137 @@ module _ (half : Half) (shaded : List Hash) where
 fit_counted : (shaded : List Hash) (t s : Store) → Counted t s → IsFit shaded t → IsFit shaded s
 fit_counted shaded t s e fit = subst (IsFit shaded) (sym e) fit
 
+-- ---- the walk
+-- where nothing was told and nothing is walked
+no_walking : (st : Store) → IsWalking [] no_walk st
+no_walking st = record {
+  colours = record {
+    copied = λ h c. absurd (in_nothing c);
+    named = λ h k form c is names stored. absurd (in_nothing c);
+  };
+  told = λ h c stored. absurd (in_nothing c);
+  kept = λ h c stored. absurd (in_nothing c);
+}
+
+pub walking_counted : (shaded : List Hash) (w : Walk) (t s : Store) → Counted t s → IsWalking shaded w t → IsWalking shaded w s
+walking_counted shaded w t s e k =
+    subst (IsWalking shaded w) (sym e) (record { colours = k.colours; told = k.told; kept = k.kept })
+
+-- More is stored, and written: each hash that is new is shaded, and reached from what was told.
+pub record Adds (shaded : List Hash) (w : Walk) (s s' : Store) : Type 0 where
+  pub grows : Grows (finite.get (nodes_of s)) (finite.get (nodes_of s'))
+  pub writes : Grows (finite.get s.writable) (finite.get s'.writable)
+  pub new : (h : Hash) (form : Bytes) → finite.get (nodes_of s') h ≡ Some form → (finite.get (nodes_of s) h ≡ Some form)
+      ⊎ (Contains (walks.shaded w) h × Reach (finite.get (nodes_of s')) shaded h)
+
+pub walking_adds : (shaded : List Hash) (w : Walk) (s s' : Store) → Adds shaded w s s' → IsWalking shaded w s → IsWalking shaded w s'
+walking_adds shaded w s s' a k = record {
+  colours = record {
+    copied = λ h c. let was = k.colours.copied h c in (was.0, a.grows h was.0 was.1, a.writes h was.0 was.2);
+    named = λ h q form c is names stored.
+        let was = k.colours.copied h c in
+        let same : was.0 ≡ form = one_form (finite.get (nodes_of s') h) was.0 form (a.grows h was.0 was.1) is in
+        ⊎_elim (λ old. k.colours.named h q form c (was.1 ∙ ap Some same) names (stored.0, old)) (λ new. new.0) (a.new q stored.0 stored.1);
+  };
+  told = λ h c stored. ⊎_elim (λ old. k.told h c (stored.0, old)) (λ new. new.0) (a.new h stored.0 stored.1);
+  kept = λ h c stored. ⊎_elim (λ old. reach_grows a.grows (k.kept h c (stored.0, old))) (λ new. new.1) (a.new h stored.0 stored.1);
+}
+
+-- a walk that begins at all that was told
+begun_walking : (shaded : List Hash) (w : Walk) (st : Store) → w ≡ record { grey = shaded; black = [] } → IsWalking shaded w st
+begun_walking shaded w st is = subst (λ (x : Walk). IsWalking shaded x st) (sym is) (record {
+  colours = record {
+    copied = λ h c. absurd (in_nothing c);
+    named = λ h k form c is names stored. absurd (in_nothing c);
+  };
+  told = λ h c stored. Contains-append_left shaded [] h c;
+  kept = λ h c stored. root (subst (λ (hs : List Hash). Contains hs h) (append-nil shaded) c) stored;
+})
+
+-- one form more, whose hash was told and is shaded
+adds_pair : (shaded : List Hash) (w : Walk) (st : Store) (h : Hash) (form : Bytes) → finite.get (nodes_of st) h ≡ None
+    → Contains shaded h × Contains (walks.shaded w) h → Adds shaded w st (with_pair st h form)
+adds_pair shaded w st h form none has = record {
+  grows = grown_pair st h form none;
+  writes = written_pair st h form none;
+  new = λ q f e. ⊎_elim (λ old. inl old)
+      (λ new. inr (
+        subst (Contains (walks.shaded w)) (sym new.0) has.1,
+        root (subst (Contains shaded) (sym new.0) has.0) (f, e),
+      ))
+      (new_or_old (nodes_of st) h form q f (ap (λ (n : Nodes). finite.get n q) (sym (merged-insert st.writable st.archive h form)) ∙ e));
+}
+
+-- the walk takes one hash more: one that is told too, or isn't stored yet
+walking_shaded : (shaded shaded' : List Hash) (w w' : Walk) (st : Store) (h : Hash)
+    → ((q : Hash) → Contains shaded' q ↔ (Contains shaded q ⊎ (q ≡ h))) → walks.Shades w h w' → IsWalking shaded w st
+    → IsWalking shaded' w' st
+walking_shaded shaded shaded' w w' st h told s k = record {
+  colours = colours_shaded (finite.get (nodes_of st)) w (finite.get st.writable) h w' s k.colours;
+  told = λ q c stored. ⊎_elim (λ old. shaded_stays w h w' s q (k.told q old stored))
+      (λ one. subst (Contains (walks.shaded w')) (sym one) (is_shaded w h w' s)) ((told q).0 c);
+  kept = λ q c stored. ⊎_elim
+      (λ old. reach_wider (still (finite.get (nodes_of st))) (λ p d. (told p).1 (inl d)) (k.kept q old stored))
+      (λ one. root ((told q).1 (inr one)) stored) (shaded_from w h w' s q c);
+}
+
 -- nothing was told and nothing is retained, over a store whose archive is empty
 pub new_keeps : (tells : Bool) (interval : ℕ) (b : Retention) (r : Turning) (st : Store) → b ≡ none_retained interval
-    → r ≡ record { turning = false; shaded = []; slices = 0 } → (IsTrue tells → st.archive ≡ finite.empty) → KeepsTurning tells b r st
+    → r ≡ at_rest → (IsTrue tells → st.archive ≡ finite.empty) → KeepsTurning tells b r st
 new_keeps tells interval b r st is off new = record {
   pins = ap (λ (x : Retention). x.pins) is;
   step = ap (λ (x : Turning). x.turning) off ∙ sym (ap (λ (x : Retention). is_some x.turning) is);
   idle = λ e. ap (λ (x : Turning). x.shaded) off;
+  still = λ e. ap (λ (x : Turning). x.walk) off;
+  walks = λ t. subst (λ (x : Turning). IsWalking x.shaded x.walk st) (sym off) (no_walking st);
   fit = λ t q written old. absurd (old (ap (λ (m : Nodes). finite.get m q) (new t) ∙ finite.get-empty hash_cmp q));
 }
 
 pub new_state : (st : Store) (interval : ℕ) (wanted : ForHash Acquiring) (views : ForActor Hash) (b : Retention) (r : Turning)
-    → wanted ≡ [] → views ≡ [] → b ≡ none_retained interval → r ≡ record { turning = false; shaded = []; slices = 0 }
+    → wanted ≡ [] → views ≡ [] → b ≡ none_retained interval → r ≡ at_rest
     → state_of st wanted views b r ≡ over st (opening finite.empty interval)
 new_state st interval wanted views b r none unseen is off = λ i. state_of st (none i) (unseen i) (is i) (off i)
 
 module _ (tells : Bool) (b : Retention) (r : Turning) (st : Store) (k : KeepsTurning tells b r st) where
-  with_fit : (st' : Store) → (IsTrue tells → IsFit r.shaded st') → KeepsTurning tells b r st'
-  with_fit st' fit = record { pins = k.pins; step = k.step; idle = k.idle; fit = fit }
+  with_fit : (st' : Store) → (IsTrue tells → IsWalking r.shaded r.walk st') → (IsTrue tells → IsFit r.shaded st')
+      → KeepsTurning tells b r st'
+  with_fit st' walks fit = record { pins = k.pins; step = k.step; idle = k.idle; still = k.still; walks = walks; fit = fit }
+
+  -- outside of a rotation any store is walked
+  walks_by : (st' : Store) → (r.turning ≡ true → IsWalking r.shaded r.walk st') → IsWalking r.shaded r.walk st'
+  walks_by st' on = at r.turning refl
+    where
+      at : (t : Bool) → r.turning ≡ t → IsWalking r.shaded r.walk st'
+      at true e = on e
+      at false e = subst (λ (x : List Hash × Walk). IsWalking x.0 x.1 st') (λ i. (sym (k.idle e) i, sym (k.still e) i)) (no_walking st')
 
   -- the store was only read
   pub keeps_counted : (st' : Store) → (IsTrue tells → Counted st st') → KeepsTurning tells b r st'
-  keeps_counted st' same = with_fit st' (λ told. fit_counted r.shaded st st' (same told) (k.fit told))
+  keeps_counted st' same = with_fit st' (λ told. walking_counted r.shaded r.walk st st' (same told) (k.walks told)) (λ told. fit_counted r.shaded st st' (same told) (k.fit told))
 
   pub keeps_was_read : (half : Half) (st' : Store) → WasRead tells half st st' → KeepsTurning tells b r st'
   keeps_was_read half st' read = keeps_counted st' read.same
 
   -- both backends hold what they held
   pub keeps_maps : (st' : Store) → (IsTrue tells → (st'.writable ≡ st.writable) × (st'.archive ≡ st.archive)) → KeepsTurning tells b r st'
-  keeps_maps st' same = with_fit st' (λ told.
+  keeps_maps st' same = with_fit st'
+      (λ told. walking_alike r.shaded r.walk st st' (k.walks told) (same told).0 (same told).1) (λ told.
       subst (λ (m : Nodes × Nodes). (h : Hash) → finite.get m.0 h ≢ None → finite.get m.1 h ≢ None
       → Reach (finite.get (merged m.0 m.1)) r.shaded h) (λ i. (sym (same told).0 i, sym (same told).1 i)) (k.fit told))
 
-  -- forms were stored
+  -- forms were stored, each of whose hashes that is new is shaded, and reached from what was told
   pub keeps_forms : (half : Half) (st' : Store) → (IsTrue tells → (forms : List Bytes) × store.HasForms half forms st st')
-      → KeepsTurning tells b r st'
-  keeps_forms half st' some = with_fit st' (λ told.
+      → (IsTrue tells → r.turning ≡ true → Adds r.shaded r.walk st st') → KeepsTurning tells b r st'
+  keeps_forms half st' some adds = with_fit st'
+      (λ told. walks_by st' (λ on. walking_adds r.shaded r.walk st st' (adds told on) (k.walks told))) (λ told.
       fit_counted r.shaded (store.with_forms half st (some told).0) st' (some told).1
       (fit_forms half r.shaded st (some told).0 (k.fit told)))
 
-  -- a form was put
+  -- a form was put, whose hash was told and is shaded
   pub keeps_put : (h : Hash) (form : Bytes) (result : Result Put StoreFault) (st' : Store) → (IsTrue tells → Puts st h form result st')
-      → KeepsTurning tells b r st'
-  keeps_put h form result st' puts = with_fit st' (λ told. at result (puts told) (k.fit told))
+      → (r.turning ≡ true → Contains r.shaded h × Contains (walks.shaded r.walk) h) → KeepsTurning tells b r st'
+  keeps_put h form result st' puts on = with_fit st' (λ told. walks_by st' (λ e. walk result (on e) (puts told) (k.walks told)))
+      (λ told. at result (puts told) (k.fit told))
     where
       pair : finite.get (nodes_of st) h ≡ None → Counted (with_pair st h form) st' → IsFit r.shaded st → IsFit r.shaded st'
       pair none counted fit = fit_counted r.shaded (with_pair st h form) st' counted (fit_pair r.shaded st h form none fit)
@@ -187,6 +313,25 @@ module _ (tells : Bool) (b : Retention) (r : Turning) (st : Store) (k : KeepsTur
       at (Err fault.Fault) p fit = may p fit
       at (Err fault.Memory) p fit = may p fit
 
+      walk_pair : Contains r.shaded h × Contains (walks.shaded r.walk) h → finite.get (nodes_of st) h ≡ None
+          → Counted (with_pair st h form) st' → IsWalking r.shaded r.walk st → IsWalking r.shaded r.walk st'
+      walk_pair has none counted w =
+          walking_counted r.shaded r.walk (with_pair st h form) st' counted
+          (walking_adds r.shaded r.walk st (with_pair st h form) (adds_pair r.shaded r.walk st h form none has) w)
+
+      walk_may : Contains r.shaded h × Contains (walks.shaded r.walk) h → MayStore st h form st' → IsWalking r.shaded r.walk st
+          → IsWalking r.shaded r.walk st'
+      walk_may has m w = ⊎_elim (λ same. walking_counted r.shaded r.walk st st' same w) (λ new. walk_pair has new.0 new.1 w) m
+
+      walk : (x : Result Put StoreFault) → Contains r.shaded h × Contains (walks.shaded r.walk) h → Puts st h form x st'
+          → IsWalking r.shaded r.walk st → IsWalking r.shaded r.walk st'
+      walk (Ok put.New) has p w = walk_pair has p.0 p.1 w
+      walk (Ok put.Same) has p w = walking_counted r.shaded r.walk st st' p.1 w
+      walk (Err (fault.WrongHash hash found)) has p w = walking_counted r.shaded r.walk st st' p w
+      walk (Err (fault.Clash hash old new)) has p w = walking_counted r.shaded r.walk st st' p.4 w
+      walk (Err fault.Fault) has p w = walk_may has p w
+      walk (Err fault.Memory) has p w = walk_may has p w
+
   -- the rotation under way was told more
   pub keeps_shaded : (r' : Turning) (h : Hash) → (r.turning ≡ true → Shades r h r') → (r.turning ≡ false → r' ≡ r)
       → KeepsTurning tells b r' st
@@ -199,13 +344,15 @@ module _ (tells : Bool) (b : Retention) (r : Turning) (st : Store) (k : KeepsTur
             pins = k.pins;
             step = on ∙ k.step;
             idle = λ off. absurd (false≢true (sym off ∙ on ∙ e));
+            still = λ off. absurd (false≢true (sym off ∙ on ∙ e));
+            walks = λ t. walking_shaded r.shaded r'.shaded r.walk r'.walk st h s.told s.walk (k.walks t);
             fit = λ t q written old. reach_wider (still (finite.get (nodes_of st))) (λ p c. (s.told p).1 (inl c)) (k.fit t q written old);
           }
       at false e = subst (λ (x : Turning). KeepsTurning tells b x st) (sym (same e)) k
 
   -- a ledger is listed
   pub keeps_listing : (h : Hash) (seq : ℕ) → KeepsTurning tells (after_listing b h seq) r st
-  keeps_listing h seq = record { pins = k.pins; step = k.step; idle = k.idle; fit = k.fit }
+  keeps_listing h seq = record { pins = k.pins; step = k.step; idle = k.idle; still = k.still; walks = k.walks; fit = k.fit }
 
   -- a rotation begins, or doesn't
   pub keeps_begin : (targets : List Hash) (reply : Begun) (b' : Retention) (r' : Turning) → reply ≡ begun_by r.turning (due b) b.last
@@ -214,6 +361,8 @@ module _ (tells : Bool) (b : Retention) (r : Turning) (st : Store) (k : KeepsTur
     pins = ap (λ (x : Retention). x.pins) after.0 ∙ k.pins;
     step = step;
     idle = λ off. absurd (false≢true (sym off ∙ after.1.under_way));
+    still = λ off. absurd (false≢true (sym off ∙ after.1.under_way));
+    walks = λ t. begun_walking r'.shaded r'.walk st after.1.walk;
     fit = λ t q written old.
         reach_wider (still (finite.get (nodes_of st))) (λ p c. absurd (in_nothing c))
         (subst (λ (hs : List Hash). Reach (finite.get (nodes_of st)) hs q) (k.idle (at r.turning refl is)) (k.fit t q written old));
@@ -236,22 +385,57 @@ module _ (tells : Bool) (b : Retention) (r : Turning) (st : Store) (k : KeepsTur
     pins = ap (λ (x : Retention). x.pins) ends.book ∙ k.pins;
     step = ap (λ (x : Turning). x.turning) ends.rotator ∙ sym (ap (λ (x : Retention). is_some x.turning) ends.book);
     idle = λ off. ap (λ (x : Turning). x.shaded) ends.rotator;
+    still = λ off. ap (λ (x : Turning). x.walk) ends.rotator;
+    walks = λ t. subst (λ (x : Turning). IsWalking x.shaded x.walk st') (sym ends.rotator) (no_walking st');
     fit = λ t q written old.
         absurd (written (ap (λ (m : Nodes). finite.get m q) (fresh t) ∙ finite.get-empty hash_cmp q));
   }
 
   -- or goes on
-  pub keeps_going : (b' : Retention) (r' : Turning) (st' : Store) → GoesOn r b st r' b' st' → (IsTrue tells → IsFit r.shaded st')
-      → KeepsTurning tells b' r' st'
-  keeps_going b' r' st' on fit =
+  pub keeps_going : r.turning ≡ true → (b' : Retention) (r' : Turning) (st' : Store) → GoesOn r b st r' b' st'
+      → (IsTrue tells → IsWalking r.shaded r'.walk st') → (IsTrue tells → IsFit r.shaded st') → KeepsTurning tells b' r' st'
+  keeps_going turning b' r' st' on walks fit =
       subst (λ (x : Turning). KeepsTurning tells b' x st') (sym on.rotator)
-      (subst (λ (x : Retention). KeepsTurning tells x r st') (sym on.book) (with_fit st' fit))
+      (subst (λ (x : Retention). KeepsTurning tells x (record r { walk = r'.walk }) st') (sym on.book) (record {
+        pins = k.pins;
+        step = k.step;
+        idle = k.idle;
+        still = λ off. absurd (false≢true (sym off ∙ turning));
+        walks = walks;
+        fit = fit;
+      }))
 
-  pub finish_keeps : (result : Result ℕ StoreFault) (b' : Retention) (r' : Turning) (st' : Store) → AfterFinish r b st result r' b' st'
-      → (IsTrue tells → AfterRotation r.shaded st result st') → (IsTrue tells → IsFit r.shaded st → AfterFit r.shaded st result st')
-      → KeepsTurning tells b' r' st'
-  finish_keeps (Ok epoch) b' r' st' after nodes fit = keeps_ended epoch b' r' st' after.0 (λ t. (nodes t).0.fresh)
-  finish_keeps (Err why) b' r' st' after nodes fit = keeps_going b' r' st' after.1 (λ t. (fit t (k.fit t)).1)
+  pub finish_keeps : r.turning ≡ true → (result : Result ℕ StoreFault) (b' : Retention) (r' : Turning) (st' : Store) → AfterFinish r b st result r' b' st'
+      → (IsTrue tells → AfterRotation r.shaded st result st') → (IsTrue tells → AfterFit r.shaded st result st')
+      → (IsTrue tells → OnErr result (IsWalking r.shaded r'.walk st')) → KeepsTurning tells b' r' st'
+  finish_keeps turning (Ok epoch) b' r' st' after nodes fit walks = keeps_ended epoch b' r' st' after.0 (λ t. (nodes t).0.fresh)
+  finish_keeps turning (Err why) b' r' st' after nodes fit walks = keeps_going turning b' r' st' after.1 (λ t. walks t) (λ t. (fit t).1)
+
+  -- an offer was taken, whose walk took what it writes before
+  pub keeps_taken : (half : Half) (r' : Turning) (st' : Store) → r' ≡ record r { walk = r'.walk } → (r.turning ≡ false → r' ≡ r)
+      → (IsTrue tells → (forms : List Bytes) × store.HasForms half forms st st')
+      → (IsTrue tells → r.turning ≡ true → IsWalking r.shaded r'.walk st') → KeepsTurning tells b r' st'
+  keeps_taken half r' st' rest off some walks = record {
+    pins = k.pins;
+    step = ap (λ (x : Turning). x.turning) rest ∙ k.step;
+    idle = λ e. ap (λ (x : Turning). x.shaded) rest ∙ k.idle (was e);
+    still = λ e. ap (λ (x : Turning). x.walk) (off (was e)) ∙ k.still (was e);
+    walks = λ t. subst (λ (hs : List Hash). IsWalking hs r'.walk st') (sym told) (at t r.turning refl);
+    fit = λ t. subst (λ (hs : List Hash). IsFit hs st') (sym told)
+        (fit_counted r.shaded (store.with_forms half st (some t).0) st' (some t).1 (fit_forms half r.shaded st (some t).0 (k.fit t)));
+  }
+    where
+      told : r'.shaded ≡ r.shaded
+      told = ap (λ (x : Turning). x.shaded) rest
+
+      was : r'.turning ≡ false → r.turning ≡ false
+      was e = sym (ap (λ (x : Turning). x.turning) rest) ∙ e
+
+      at : IsTrue tells → (t : Bool) → r.turning ≡ t → IsWalking r.shaded r'.walk st'
+      at t true e = walks t e
+      at t false e =
+          subst (λ (x : List Hash × Walk). IsWalking x.0 x.1 st')
+          (λ i. (sym (k.idle e) i, sym (ap (λ (x : Turning). x.walk) (off e) ∙ k.still e) i)) (no_walking st')
 
 -- an answer of an acquisition stores some forms
 pub answers_forms : {X : Type 0} (half : Half) (outcome : Result X Clash) (forms : List Bytes) (st : Store) (result : Result X OfferFault)
@@ -332,7 +516,7 @@ module _ (wanted : ForHash Acquiring) (views : ForActor Hash) (b b' : Retention)
     only = λ h there. at h there (finite.get (nodes_of st') h) refl;
     rest = ap (λ (x : Retention). state_of st' wanted views x r') ends.book
         ∙ ap (λ (x : Turning). state_of st' wanted views (after_finish b) x) ends.rotator
-        ∙ (λ i. record (state_of st' wanted views (after_finish b) (record r { turning = false; shaded = [] }))
+        ∙ (λ i. record (state_of st' wanted views (after_finish b) (record r { turning = false; shaded = []; walk = no_walk }))
         { born = none_born st' rotated.fresh i; epoch = (ends.epoch ∙ ends.new) i });
   }
     where
@@ -360,7 +544,7 @@ module _ (wanted : ForHash Acquiring) (views : ForActor Hash) (b b' : Retention)
   finish_stays (Err why) left nodes = swap_goes left.1 nodes.1
 
   pub finish_grows : (result : Result ℕ StoreFault) → AfterFinish r b st result r' b' st' → st.faults ≤ st'.faults
-      → Desks.Grows (record { state = before; faults = st.faults }) (record { state = after; faults = st'.faults })
+      → Desks.Grows (Desks.desk_of st wanted views b r) (Desks.desk_of st' wanted views b' r')
   finish_grows (Ok epoch) left later = record {
     later = later;
     few = omega (arith, ap (λ (x : Retention). length x.listed) left.0.book);
@@ -380,3 +564,135 @@ finish_fault (Err fault.Fault) st st' cause = λ e. cause
 finish_fault (Err fault.Memory) st st' cause = λ e. cc
 finish_fault (Err (fault.Clash h old new)) st st' cause = absurd cause
 finish_fault (Err (fault.WrongHash h found)) st st' cause = absurd cause
+
+-- a hash that was told just now, and the walk takes it
+pub just_told : (r r' : Turning) (h : Hash) → (r.turning ≡ true → Shades r h r') → (r.turning ≡ false → r' ≡ r) → r'.turning ≡ true
+    → Contains r'.shaded h × Contains (walks.shaded r'.walk) h
+just_told r r' h told same on = at r.turning refl
+  where
+    at : (t : Bool) → r.turning ≡ t → Contains r'.shaded h × Contains (walks.shaded r'.walk) h
+    at true e = (((told e).told h).1 (inr refl), is_shaded r.walk h r'.walk (told e).walk)
+    at false e = absurd (false≢true (sym e ∙ sym (ap (λ (x : Turning). x.turning) (same e)) ∙ on))
+
+pub on_ok : {X E : Type 0} (r : Result X E) {P : Type 0} → P → OnOk r P
+on_ok (Ok x) p = p
+on_ok (Err e) p = tt
+
+-- ---- what an offer writes
+-- the walk takes more hashes, none of which is stored
+pub walking_heeded : (shaded : List Hash) (r r' : Turning) (st : Store) → Heeds (finite.get (nodes_of st)) r r'
+    → IsWalking shaded r.walk st → IsWalking shaded r'.walk st
+walking_heeded shaded r r' st h k = record {
+  colours = record {
+    copied = λ q c. k.colours.copied q (subst (λ (hs : List Hash). Contains hs q) h.black c);
+    named = λ q p form c is names stored. h.stays p
+        (k.colours.named q p form (subst (λ (hs : List Hash). Contains hs q) h.black c) is names stored);
+  };
+  told = λ q c stored. h.stays q (k.told q c stored);
+  kept = λ q c stored. k.kept q (h.only q c stored) stored;
+}
+
+module _ (half : Half) where
+  -- a form more
+  form_grows : (st : Store) (form : Bytes)
+      → Grows (finite.get (nodes_of st)) (finite.get (nodes_of (store.with_form half st form)))
+      × Grows (finite.get st.writable) (finite.get (store.with_form half st form).writable)
+  form_grows st form = at (finite.get (nodes_of st) (half form)) refl
+    where
+      at : (o : Option Bytes) → finite.get (nodes_of st) (half form) ≡ o
+          → Grows (finite.get (nodes_of st)) (finite.get (nodes_of (if is_some o then st else with_pair st (half form) form)))
+          × Grows (finite.get st.writable) (finite.get (if is_some o then st else with_pair st (half form) form).writable)
+      at None e = (grown_pair st (half form) form e, written_pair st (half form) form e)
+      at (Some old) e = (λ h f is. is, λ h f is. is)
+
+  form_new : (st : Store) (form : Bytes) (h : Hash) (f : Bytes) → finite.get (nodes_of (store.with_form half st form)) h ≡ Some f
+      → (finite.get (nodes_of st) h ≡ Some f) ⊎ ((h ≡ half form) × (f ≡ form))
+  form_new st form h f e = at (finite.get (nodes_of st) (half form)) refl e
+    where
+      at : (o : Option Bytes) → finite.get (nodes_of st) (half form) ≡ o
+          → finite.get (nodes_of (if is_some o then st else with_pair st (half form) form)) h ≡ Some f
+          → (finite.get (nodes_of st) h ≡ Some f) ⊎ ((h ≡ half form) × (f ≡ form))
+      at None gone is = new_or_old (nodes_of st) (half form) form h f
+          (ap (λ (n : Nodes). finite.get n h) (sym (merged-insert st.writable st.archive (half form) form)) ∙ is)
+      at (Some old) gone is = inl is
+
+  pub forms_grow : (forms : List Bytes) (st : Store)
+      → Grows (finite.get (nodes_of st)) (finite.get (nodes_of (store.with_forms half st forms)))
+      × Grows (finite.get st.writable) (finite.get (store.with_forms half st forms).writable)
+  forms_grow [] st = (λ h f is. is, λ h f is. is)
+  forms_grow (form ∷ forms) st =
+      let one = form_grows st form in
+      let rest = forms_grow forms (store.with_form half st form) in
+      (λ h f is. rest.0 h f (one.0 h f is), λ h f is. rest.1 h f (one.1 h f is))
+
+  forms_new : (forms : List Bytes) (st : Store) (h : Hash) (f : Bytes) → finite.get (nodes_of (store.with_forms half st forms)) h ≡ Some f
+      → (finite.get (nodes_of st) h ≡ Some f) ⊎ ((h ≡ half f) × Contains forms f)
+  forms_new [] st h f e = inl e
+  forms_new (form ∷ forms) st h f e = ⊎_elim
+      (λ before. ⊎_elim (λ old. inl old)
+      (λ this. inr (this.0 ∙ ap half (sym this.1), subst (Contains (form ∷ forms)) (sym this.1) (in_head form forms)))
+      (form_new st form h f before))
+      (λ later. inr (later.0, in_tail form f forms later.1))
+      (forms_new forms (store.with_form half st form) h f e)
+
+  -- what stores forms adds them, each of which is shaded and named by what is kept
+  pub forms_add : (shaded : List Hash) (w : Walk) (forms : List Bytes) (st st' : Store) → store.HasForms half forms st st'
+      → ((f : Bytes) → Contains forms f → Stored (finite.get (nodes_of st)) (half f) ⊎ Contains (walks.shaded w) (half f))
+      → ((f : Bytes) → Contains forms f → finite.get (nodes_of st') (half f) ≡ Some f → Reach (finite.get (nodes_of st')) shaded (half f))
+      → Adds shaded w st st'
+  forms_add shaded w forms st st' has heeded reached = record {
+    grows = λ h f e. ap (λ (x : Store). finite.get (nodes_of x) h) has ∙ (forms_grow forms st).0 h f e;
+    writes = λ h f e. ap (λ (x : Store). finite.get x.writable h) has ∙ (forms_grow forms st).1 h f e;
+    new = λ h f e. ⊎_elim (λ old. inl old)
+        (λ new. ⊎_elim
+        (λ (was : Stored (finite.get (nodes_of st)) (half f)).
+        inl (let there : finite.get (nodes_of st) h ≡ Some was.0 = ap (finite.get (nodes_of st)) new.0 ∙ was.1 in
+        there ∙ ap Some (one_form (finite.get (nodes_of st') h) was.0 f
+        (ap (λ (x : Store). finite.get (nodes_of x) h) has ∙ (forms_grow forms st).0 h was.0 there) e)))
+        (λ among. inr (
+          subst (Contains (walks.shaded w)) (sym new.0) among,
+          subst (Reach (finite.get (nodes_of st')) shaded) (sym new.0)
+              (reached f new.1 (ap (finite.get (nodes_of st')) (sym new.0) ∙ e)),
+        ))
+        (heeded f new.1))
+        (forms_new forms st h f (ap (λ (x : Store). finite.get (nodes_of x) h) (sym has) ∙ e));
+  }
+
+-- an open target was told to the rotation under way
+pub wanted_told : (o : Option ℕ) (P : Type 0) → IfSome o (λ v. P) → is_some o ≡ true → P
+wanted_told None P if_some e = absurd (false≢true e)
+wanted_told (Some v) P if_some e = if_some
+
+-- what was told stays as it was, where the walk alone goes on
+pub walked_state : (st : Store) (wanted : ForHash Acquiring) (views : ForActor Hash) (b : Retention) (r r' : Turning)
+    → r' ≡ record r { walk = r'.walk } → state_of st wanted views b r' ≡ state_of st wanted views b r
+walked_state st wanted views b r r' rest = ap (λ (x : Turning). state_of st wanted views b x) rest
+
+-- ---- a slice of a rotation under way
+module _ (tells : Bool) (b : Retention) (r r' : Turning) (st st' : Store) (k : KeepsTurning tells b r st) (n : ℕ)
+    (same : r' ≡ record r { walk = r'.walk; slices = n }) where
+  -- the walk goes on
+  pub keeps_sliced : r.turning ≡ true
+      → (IsTrue tells → CopiesSome r.shaded st st' × IsWalking r.shaded r'.walk st') → KeepsTurning tells b r' st'
+  keeps_sliced on walks =
+      subst (λ (x : Turning). KeepsTurning tells b x st') (sym same) (record {
+        pins = k.pins;
+        step = k.step;
+        idle = k.idle;
+        still = λ off. absurd (false≢true (sym off ∙ on));
+        walks = λ t. (walks t).1;
+        fit = λ t. fit_on r.shaded st st' (k.fit t) (walks t).0;
+      })
+
+  -- and the state stays as it is: what is stored, what was born, and what was told
+  pub slice_stays : (wanted : ForHash Acquiring) (views : ForActor Hash) → CopiesSome r.shaded st st' → st'.epoch ≡ st.epoch
+      → state_of st' wanted views b r' ≡ state_of st wanted views b r
+  slice_stays wanted views some epoch =
+      ap (λ (x : Turning). state_of st' wanted views b x) same
+      ∙ (λ i. record (state_of st wanted views b r) { nodes = some.nodes i; born = same_born r.shaded st st' some i; epoch = epoch i })
+
+-- how a slice leaves the rotator
+pub sliced_as : {E : Type 0} (r r' : Turning) (result : Result Left E) → SlicesBy r result r'
+    → (n : ℕ) × (r' ≡ record r { walk = r'.walk; slices = n })
+sliced_as r r' (Ok l) by = (slices_after l r.slices, by)
+sliced_as r r' (Err e) by = (r.slices, by)

@@ -56,9 +56,13 @@ root_found half st s v t kind (Err e) is all viewed found = tt
 pub no_root : (s : State) (v : ℕ × ℕ) (kind : Kind) → get_in numbered_cmp s.views v ≡ None → None ≡ view_root s kind v
 no_root s v kind none = sym (ap (option_and_then (λ x. option_map (header_root kind) (header_in (form_in s) x))) none)
 
+-- what the commands act on, after the store was read
+abbrev pub read_desk : Desk → Store → Desk
+read_desk d st = record d { state = over st d.state; faults = st.faults; written = st.writable; archived = st.archive }
+
 -- what only read the store left the state
 pub only_reads : (tells : Bool) (half : Half) (d0 d : Desk) (st st' : Store) → d0 ≡ d → IsOver st d.state → st.faults ≡ d.faults
-    → WasRead tells half st st' → OnlyReads tells d (record { state = over st' d0.state; faults = st'.faults })
+    → WasRead tells half st st' → OnlyReads tells d (read_desk d0 st')
 only_reads tells half d0 d st st' e is same read = record {
   state = λ told. ap (λ (x : Desk). over st' x.state) e ∙ same_over st st' d.state is (read.same told);
   tables =
@@ -74,7 +78,7 @@ counted_by_rest false st st' told e = absurd cc
 
 pub only_asked : (tells : Bool) (d0 d : Desk) (st st' : Store) → d0 ≡ d → IsOver st d.state → st.faults ≡ d.faults
     → rest_of tells st' ≡ rest_of tells st → st.faults ≤ st'.faults
-    → OnlyReads tells d (record { state = over st' d0.state; faults = st'.faults })
+    → OnlyReads tells d (read_desk d0 st')
 only_asked tells d0 d st st' e is same rest later = record {
   state = λ told. ap (λ (x : Desk). over st' x.state) e ∙ same_over st st' d.state is (counted_by_rest tells st st' told rest);
   tables =

@@ -1,6 +1,6 @@
--- What the commands act on: the state over a store, and the store's count of faults.
+-- What the commands act on: the state over a store, the store's count of faults, and where its forms lie.
 use Rattle.std.specs.Prelude.{◌≡◌, ◌≤◌, ℕ, suc, Bool, IsTrue, [], length}
-use Rattle.ledger_spec.specs.Bytes.{Hash, Half}
+use Rattle.ledger_spec.specs.Bytes.{Hash, Half, Nodes}
 use Rattle.ledger_spec.specs.Maps.{ForHash, ForActor}
 use Rattle.ledger_spec.specs.Acquiring.{Acquiring}
 use Rattle.ledger_spec.specs.Retaining.{Retention}
@@ -9,10 +9,14 @@ use Rattle.ledger_machine.specs.State.{State, form_in}
 use Rattle.rotating_store.specs.Stores.{Store, nodes_of, born_of}
 use Rattle.online_rotate.specs.Rotators.{Turning}
 
--- a state, and how often the devices of its store failed
+-- a state, how often the devices of its store failed, how many slices of the rotation under way left something to copy, and what the
+-- writable backend and the archive hold
 pub record Desk : Type 0 where
   pub state : State
   pub faults : ℕ
+  pub slices : ℕ
+  pub written : Nodes
+  pub archived : Nodes
 
 -- the state with what a store holds and was born in its epoch
 abbrev pub over : Store → State → State
@@ -33,6 +37,16 @@ state_of st wanted views b r = record {
   interval = b.interval;
   turning = b.turning;
   shaded = r.shaded;
+}
+
+-- the same with the rest of what contracts see
+abbrev pub desk_of : Store → ForHash Acquiring → ForActor Hash → Retention → Turning → Desk
+desk_of st wanted views b r = record {
+  state = state_of st wanted views b r;
+  faults = st.faults;
+  slices = r.slices;
+  written = st.writable;
+  archived = st.archive;
 }
 
 -- where the store tells what it holds, all of it are forms under their own hashes

@@ -2,8 +2,9 @@
 use Rattle.std.specs.Prelude.{◌≡◌, ◌⊎◌, ◌^◌, ℕ, ◌+◌, ◌-◌, ◌<◌, ◌≤◌, ◌++◌, ◌∷◌, [], List, Bool, Some, IsTrue}
 use Rattle.std.specs.Prelude.{length, take, slice_index, slice_index_or}
 use Rattle.std.specs.List.{All, Contains}
-use Rattle.ledger_spec.specs.Bytes.{Hash, Half}
+use Rattle.ledger_spec.specs.Bytes.{Hash, Half, Nodes}
 use Rattle.ledger_machine.specs.declared.commands.Line.{Line}
+use Rattle.ledger_machine.specs.declared.commands.Command.TheVariants as command
 use Rattle.ledger_machine.specs.declared.commands.Record.{Record}
 use Rattle.ledger_machine.specs.Records.{AreRecords}
 use Rattle.ledger_machine.specs.declared.journal.Entry.{Entry}
@@ -23,16 +24,20 @@ use Rattle.run_io.specs.Bytes.{Rose}
 use Rattle.script_form.specs.Servable.{AreServable}
 use Rattle.store_core.specs.Desks.{KeepsRest}
 use Rattle.store_core.specs.Refusals.{IsRefusal}
-use Rattle.store_core.specs.Telling.{AreTold}
+use Rattle.store_core.specs.Telling.{AreTold, most_slices}
 
 -- what contracts see of a core: its script's records and lines, the interval, the store's count of faults at opening and now, how many
--- calls for a stored record failed, the journal, and the state
+-- slices of the rotation under way left something to copy, what the writable backend and the archive hold, how many calls for a stored
+-- record failed, the journal, and the state
 pub record CoreView : Type 0 where
   pub records : List Record
   pub lines : List Line
   pub interval : ℕ
   pub opened : ℕ
   pub faults : ℕ
+  pub slices : ℕ
+  pub written : Nodes
+  pub archived : Nodes
   pub missed : ℕ
   pub journal : List Entry
   pub state : State
@@ -104,6 +109,25 @@ pub record Advances (half : Half) (told : Bool) (old : CoreView) (a : ℕ) (new 
   pub refused : IsRefusal entry.reply → KeepsRest old.state new.state
   -- where the store tells what it holds, the state is what a step of that line leaves
   pub step : IsTrue told → Answers half old.lines old.state entry new.state
+
+-- A slice of the actor's next line, a swap, that left something to copy: it is counted, and there are at most 64 of a rotation. No entry
+-- is recorded, and the state is as it was; where the store doesn't tell what it holds, but for what is stored and what was told.
+pub record Slices (told : Bool) (old : CoreView) (a : ℕ) (new : CoreView) : Type 0 where
+  pub line : Line
+  pub next : next_line old.lines old.journal a ≡ Some line
+  pub swap : line.command ≡ command.Swap
+  pub counted : new.slices ≡ old.slices + 1
+  pub few : new.slices ≤ most_slices
+  pub later : old.faults ≤ new.faults
+  pub state : IsTrue told → new.state ≡ old.state
+  pub still : KeepsRest old.state new.state
+  pub rest : new ≡ record old {
+    faults = new.faults;
+    slices = new.slices;
+    written = new.written;
+    archived = new.archived;
+    state = new.state;
+  }
 
 -- a core's journal is a run of its script to its state
 abbrev pub IsRun : Half → CoreView → Type 0

@@ -1,6 +1,7 @@
 pub mod Desks
 pub mod Wanting
 pub mod Refusals
+pub mod Heeds
 pub mod Journal
 pub mod Dumping
 pub mod Totals

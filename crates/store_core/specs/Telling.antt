@@ -1,5 +1,5 @@
 -- What the machine keeps of a rotation, and what its commands tell one.
-use Rattle.std.specs.Prelude.{◌≡◌, ◌≢◌, ◌⊎◌, ◌↔◌, ◌+◌, ◌≤◌, ◌++◌, Bool, false, IsTrue, IsSome, IsSomeAnd, IfSome, List, [], None}
+use Rattle.std.specs.Prelude.{◌≡◌, ◌≢◌, ◌⊎◌, ◌↔◌, ◌+◌, ◌≤◌, ◌<◌, ◌++◌, Bool, false, IsTrue, IsSome, IsSomeAnd, IfSome, List, [], None}
 use Rattle.std.specs.Prelude.{Some, Result, Ok, Err, ℕ}
 use Rattle.std.specs.List.{Contains}
 use Rattle.std.specs.Map.{keys_of, values_of}
@@ -8,8 +8,9 @@ use Rattle.ledger_spec.specs.Bytes.{Bytes, Hash, Half}
 use Rattle.ledger_spec.specs.Maps.{hash_cmp, get_in}
 use Rattle.ledger_spec.specs.Retaining.{Retention, floor_behind}
 use Rattle.rotating_store.specs.Stores.{Store}
-use Rattle.online_rotate.specs.Rotators.{Turning, InStep}
-use Rattle.online_rotate.specs.Copying.{IsFit}
+use Rattle.online_rotate.specs.Rotators.{Turning, no_walk, InStep, slices_after}
+use Rattle.online_rotate.specs.Copying.{IsFit, IsWalking}
+use Rattle.copy_walk.specs.declared.walk.Left.{Left}
 use Rattle.online_rotate.specs.declared.rotator.Begun.{Begun}
 use Rattle.online_rotate.specs.declared.rotator.Begun.TheVariants as begun
 use Rattle.node_backend.specs.declared.back.BackFault.{BackFault}
@@ -26,6 +27,9 @@ use Rattle.ledger_machine.specs.declared.replies.SwapReply.{SwapReply}
 use Rattle.ledger_machine.specs.declared.replies.SwapReply.TheVariants as swaps
 use Rattle.ledger_machine.specs.declared.replies.Reply.{Reply}
 use Rattle.ledger_machine.specs.declared.replies.Reply.TheVariants as says
+use Rattle.store_core.specs.declared.rotating.Part.{Part}
+use Rattle.store_core.specs.declared.rotating.Part.TheVariants as parts
+use Rattle.store_core.specs.Desks.{Desk}
 use Rattle.ledger_machine.specs.State.{State, form_in, Kept}
 use Rattle.ledger_machine.specs.Rotation.{WhileTurning}
 use Rattle.ledger_machine.specs.Rotation.{AreShaded}
@@ -33,11 +37,14 @@ use Rattle.ledger_machine.specs.Rotation.{Tells}
 use Rattle.ledger_machine.specs.Steps.{own_hashes}
 
 -- Nothing is pinned in the book: what views and sessions hold is told as a rotation begins. The book has a rotation under way where the
--- rotator has, and outside of one nothing was told. What both backends hold is reached from what was told.
+-- rotator has, and outside of one nothing was told and nothing is walked. The walk copies what was told reaches, and what both backends
+-- hold is reached from that.
 pub record KeepsTurning (tells : Bool) (b : Retention) (r : Turning) (st : Store) : Type 0 where
   pub pins : b.pins ≡ []
   pub step : InStep r b
   pub idle : r.turning ≡ false → r.shaded ≡ []
+  pub still : r.turning ≡ false → r.walk ≡ no_walk
+  pub walks : IsTrue tells → IsWalking r.shaded r.walk st
   pub fit : IsTrue tells → IsFit r.shaded st
 
 -- the commands that neither begin nor end a rotation
@@ -55,6 +62,10 @@ IsRotating _ = ⊥
 -- while a rotation is under way each root was told to it
 abbrev pub AreTold : State → Type 0
 AreTold s = IfSome s.turning (λ v. AreShaded s)
+
+-- while a rotation is under way each open target was told to it
+abbrev pub AreWantedTold : State → Type 0
+AreWantedTold s = IfSome s.turning (λ v. (t : Hash) → Contains (keys_of s.wanted) t → Contains s.shaded t)
 
 -- what was told stays told, and nothing else is told but these
 pub record Hears (told : List Hash) (more : List Hash) (told' : List Hash) : Type 0 where
@@ -84,6 +95,26 @@ unended _ = back.Memory
 abbrev pub swap_told : Result ℕ StoreFault → Result SwapReply BackFault
 swap_told (Ok epoch) = Ok (swaps.Swapped epoch)
 swap_told (Err fault) = Err (unended fault)
+
+abbrev pub slice_told : Result Left StoreFault → Result Left BackFault
+slice_told (Ok l) = Ok l
+slice_told (Err fault) = Err (unended fault)
+
+-- how many slices of a rotation a swap does before it copies what is left in one section
+abbrev pub most_slices : ℕ
+most_slices = 64
+
+-- a slice is counted where it left something
+abbrev pub CountsSlice : Result Left BackFault → Desk → Desk → Type 0
+CountsSlice (Ok l) d d' = d'.slices ≡ slices_after l d.slices
+CountsSlice (Err _) d d' = d'.slices ≡ d.slices
+
+-- a slice of a swap that left something: it is counted, and there were fewer than the most of them
+pub record IsSlice (c : Command) (part : Part) (d d' : Desk) : Type 0 where
+  pub swap : c ≡ command.Swap
+  pub cut : part ≡ parts.Slice
+  pub few : d.slices < most_slices
+  pub counted : d'.slices ≡ d.slices + 1
 
 -- a rotation that begins was told the ledgers that stay listed, those of views, the open targets and these, and nothing else
 abbrev pub BeginsBy : State → List Hash → BeginReply → State → Type 0

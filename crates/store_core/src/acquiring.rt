@@ -19,9 +19,10 @@ ghost use Rattle.ledger_machine.specs.Steps.{IsAfter};
 ghost use Rattle.ledger_machine.specs.Steps.{Does};
 ghost use Rattle.store_core.specs.Desks.{IsFiled, Stays, Grows, KeepsRest};
 ghost use Rattle.store_core.specs.Refusals.{IsRefusal};
-ghost use Rattle.store_core.specs.Telling.{Hears, TellsRoot};
+ghost use Rattle.store_core.specs.Telling.{Hears, TellsRoot, AreWantedTold};
 ghost use Rattle.store_core.specs.Wanting.{judged_by, found_seq as seq_found, settled, told_at};
 
+use crate::heeding::{take_base, take_node};
 use crate::machine::Machine;
 use crate::told::{base_answer, check_told, node_answer, peer_told};
 use acquire_core::{Acquire, CheckReply as Checked, TickReply as Ticked};
@@ -125,6 +126,7 @@ impl<H: NodeHash, Sh: Shelf> Machine<H, Sh> {
         tx: &Option<Blob>,
     ) -> Reply
         requires filed { IsFiled H.half Sh.B.tells self.old.state }
+        requires told { IsTrue Sh.B.tells → AreWantedTold self.old.state }
         requires offered { AreOffered target.now header.now state.now tx.now }
         ensures does { IsTrue Sh.B.tells → (actor : ℕ)
             → Does H.half self.old.state actor (Command.Base peer target.now header.now state.now tx.now) result [] self.new.state }
@@ -138,11 +140,22 @@ impl<H: NodeHash, Sh: Shelf> Machine<H, Sh> {
             return Reply::Base(BaseReply::NotOpen);
         };
         let (state, tx) = (lent(state), lent(tx));
-        let taken = acquire.base::<H, Sh>(alloc, &mut self.store, peer, header.bytes(), state, tx);
+        let taken = take_base::<H, Sh>(
+            alloc,
+            acquire,
+            &mut self.store,
+            &mut self.rotator,
+            target,
+            peer,
+            header.bytes(),
+            state,
+            tx,
+        );
         base_answer(taken)
     }
 
-    /// Takes a node of a peer. It is reached from the target, so a rotation under way, which was told of that, keeps it.
+    /// Takes a node of a peer. It is reached from the target, so a rotation under way, which was told of that, keeps it; its walk takes the
+    /// node's hash before the node is written.
     pub(crate) fn node(
         &mut self,
         alloc: Global,
@@ -153,6 +166,7 @@ impl<H: NodeHash, Sh: Shelf> Machine<H, Sh> {
         blob: &Blob,
     ) -> Reply
         requires filed { IsFiled H.half Sh.B.tells self.old.state }
+        requires told { IsTrue Sh.B.tells → AreWantedTold self.old.state }
         requires bytes { AreBytes blob.now }
         ensures does { IsTrue Sh.B.tells → (actor : ℕ)
             → Does H.half self.old.state actor (Command.Node peer target.now kind id.now blob.now) result [] self.new.state }
@@ -165,7 +179,16 @@ impl<H: NodeHash, Sh: Shelf> Machine<H, Sh> {
         let Some(acquire) = self.wanted.get_mut(target) else {
             return Reply::Node(NodeReply::NotOpen);
         };
-        let taken = acquire.node::<H, Sh>(alloc, &mut self.store, peer, kind, id, blob.bytes());
+        let taken = take_node::<H, Sh>(
+            alloc,
+            acquire,
+            &mut self.store,
+            &mut self.rotator,
+            peer,
+            kind,
+            id,
+            blob.bytes(),
+        );
         node_answer(taken)
     }
 

@@ -1,5 +1,5 @@
 //! The machine with the open edit sessions beside it: each command is the machine's, the sessions', or one of both.
-ghost use Rattle.std.specs.Prelude.{◌≡◌, ◌<◌, ◌-◌, ◌^◌, [], IsTrue, IfOk, IfErr, IfSome, OnErr, length, map};
+ghost use Rattle.std.specs.Prelude.{◌≡◌, ◌<◌, ◌-◌, ◌^◌, [], IsTrue, IfOk, IfErr, IfSome, IsNone, OnErr, length, map};
 ghost use Rattle.std.specs.FinMap as finite;
 ghost use Rattle.std.specs.Option.{option_copied};
 ghost use Rattle.run_io.specs.Bytes.{Rose};
@@ -15,14 +15,16 @@ ghost use Rattle.store_core.specs.Benches.{IsOfSessions};
 ghost use Rattle.store_core.specs.Desks.{IsFiled, Stays, Grows, KeepsRest, OnlyReads, over};
 ghost use Rattle.store_core.specs.Dumping.{IsNextRecord, Follows};
 ghost use Rattle.store_core.specs.Refusals.{IsRefusal};
-ghost use Rattle.store_core.specs.Telling.{TellsRoot, AreTold, Carried};
+ghost use Rattle.store_core.specs.Telling.{TellsRoot, AreTold, Carried, IsSlice};
 
 use crate::machine::{Machine, unread};
+use crate::rotating::Part;
 use edit_session::a_session_stays_over_its_ledger;
 use half_hash::{Hash32, Memory, NodeHash};
 use ledger_laws::{a_row_is_one_beside_any_sessions, a_step_carries_what_was_told};
 use ledger_machine::{Command, Record, Reply, ViewReply};
 use node_backend::{BackFault, Shelf};
+use online_rotate::Left;
 use open_sessions::Open;
 use rotating_store::RotStore;
 use shamap_node::Node;
@@ -46,10 +48,7 @@ impl<H: NodeHash, Sh: Shelf> Model for Bench<H, Sh> {
 
     ghost coded = { Prim.hlevel (codes, map_code, set_code) };
 
-    ghost view = { λ b. record {
-      state = with_open H.half Sh.B.tells b.machine.state b.sessions;
-      faults = b.machine.faults;
-    } };
+    ghost view = { λ b. record b.machine { state = with_open H.half Sh.B.tells b.machine.state b.sessions } };
 
     ghost invariant = { λ b. KeepsDrafts H.half Sh.B.tells b.machine.state b.sessions };
 }
@@ -136,6 +135,36 @@ impl<H: NodeHash, Sh: Shelf> Bench<H, Sh> {
     {
         a_step_carries_what_was_told();
         self.serve(alloc, actor, command)
+    }
+
+    /// One section of a command: the reply, and the nodes that it used; or none where a slice of a swap left something to copy.
+    pub(crate) fn section(
+        &mut self,
+        alloc: Global,
+        actor: u8,
+        command: &Command,
+        part: Part,
+    ) -> Option<(Reply, Vec<Arc<Node>>)>
+        requires in_range { IsInRange command.now }
+        requires sound { IsTrue Sh.B.tells → Sound H.half self.old.state }
+        requires told { IsTrue Sh.B.tells → AreTold self.old.state }
+        requires room { self.old.state.epoch < 2 ^ 64 - 1 }
+        ensures step { IsTrue Sh.B.tells → IfSome result (λ r.
+            Step H.half self.old.state actor command.now r.0 (map (λ a. held a.value) r.1.items) self.new.state) }
+        ensures told { IsTrue Sh.B.tells → AreTold self.new.state }
+        ensures refused { IfSome result (λ r. IsRefusal r.0 → KeepsRest self.old.state self.new.state) }
+        ensures grows { Grows self.old self.new }
+        ensures fault { IfSome result (λ r. r.0 ≡ Reply.Fault → Rose self.old.faults self.new.faults) }
+        ensures more { IsNone result → IsSlice command.now part self.old self.new }
+        ensures still { IsNone result → KeepsRest self.old.state self.new.state }
+        ensures same { IsTrue Sh.B.tells → IsNone result → self.new.state ≡ self.old.state }
+    {
+        a_step_carries_what_was_told();
+        match self.slice_first(alloc, command, part) {
+            Ok(Left::More) => None,
+            Ok(Left::Done) => Some(self.answer(alloc, actor, command)),
+            Err(fault) => Some((unread(fault), Vec::new(alloc))),
+        }
     }
 
     // What a command does, and what it carries of the rotation under way.

@@ -133,8 +133,7 @@ impl<H: NodeHash, Sh: Shelf> Bench<H, Sh> {
 
 impl<H: NodeHash, Sh: Shelf> Machine<H, Sh> {
     /// Stores a form under its hash, unless it is there. Each form that a close writes comes by here: the rotation under way is told of its
-    /// hash before it is written, and a refused telling has written nothing. The rule for copying in slices will be proved by these kinds
-    /// of move: a new root is told, then opened or listed; a form is told, then written.
+    /// hash before it is written, and a refused telling has written nothing.
     pub(crate) fn keep(&mut self, alloc: Global, form: &FormOf) -> Result<(), OfferFault>
         requires { form.now.hash ≡ H.half form.now.form }
         ensures keeps { IsTrue Sh.B.tells → MayKeep H.half self.old.state form.now.form result self.new.state }
@@ -144,21 +143,10 @@ impl<H: NodeHash, Sh: Shelf> Machine<H, Sh> {
         ensures stays { Stays self.old self.new }
         ensures fault { IfErr result (λ e. e ≡ OfferFault.Fault → Rose self.old.faults self.new.faults) }
     {
-        if self.tell(&form.hash).is_err() {
-            return Err(OfferFault::Memory);
+        match self.rotator.shade(&form.hash) {
+            Ok(()) => {}
+            Err(_) => return Err(OfferFault::Memory),
         }
-        self.write(alloc, form)
-    }
-
-    // The same, once the rotation was told.
-    fn write(&mut self, alloc: Global, form: &FormOf) -> Result<(), OfferFault>
-        requires { form.now.hash ≡ H.half form.now.form }
-        ensures keeps { IsTrue Sh.B.tells → MayKeep H.half self.old.state form.now.form result self.new.state }
-        ensures told { self.new.state.shaded ≡ self.old.state.shaded }
-        ensures rest { KeepsRest self.old.state self.new.state }
-        ensures stays { Stays self.old self.new }
-        ensures fault { IfErr result (λ e. e ≡ OfferFault.Fault → Rose self.old.faults self.new.faults) }
-    {
         let put = self
             .store
             .put_hashed::<H>(alloc, &form.hash, form.form.bytes());

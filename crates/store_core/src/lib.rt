@@ -6,6 +6,7 @@ mod bench;
 mod closing;
 mod drafts;
 mod editing;
+mod heeding;
 mod laws;
 mod machine;
 mod pages;

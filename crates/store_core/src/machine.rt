@@ -13,7 +13,7 @@ ghost use Rattle.store_core.specs.Desks.{IsFiled, Grows, KeepsRest, OnlyReads, o
 ghost use Rattle.store_core.specs.Dumping.{IsNextRecord, Follows};
 ghost use Rattle.store_core.specs.Reads.{ReadsNothing};
 ghost use Rattle.store_core.specs.Refusals.{IsRefusal, read_refusal};
-ghost use Rattle.store_core.specs.Telling.{TellsRoot};
+ghost use Rattle.store_core.specs.Telling.{TellsRoot, AreWantedTold};
 
 use crate::records::next_record;
 use crate::told::unsearched;
@@ -43,7 +43,7 @@ pub(crate) struct Machine<H: NodeHash, Sh: Shelf> {
 impl<H: NodeHash, Sh: Shelf> Model for Machine<H, Sh> {
     ghost use Rattle.std.specs.Coded.{codes};
     ghost use Rattle.ledger_spec.specs.Maps.{map_code, set_code};
-    ghost use Rattle.store_core.specs.Desks.{Desk, state_of};
+    ghost use Rattle.store_core.specs.Desks.{Desk, desk_of};
     ghost use Rattle.store_core.specs.Telling.{KeepsTurning};
     ghost use Rattle.store_core.specs.Wanting.{AreOpen};
 
@@ -51,10 +51,7 @@ impl<H: NodeHash, Sh: Shelf> Model for Machine<H, Sh> {
 
     ghost coded = { Prim.hlevel (codes, map_code, set_code) };
 
-    ghost view = { λ m. record {
-      state = state_of m.store m.wanted.entries m.views.entries m.book m.rotator;
-      faults = m.store.faults;
-    } };
+    ghost view = { λ m. desk_of m.store m.wanted.entries m.views.entries m.book m.rotator };
 
     ghost invariant = { λ m. AreOpen m.wanted.entries × KeepsTurning Sh.B.tells m.book m.rotator m.store };
 }
@@ -142,6 +139,7 @@ impl<H: NodeHash, Sh: Shelf> Machine<H, Sh> {
         requires beside { IsBeside command.now }
         requires in_range { IsInRange command.now }
         requires filed { IsFiled H.half Sh.B.tells self.old.state }
+        requires told { IsTrue Sh.B.tells → AreWantedTold self.old.state }
         ensures does { IsTrue Sh.B.tells
             → Does H.half self.old.state actor command.now result.0 (map (λ a. held a.value) result.1.items) self.new.state }
         ensures tells { Tells self.old.state self.new.state (own_hashes H.half self.old.state actor command.now result.0) }
@@ -174,6 +172,7 @@ impl<H: NodeHash, Sh: Shelf> Machine<H, Sh> {
         requires reads_nothing { ReadsNothing command.now }
         requires in_range { IsInRange command.now }
         requires filed { IsFiled H.half Sh.B.tells self.old.state }
+        requires told { IsTrue Sh.B.tells → AreWantedTold self.old.state }
         ensures does { IsTrue Sh.B.tells → Does H.half self.old.state actor command.now result [] self.new.state }
         ensures tells { Tells self.old.state self.new.state (own_hashes H.half self.old.state actor command.now result) }
         ensures names { TellsRoot self.old.state command.now result self.new.state }

@@ -1,5 +1,5 @@
 //! The commands that begin and end a rotation, and what one is told meanwhile.
-ghost use Rattle.std.specs.Prelude.{◌≡◌, ◌<◌, ◌≤◌, ◌-◌, ◌^◌, ◌++◌, ◌∷◌, [], IsTrue, IsSome, IfErr, IfOk, OnErr, OnOk};
+ghost use Rattle.std.specs.Prelude.{◌≡◌, ◌<◌, ◌≤◌, ◌-◌, ◌^◌, ◌++◌, ◌∷◌, [], IsTrue, IsSome, IfErr, IfOk, OnErr, OnOk, Ok};
 ghost use Rattle.std.specs.List.{Contains};
 ghost use Rattle.std.specs.Map.{keys_of, values_of};
 ghost use Rattle.run_io.specs.Bytes.{Rose};
@@ -10,18 +10,34 @@ ghost use Rattle.ledger_machine.specs.Steps.{Does};
 ghost use Rattle.ledger_machine.specs.State.{bases as edited};
 ghost use Rattle.store_core.specs.Desks.{IsFiled, Stays, Grows, KeepsRest};
 ghost use Rattle.store_core.specs.Refusals.{IsRefusal};
-ghost use Rattle.store_core.specs.Telling.{Hears, BeginsBy, AfterSwap, IsRotating, AreTold, Carried};
+ghost use Rattle.store_core.specs.Telling.{most_slices, CountsSlice, IsSlice, Hears, BeginsBy, AfterSwap, IsRotating, AreTold, Carried};
 
 use crate::bench::Bench;
 use crate::machine::{Machine, unread};
-use crate::told::{begin_told, swap_told};
+use crate::told::{begin_told, slice_told, swap_told};
 use acquire_core::Acquire;
 use edit_session::a_session_stays_over_its_ledger;
 use half_hash::{Hash32, Memory, NodeHash};
 use ledger_machine::{BeginReply, Command, Reply, SwapReply};
 use node_backend::{BackFault, Shelf};
+use online_rotate::Left;
 use std::alloc::Global;
 use std::collections::BTreeMap;
+
+/// How many slices of a rotation a swap does before it copies what is left in one section.
+const MOST_SLICES: u32 = 64;
+
+/// How many hashes of the walk one slice takes.
+const SLICE: usize = 256;
+
+/// How much of a command one section does.
+#[derive(Clone, Copy, Debug, PartialEq, Eq)]
+pub(crate) enum Part {
+    /// A slice of it, where it is done in slices.
+    Slice,
+    /// All of it.
+    Whole,
+}
 
 impl<H: NodeHash, Sh: Shelf> Machine<H, Sh> {
     /// Tells the rotation under way, where there is one, to keep what a hash reaches. Each new root and each form of a close is told by
@@ -61,6 +77,28 @@ impl<H: NodeHash, Sh: Shelf> Machine<H, Sh> {
         Ok(hashes)
     }
 
+    /// Whether a rotation is under way that may do one more slice.
+    pub(crate) fn may_slice(&self) -> bool
+        ensures { IsTrue result → IsSome self.now.state.turning × (self.now.slices < most_slices) }
+    {
+        self.rotator.busy() && self.rotator.slices() < MOST_SLICES
+    }
+
+    /// Takes up to n hashes of the walk of the rotation under way. Only where forms lie changes: the state stays as it is.
+    pub(crate) fn slice(&mut self, alloc: Global, n: usize) -> Result<Left, BackFault>
+        requires turning { IsSome self.old.state.turning }
+        requires some { 0 < n }
+        ensures same { IsTrue Sh.B.tells → self.new.state ≡ self.old.state }
+        ensures rest { KeepsRest self.old.state self.new.state }
+        ensures told { self.new.state.shaded ≡ self.old.state.shaded }
+        ensures counts { CountsSlice result self.old self.new }
+        ensures stays { Stays self.old self.new }
+        ensures fault { IfErr result (λ e. e ≡ BackFault.Fault → Rose self.old.faults self.new.faults) }
+    {
+        let sliced = self.rotator.slice(alloc, &mut self.store, n);
+        slice_told(sliced)
+    }
+
     /// Ends the rotation under way: what it was told to keep is copied, and the rest goes. Where that is refused it goes on.
     pub(crate) fn swap(&mut self, alloc: Global) -> Result<SwapReply, BackFault>
         requires { self.old.state.epoch < 2 ^ 64 - 1 }
@@ -79,6 +117,40 @@ impl<H: NodeHash, Sh: Shelf> Machine<H, Sh> {
 }
 
 impl<H: NodeHash, Sh: Shelf> Bench<H, Sh> {
+    /// The slice that a section of a swap begins with, where a rotation is under way that may do one more. `Done` where there is none.
+    pub(crate) fn slice_first(
+        &mut self,
+        alloc: Global,
+        command: &Command,
+        part: Part,
+    ) -> Result<Left, BackFault>
+        ensures same { IsTrue Sh.B.tells → self.new.state ≡ self.old.state }
+        ensures rest { KeepsRest self.old.state self.new.state }
+        ensures later { self.old.faults ≤ self.new.faults }
+        ensures more { result ≡ Ok Left.More → IsSlice command.now part self.old self.new }
+        ensures err { IfErr result (λ e. (command.now ≡ Command.Swap) × (e ≡ BackFault.Fault → Rose self.old.faults self.new.faults)) }
+    {
+        let Command::Swap = command else {
+            return Ok(Left::Done);
+        };
+        if part == Part::Whole || !self.machine.may_slice() {
+            return Ok(Left::Done);
+        }
+        self.slice(alloc)
+    }
+
+    // A slice of the rotation under way. What a session leaves to the store stays as it is.
+    fn slice(&mut self, alloc: Global) -> Result<Left, BackFault>
+        requires turning { IsSome self.old.state.turning }
+        ensures same { IsTrue Sh.B.tells → self.new.state ≡ self.old.state }
+        ensures rest { KeepsRest self.old.state self.new.state }
+        ensures counts { CountsSlice result self.old self.new }
+        ensures later { self.old.faults ≤ self.new.faults }
+        ensures fault { IfErr result (λ e. e ≡ BackFault.Fault → Rose self.old.faults self.new.faults) }
+    {
+        self.machine.slice(alloc, SLICE)
+    }
+
     /// One step of a command that begins or ends a rotation. It reads no nodes.
     pub(crate) fn rotate(&mut self, alloc: Global, actor: u8, command: &Command) -> Reply
         requires turns { IsRotating command.now }

@@ -1,12 +1,12 @@
 //! The core: a script, the journal of what was answered, and the state after it.
-ghost use Rattle.std.specs.Prelude.{◌≡◌, ◌⊎◌, ◌↔◌, ◌<◌, ◌≤◌, ◌^◌, [], ℕ, true, IsTrue, IfOk, length, count_by, IfErr, IfSome, MatchOption};
-ghost use Rattle.std.specs.Prelude.{drop, take};
+ghost use Rattle.std.specs.Prelude.{◌≡◌, ◌≢◌, ◌⊎◌, ◌↔◌, ◌<◌, ◌≤◌, ◌^◌, [], ℕ, true, IsTrue, IfOk, length, count_by};
+ghost use Rattle.std.specs.Prelude.{IfErr, IfSome, MatchOption, drop, take};
 ghost use Rattle.std.specs.Option.{option_copied};
 ghost use Rattle.ledger_machine.specs.Scripts.{Rises, line_of, numbers_of};
 ghost use Rattle.ledger_machine.specs.Runs.{IsDone, IsBlocked, is_answered as answered, opening_of};
 ghost use Rattle.ledger_machine.specs.Records.{AreRecords};
 ghost use Rattle.script_form.specs.Servable.{AreServable};
-ghost use Rattle.store_core.specs.Journal.{Advances, IsJournal, IsNew, IsNext, AllBefore, AllFrom};
+ghost use Rattle.store_core.specs.Journal.{Advances, Slices, IsJournal, IsNew, IsNext, AllBefore, AllFrom};
 ghost use Rattle.run_io.specs.Bytes.{Rose};
 ghost use Rattle.rotating_store.specs.Stores.{Store, nodes_of};
 ghost use Rattle.store_core.specs.Dumping.{HoldsOf, IsNextRecord, Follows, Lists, missed_after};
@@ -14,6 +14,7 @@ ghost use Rattle.store_core.specs.Totals.{totals_of, is_complete as completes, i
 
 use crate::bench::Bench;
 use crate::records::put_records;
+use crate::rotating::Part;
 use half_hash::{Hash32, NodeHash, known_half};
 use ledger_machine::{CheckReply, CloseReply, Entry, Line, Record, Reply, Script, Totals};
 use node_backend::{BackFault, Shelf};
@@ -38,6 +39,8 @@ pub enum OpenFault {
 pub enum Stepped {
     /// An entry was recorded.
     Answered,
+    /// One slice of a swap was done, and something is left to copy. Nothing was recorded.
+    More,
     /// The line that the actor's next line waits for has no entry yet.
     Blocked,
     /// The actor has no line left.
@@ -74,6 +77,9 @@ impl<H: NodeHash, Sh: Shelf> Model for Core<H, Sh> {
       interval = c.interval;
       opened = c.opened;
       faults = c.bench.faults;
+      slices = c.bench.slices;
+      written = c.bench.written;
+      archived = c.bench.archived;
       missed = c.missed;
       journal = c.journal.items;
       state = c.bench.state;
@@ -130,10 +136,35 @@ impl<H: NodeHash, Sh: Shelf> Core<H, Sh> {
         })
     }
 
-    /// Answers the actor's next line, unless it waits for one that has no entry yet. An actor past
-    /// the last one has none.
+    /// Does one section of the actor's next line, unless that waits for one that has no entry yet. An actor past the last one has none. A
+    /// swap does at most 64 slices of its rotation, each a section, before the one that answers.
     pub fn step(&mut self, alloc: Global, actor: u8) -> Stepped
         ensures answered { result ≡ Stepped.Answered → Advances H.half Sh.B.tells self.old actor self.new }
+        ensures more { result ≡ Stepped.More → Slices Sh.B.tells self.old actor self.new }
+        ensures blocked { (result ≡ Stepped.Blocked) ↔ IsBlocked self.old.lines self.old.journal actor }
+        ensures finished { (result ≡ Stepped.Finished) ↔ IsDone self.old.lines self.old.journal actor }
+        ensures unchanged { (result ≡ Stepped.Blocked) ⊎ (result ≡ Stepped.Finished) → self.new ≡ self.old }
+        ensures few { length self.new.journal ≤ length self.new.lines }
+    {
+        self.advance(alloc, actor, Part::Slice)
+    }
+
+    /// Answers the actor's next line, as `step` does, but in one section: what a swap has to copy isn't cut into slices.
+    pub fn step_whole(&mut self, alloc: Global, actor: u8) -> Stepped
+        ensures answered { result ≡ Stepped.Answered → Advances H.half Sh.B.tells self.old actor self.new }
+        ensures whole { result ≢ Stepped.More }
+        ensures blocked { (result ≡ Stepped.Blocked) ↔ IsBlocked self.old.lines self.old.journal actor }
+        ensures finished { (result ≡ Stepped.Finished) ↔ IsDone self.old.lines self.old.journal actor }
+        ensures unchanged { (result ≡ Stepped.Blocked) ⊎ (result ≡ Stepped.Finished) → self.new ≡ self.old }
+        ensures few { length self.new.journal ≤ length self.new.lines }
+    {
+        self.advance(alloc, actor, Part::Whole)
+    }
+
+    // One section of the actor's next line.
+    fn advance(&mut self, alloc: Global, actor: u8, part: Part) -> Stepped
+        ensures answered { result ≡ Stepped.Answered → Advances H.half Sh.B.tells self.old actor self.new }
+        ensures more { result ≡ Stepped.More → (part ≡ Part.Slice) × Slices Sh.B.tells self.old actor self.new }
         ensures blocked { (result ≡ Stepped.Blocked) ↔ IsBlocked self.old.lines self.old.journal actor }
         ensures finished { (result ≡ Stepped.Finished) ↔ IsDone self.old.lines self.old.journal actor }
         ensures unchanged { (result ≡ Stepped.Blocked) ⊎ (result ≡ Stepped.Finished) → self.new ≡ self.old }
@@ -154,7 +185,10 @@ impl<H: NodeHash, Sh: Shelf> Core<H, Sh> {
             return Stepped::Blocked;
         }
         let line = &self.script.lines[at];
-        let (reply, used) = self.bench.answer(alloc, actor, &line.command);
+        let Some((reply, used)) = self.bench.section(alloc, actor, &line.command, part) else {
+            self.cursors[actor as usize] = at;
+            return Stepped::More;
+        };
         let entry = Entry {
             line: line.number,
             actor,

@@ -15,7 +15,7 @@ use missing_walk::SearchFault;
 use node_backend::BackFault;
 use node_offer::{OfferFault, Offered as Outcome};
 use node_wire::wire_code;
-use online_rotate::Begun;
+use online_rotate::{Begun, Left};
 use rotating_store::StoreFault;
 
 /// What became of a peer that joins.
@@ -158,6 +158,16 @@ pub(crate) fn swap_told(ended: Result<u64, StoreFault>) -> Result<SwapReply, Bac
 {
     match ended {
         Ok(epoch) => Ok(SwapReply::Swapped(epoch)),
+        Err(fault) => Err(unended(fault)),
+    }
+}
+
+/// What a slice of a rotation comes to.
+pub(crate) fn slice_told(sliced: Result<Left, StoreFault>) -> Result<Left, BackFault>
+    ensures { result ≡ turns.slice_told sliced }
+{
+    match sliced {
+        Ok(left) => Ok(left),
         Err(fault) => Err(unended(fault)),
     }
 }

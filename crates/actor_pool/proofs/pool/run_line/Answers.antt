@@ -12,11 +12,11 @@ unreachable-requires g c =
     let line = c.index-line.result.now in
     let is = read_line core.lines c.script.result.now.lines.items c.args.at line c.script.ensures.lines c.index-line.ensures in
     let left = sym c.is_answered.ensures ∙ c.if-is_answered.false in
-    no_other c.step.result c.in_default.not-Answered
+    no_other c.step_whole.result c.in_default.not-Answered c.step_whole.ensures.whole
     (λ e. first_free core.lines core.journal c.script.ensures.servable c.journal.ensures.kept.projects c.journal.ensures.kept.known
-    c.args.at line c.requires.within is c.requires.before left (c.step.ensures.blocked.0 e))
+    c.args.at line c.requires.within is c.requires.before left (c.step_whole.ensures.blocked.0 e))
     (λ e. first_left core.lines core.journal c.script.ensures.servable c.journal.ensures.kept.projects c.journal.ensures.kept.known
-    c.args.at line c.requires.within is c.requires.before left (c.step.ensures.finished.0 e))
+    c.args.at line c.requires.within is c.requires.before left (c.step_whole.ensures.finished.0 e))
 
 -- the actor's next line was answered, and that is this one, so the lines up to and with it have their entries
 pub returns-clause-answered : goal.returns-clause-answered
@@ -25,11 +25,11 @@ returns-clause-answered g c =
     let line = c.index-line.result.now in
     let is = read_line core.lines c.script.result.now.lines.items c.args.at line c.script.ensures.lines c.index-line.ensures in
     let left = sym c.is_answered.ensures ∙ c.if-is_answered.false in
-    let by = c.step.ensures.answered c.in-Answered.is in
+    let by = c.step_whole.ensures.answered c.in-Answered.is in
     let next = first_next core.lines core.journal c.script.ensures.servable c.journal.ensures.kept.projects c.journal.ensures.kept.known
     c.args.at line c.requires.within is c.requires.before left in
     let same : by.line ≡ line = same_Some by.line line (sym by.next ∙ next) in
-    let P : List Line → Type 0 = λ w. AreAnswered w c.step.new.self.journal (c.args.at + 1) in
+    let P : List Line → Type 0 = λ w. AreAnswered w c.step_whole.new.self.journal (c.args.at + 1) in
     subst P (sym by.lines) (first_more core.lines core.journal c.script.ensures.servable c.journal.ensures.kept.projects
     c.journal.ensures.kept.known c.args.at line c.requires.within is c.requires.before left
-    c.step.new.self.journal by.entry by.journal (by.number ∙ ap (λ (l : Line). l.number) same))
+    c.step_whole.new.self.journal by.entry by.journal (by.number ∙ ap (λ (l : Line). l.number) same))

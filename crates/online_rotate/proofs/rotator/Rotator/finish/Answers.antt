@@ -1,24 +1,50 @@
--- a fit store: what was written before is reached, or was born in the epoch
-use Rattle.std.proofs.Common.{◌≡◌, List, OnOk, ap, subst, rules}
-use Rattle.ledger_spec.specs.Bytes.{Hash}
-use Rattle.online_rotate.specs.Copying.{CopiesSome, Rotated, OnlyReachedOrBorn}
-use Rattle.online_rotate.specs.Rotators.{Turning}
-use Rattle.online_rotate.proofs.Rotating.{fit_on, on_err, only_born}
+-- what is left is reached or was written before; a refusal has copied only what is reached
+use Rattle.std.proofs.Common.{◌≡◌, OnOk, rules, subst}
+use Rattle.copy_walk.specs.Walks.{Walk}
+use Rattle.online_rotate.specs.Copying.{IsWalking, Rotated, OnlyReachedOrBorn}
+use Rattle.online_rotate.proofs.Rotating.{walk_is, on_err, fit_on, only_born}
 use Rattle.online_rotate.proofs.rotator.Rotator.finish.Goals as goal
 
--- a refused one has copied only what is reached
-pub returns-in_err-rotate-clause-fit : goal.returns-in_err-rotate-clause-fit
-returns-in_err-rotate-clause-fit g c told fit =
-    let same : c.self.inside.shaded.keys ≡ c.args.self.now.shaded = ap (λ (t : Turning). t.shaded) c.self.view_is in
-    let some : CopiesSome c.args.self.now.shaded c.args.store.now c.rotate.new.store =
-    subst (λ (hs : List Hash). CopiesSome hs c.args.store.now c.rotate.new.store) same (c.in_err-rotate.ensures.some told) in
-    let none : OnOk c.from_residual.result (OnlyReachedOrBorn c.args.self.now.shaded c.args.store.now c.rotate.new.store) = search rules in
-    (none, on_err _ c.from_residual.result (fit_on _ _ _ fit some))
+pub returns-in_err-rotate-clause-nodes : goal.returns-in_err-rotate-clause-nodes
+returns-in_err-rotate-clause-nodes g c tells k =
+    let same : c.args.self.now.walk ≡ c.in-Some.walk =
+    walk_is c.self.inside.walk c.in-Some.walk _ _ _ c.args.self.now c.in-Some.is c.self.view_is in
+    let some = c.in_err-rotate.ensures.some tells c.args.self.now.shaded
+    (subst (λ (w : Walk). IsWalking c.args.self.now.shaded w c.args.store.now) same k) in
+    let none : OnOk c.from_residual.result (Rotated c.args.self.now.shaded c.args.store.now c.rotate.new.store) = search rules in
+    (none, on_err _ c.from_residual.result some.0)
 
--- what is left is reached or was written before
+pub returns-in_err-rotate-clause-fit : goal.returns-in_err-rotate-clause-fit
+returns-in_err-rotate-clause-fit g c tells k fit =
+    let same : c.args.self.now.walk ≡ c.in-Some.walk =
+    walk_is c.self.inside.walk c.in-Some.walk _ _ _ c.args.self.now c.in-Some.is c.self.view_is in
+    let some = c.in_err-rotate.ensures.some tells c.args.self.now.shaded
+    (subst (λ (w : Walk). IsWalking c.args.self.now.shaded w c.args.store.now) same k) in
+    let none : OnOk c.from_residual.result (OnlyReachedOrBorn c.args.self.now.shaded c.args.store.now c.rotate.new.store) = search rules in
+    (none, on_err _ c.from_residual.result (fit_on _ _ _ fit some.0))
+
+pub returns-in_err-rotate-clause-walks : goal.returns-in_err-rotate-clause-walks
+returns-in_err-rotate-clause-walks g c tells k =
+    let same : c.args.self.now.walk ≡ c.in-Some.walk =
+    walk_is c.self.inside.walk c.in-Some.walk _ _ _ c.args.self.now c.in-Some.is c.self.view_is in
+    let some = c.in_err-rotate.ensures.some tells c.args.self.now.shaded
+    (subst (λ (w : Walk). IsWalking c.args.self.now.shaded w c.args.store.now) same k) in
+    on_err _ c.from_residual.result some.1
+
+pub returns-clause-nodes : goal.returns-clause-nodes
+returns-clause-nodes g c tells k =
+    let same : c.args.self.now.walk ≡ c.in-Some.walk =
+    walk_is c.self.inside.walk c.in-Some.walk _ _ _ c.args.self.now c.in-Some.is c.self.view_is in (
+      c.in_ok-rotate.ensures.rotated tells c.args.self.now.shaded
+          (subst (λ (w : Walk). IsWalking c.args.self.now.shaded w c.args.store.now) same k),
+      tt,
+    )
+
 pub returns-clause-fit : goal.returns-clause-fit
-returns-clause-fit g c told fit =
-    let same : c.self.inside.shaded.keys ≡ c.args.self.now.shaded = ap (λ (t : Turning). t.shaded) c.self.view_is in
-    let done : Rotated c.args.self.now.shaded c.args.store.now c.rotate.new.store =
-    subst (λ (hs : List Hash). Rotated hs c.args.store.now c.rotate.new.store) same (c.in_ok-rotate.ensures.rotated told) in
-    (only_born _ _ _ fit done, tt)
+returns-clause-fit g c tells k fit =
+    let same : c.args.self.now.walk ≡ c.in-Some.walk =
+    walk_is c.self.inside.walk c.in-Some.walk _ _ _ c.args.self.now c.in-Some.is c.self.view_is in (
+      only_born _ _ _ fit (c.in_ok-rotate.ensures.rotated tells c.args.self.now.shaded
+          (subst (λ (w : Walk). IsWalking c.args.self.now.shaded w c.args.store.now) same k)),
+      tt,
+    )

@@ -5,6 +5,7 @@ use Rattle.store_core.specs.Desks.{Desk, IsFiled}
 use Rattle.store_core.specs.Telling.{AreTold}
 use Rattle.store_core.proofs.Benches.{lifted, lifted_keeps}
 use Rattle.store_core.proofs.Besides.{beside_steady, tells_open, names_open}
+use Rattle.store_core.proofs.Offered.{wanted_open}
 use Rattle.store_core.proofs.Roots.{told_on}
 use Rattle.store_core.proofs.Refusing.{beside_rest}
 use Rattle.store_core.proofs.bench.Bench.beside.Goals as goal
@@ -12,6 +13,12 @@ use Rattle.store_core.proofs.bench.Bench.beside.Goals as goal
 pub answer-answered-requires-clause-filed : goal.answer-answered-requires-clause-filed
 answer-answered-requires-clause-filed g c κs within =
     subst (λ (d : Desk). IsFiled g.H.NodeHash.half g.Sh.B.Backend.tells d.state) (sym c.self.view_is) c.requires.filed
+
+-- each open target is a root
+pub answer-answered-requires-clause-told : goal.answer-answered-requires-clause-told
+answer-answered-requires-clause-told g c κs within = λ told.
+    wanted_open g.H.NodeHash.half g.Sh.B.Backend.tells c.self.inside.machine.state c.self.inside.sessions
+    (subst (λ (d : Desk). AreTold d.state) (sym c.self.view_is) (c.requires.told told))
 
 pub invariant_of-self : goal.invariant_of-self
 invariant_of-self g c =

@@ -1,12 +1,53 @@
--- the rotation was told, and then the form was written
-use Rattle.store_core.proofs.Keeping.{told_keeps}
-use Rattle.store_core.proofs.Retold.{hears_same}
+-- the rotation is told, and then the form is written
+use Rattle.std.proofs.Common.{◌≡◌, true, refl, sym, subst}
+use Rattle.ledger_spec.specs.Bytes.{Bytes}
+use Rattle.ledger_machine.specs.State.{State}
+use Rattle.ledger_machine.specs.Steps.{IsAfter}
+use Rattle.rotating_store.specs.Puts.{Puts, TellsWrongHash}
+use Rattle.store_core.specs.Desks.{state_of}
+use Rattle.store_core.specs.Telling.{KeepsTurning}
+use Rattle.store_core.proofs.Keeping.{keeps_by, told_keeps}
+use Rattle.store_core.proofs.Turns.{keeps_shaded, keeps_put, just_told, hears_shaded, told_shaded, on_ok}
 use Rattle.store_core.proofs.machine.Machine.keep.Goals as goal
 
+-- the hash is told and shaded as the form is put
+pub invariant_of-self-2 : goal.invariant_of-self-2
+invariant_of-self-2 g c =
+    let tells = g.Sh.B.Backend.tells in
+    let h = c.args.form.now.hash in
+    let told : KeepsTurning tells c.self.inside.book c.shade.new.self c.self.inside.store =
+    keeps_shaded tells c.self.inside.book c.self.inside.rotator c.self.inside.store c.self.invariant.1 c.shade.new.self h
+    c.in-Ok.ensures.told (λ e. (c.in-Ok.ensures.idle e).1) in (
+      c.self.invariant.0,
+      keeps_put tells c.self.inside.book c.shade.new.self c.self.inside.store told h _ c.put_hashed-put.result c.put_hashed-put.new.self
+          c.put_hashed-put.ensures.puts
+          (just_told c.self.inside.rotator c.shade.new.self h c.in-Ok.ensures.told (λ e. (c.in-Ok.ensures.idle e).1)),
+    )
+
+-- the store's put, over the state in which the rotation was told
 pub returns-clause-keeps : goal.returns-clause-keeps
 returns-clause-keeps g c told =
-    told_keeps g.H.NodeHash.half c.args.self.now.state c.tell.new.self.state c.tell.ensures.after c.args.form.now.form c.write.result
-    c.write.new.self.state (c.write.ensures.keeps told)
+    let half = g.H.NodeHash.half in
+    let form : Bytes = c.args.form.now.form in
+    let puts : Puts c.self.inside.store (half form) form c.put_hashed-put.result c.put_hashed-put.new.self =
+    rw (← c.requires, ← c.bytes.ensures) (c.put_hashed-put.ensures.puts told) in
+    let wrong : TellsWrongHash half (half form) form c.put_hashed-put.result =
+    rw (← c.requires, ← c.bytes.ensures) c.put_hashed-put.ensures.wrong in
+    let mid : State =
+    state_of c.self.inside.store c.self.inside.wanted.entries c.self.inside.views.entries c.self.inside.book c.shade.new.self in
+    let after : IsAfter c.args.self.now.state mid = rw (← c.self.view_is) refl in
+    rw c.kept.ensures
+    (told_keeps half c.args.self.now.state mid after form _ _
+    (keeps_by half c.self.inside.store c.put_hashed-put.new.self mid (record { nodes = refl; born = refl; epoch = refl }) form
+    c.put_hashed-put.result puts wrong))
 
 pub returns-clause-hears : goal.returns-clause-hears
-returns-clause-hears g c = hears_same _ _ _ _ c.tell.ensures.hears c.write.ensures.told
+returns-clause-hears g c =
+    rw (← c.self.view_is) (hears_shaded c.self.inside.rotator c.shade.new.self c.args.form.now.hash c.in-Ok.ensures.told
+    (λ e. (c.in-Ok.ensures.idle e).1))
+
+pub returns-clause-told : goal.returns-clause-told
+returns-clause-told g c =
+    rw (← c.self.view_is)
+    (on_ok c.kept.result (told_shaded c.self.inside.rotator c.shade.new.self c.self.inside.book c.args.form.now.hash
+    c.self.invariant.1.step c.in-Ok.ensures.told))

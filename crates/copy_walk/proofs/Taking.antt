@@ -1,0 +1,402 @@
+-- What the calls of a walk do, as strides.
+use Rattle.std.proofs.Common.{◌≡◌, ◌≢◌, ◌⊎◌, inl, inr, ⊎_elim, ◌++◌, ◌∷◌, ◌+◌, ◌^◌, ◌≤◌, ◌<◌, [], ℕ, suc, List}
+use Rattle.std.proofs.Common.{Bool, true, false, cond, not, if◌then◌else◌, Option, None, Some, Contains, length, take, drop, get_or, slice_get, refl, sym, ap, ◌∙◌, subst}
+use Rattle.std.proofs.Common.{Result, Ok, Err, OnErr}
+use Rattle.std.proofs.Common.{arith, append_assoc, length-append}
+use Rattle.std.specs.HashSet.{HashSet, contains}
+use Rattle.std.specs.Cmp.{IsEquivalence, eq_by_cmp_equiv}
+use Rattle.std.specs.Cmp.Lexicographic.{nat_list_cmp_total, same_text, texts_ties}
+use Rattle.std.specs.FinMap as finite
+use Rattle.std.specs.List.{swap_remove}
+use Rattle.std.specs.List.Sorted.{IsPermutation}
+use Rattle.std.proofs.lemmas.List.{append-nil, take-append-drop, get_or_append_left}
+use Rattle.std.proofs.lemmas.List.Elements.{Contains-append_left, Contains-append_right, Contains-append_cases, Contains-push_cases}
+use Rattle.std.proofs.lemmas.List.Sorted.{IsPermutation-swap_remove, length_permutation}
+use Rattle.std.proofs.lemmas.Map.Views.{hash_set_contains_iff}
+use Rattle.std.proofs.lemmas.Option.{get_or_from_slice_get, slice_get_within}
+use Rattle.std.proofs.lemmas.Bool.{false≢true}
+use Rattle.ledger_spec.specs.Bytes.{Bytes, Hash, Lookup, Nodes, same_bytes}
+use Rattle.ledger_spec.specs.Reach.{kids}
+use Rattle.rotating_store.specs.Stores.{Store, nodes_of}
+use Rattle.copy_walk.specs.Walks.{Walk, Keeps, Colours, shaded, left_of, Shades, ShadesSome, HasToo}
+use Rattle.copy_walk.specs.Strides.{Strides, Copies, Leaves, here, copied, named, again, absent, found}
+use Rattle.copy_walk.specs.Counts.{IsCopied, CopiesAtMost}
+use Rattle.copy_walk.specs.Slices.{CopiesOne, KidsAt, Blackens, Strode, IsCutShort, Drains, KeepsRule, SameRest}
+use Rattle.copy_walk.proofs.Lists.{in_none, in_first, shaded_stays, is_shaded}
+use Rattle.copy_walk.proofs.Striding.{strides_on, colours_stay, shaded_still, kept_stays, kept_was, held_was}
+
+-- hashes are told apart by their bytes
+bytes_laws : IsEquivalence same_bytes
+bytes_laws = record {
+  refl = λ x. texts_ties x x ∙ (eq_by_cmp_equiv nat_list_cmp_total).refl x;
+  symm = λ x y. texts_ties x y ∙ (eq_by_cmp_equiv nat_list_cmp_total).symm x y ∙ sym (texts_ties y x);
+  congr = λ x y z e.
+      texts_ties x z ∙ (eq_by_cmp_equiv nat_list_cmp_total).congr x y z (sym (texts_ties x y) ∙ e) ∙ sym (texts_ties y z);
+}
+
+bytes_exact : (x y : Hash) → same_bytes x y ≡ true → x ≡ y
+bytes_exact x y e = same_text x y (sym e)
+
+-- what the set says that it has, it has, and nothing else
+module _ {S : Type 0} (black : HashSet Hash S) (h : Hash) where
+  pub is_black : contains same_bytes black h ≡ true → Contains black.keys h
+  is_black has = (hash_set_contains_iff bytes_laws bytes_exact black h).0 has
+
+  pub in_black : Contains black.keys h → contains same_bytes black h ≡ true
+  in_black has = (hash_set_contains_iff bytes_laws bytes_exact black h).1 has
+
+  pub not_black : contains same_bytes black h ≡ false → Contains black.keys h → ⊥
+  not_black none c = false≢true (sym none ∙ in_black c)
+
+-- ---- shading
+pub none_shaded : (w : Walk) → ShadesSome w [] w
+none_shaded w = record { more = []; black = refl; grey = sym (append-nil w.grey); only = λ h c. absurd (in_none h c); few = omega arith }
+
+module _ (w : Walk) (hashes : List Hash) (v : Walk) (h : Hash) (v' : Walk) (some : ShadesSome w hashes v) (s : Shades v h v') where
+  pub one_shaded : ShadesSome w (hashes ++ h ∷ []) v'
+  one_shaded = ⊎_elim
+      (λ same. record {
+        more = some.more;
+        black = s.black ∙ some.black;
+        grey = same.0 ∙ some.grey;
+        only = λ q c. Contains-append_left hashes (h ∷ []) q (some.only q c);
+        few = omega (arith, some.few, length-append hashes (h ∷ []));
+      })
+      (λ more. record {
+        more = some.more ++ h ∷ [];
+        black = s.black ∙ some.black;
+        grey = more ∙ ap (λ (hs : List Hash). hs ++ h ∷ []) some.grey ∙ append_assoc w.grey some.more (h ∷ []);
+        only = λ q c. ⊎_elim (λ old. Contains-append_left hashes (h ∷ []) q (some.only q old))
+            (λ one. Contains-append_right hashes (h ∷ []) q one) (Contains-append_cases some.more (h ∷ []) q c);
+        few = omega (arith, some.few, length-append hashes (h ∷ []), length-append some.more (h ∷ []));
+      }) s.grey
+
+  pub all_shaded : ((q : Hash) → Contains hashes q → Contains (shaded v) q) → (q : Hash) → Contains (hashes ++ h ∷ []) q
+      → Contains (shaded v') q
+  all_shaded all q c = ⊎_elim (λ old. shaded_stays v h v' s q (all q old))
+      (λ one. subst (Contains (shaded v')) one (is_shaded v h v' s)) (Contains-push_cases hashes h q c)
+
+-- some of a front of the hashes are some of them
+pub front_shaded : (w : Walk) (i : ℕ) (hashes : List Hash) (v : Walk) → ShadesSome w (take i hashes) v → ShadesSome w hashes v
+front_shaded w i hashes v some =
+    let whole : take i hashes ++ drop i hashes ≡ hashes = take-append-drop i hashes in
+    record {
+      more = some.more;
+      black = some.black;
+      grey = some.grey;
+      only = λ q c. subst (λ (hs : List Hash). Contains hs q) whole
+          (Contains-append_left (take i hashes) (drop i hashes) q (some.only q c));
+      few = omega (arith, some.few, ap length whole, length-append (take i hashes) (drop i hashes));
+    }
+
+-- ---- a place of the grey list
+-- the hash stands at this place
+abbrev pub StandsAt : List Hash → ℕ → Hash → Type 0
+StandsAt hs place h = (place < length hs) × ((d : Hash) → get_or hs place d ≡ h)
+
+pub stands_at : (hs : List Hash) (place : ℕ) (h : Hash) → slice_get hs place ≡ Some h → StandsAt hs place h
+stands_at hs place h at = (slice_get_within hs place h at, λ d. get_or_from_slice_get hs place h d at)
+
+-- and still does, where more are behind
+pub stands_still : (hs more hs' : List Hash) (place : ℕ) (h : Hash) → StandsAt hs place h → hs' ≡ hs ++ more → StandsAt hs' place h
+stands_still hs more hs' place h at is =
+    subst (λ (xs : List Hash). StandsAt xs place h) (sym is) (
+      omega (arith, at.0, length-append hs more),
+      λ d. get_or_append_left hs more d place at.0 ∙ at.1 d,
+    )
+
+pub leaves_at : (w v : Walk) (place : ℕ) (h r : Hash) → StandsAt w.grey place h → r ≡ get_or w.grey place r
+    → v.grey ≡ swap_remove w.grey place r → Leaves w h v
+leaves_at w v place h r at is gone =
+    let same : r ≡ h = is ∙ at.1 r in
+    subst (λ (x : Hash). IsPermutation w.grey (x ∷ v.grey)) same
+    (subst (λ (hs : List Hash). IsPermutation w.grey (r ∷ hs)) (sym gone) (IsPermutation-swap_remove w.grey place r at.0 is))
+
+pub grey_at : (w : Walk) (place : ℕ) (h : Hash) → slice_get w.grey place ≡ Some h → Contains w.grey h
+grey_at w place h at = (place, slice_get_within w.grey place h at, get_or_from_slice_get w.grey place h h at)
+
+left_length : (w : Walk) (h : Hash) (v : Walk) → Leaves w h v → suc (length v.grey) ≡ length w.grey
+left_length w h v leaves = length_permutation w.grey (h ∷ v.grey) leaves
+
+-- ---- what is left
+pub left_less : (w : Walk) (h : Hash) (v : Walk) → Leaves w h v → v.black ≡ w.black → left_of v < left_of w
+unfolding left_of
+left_less w h v leaves same =
+    let shorter = left_length w h v leaves in
+    let black : length v.black ≡ length w.black = ap length same in
+    omega (arith, shorter, black)
+
+pub black_less : (w : Walk) (h : Hash) (hashes : List Hash) (v : Walk) → Blackens w h hashes v → length hashes ≤ 16
+    → length w.black < 2 ^ 63 → length v.black ≡ length w.black + 1 → left_of v < left_of w
+unfolding left_of
+black_less w h hashes v b few room more =
+    let shorter = left_length b.mid h v b.leaves in
+    let grown : length b.mid.grey ≡ length w.grey + length b.shades.more = ap length b.shades.grey ∙ length-append w.grey b.shades.more in
+    omega (arith, shorter, grown, b.shades.few, few, room, more)
+
+-- ---- counts
+pub copies_none : (nodes m : Lookup) → CopiesAtMost 0 nodes m m
+copies_none nodes m = record {
+  copied = [];
+  few = omega arith;
+  all = λ h c. absurd (c.there c.lacked);
+}
+
+pub copies_more : (a b : ℕ) (nodes m m' : Lookup) → a ≤ b → CopiesAtMost a nodes m m' → CopiesAtMost b nodes m m'
+copies_more a b nodes m m' le c = record { copied = c.copied; few = omega (arith, le, c.few); all = c.all }
+
+pub copies_one : (nodes : Lookup) (h : Hash) (m m' : Lookup) → Copies nodes h m m' → CopiesAtMost 1 nodes m m'
+copies_one nodes h m m' copies = record {
+  copied = h ∷ [];
+  few = omega arith;
+  all = λ q c. at q c (m' q) refl;
+}
+  where
+    at : (q : Hash) → IsCopied nodes m m' q → (o : Option Bytes) → m' q ≡ o → Contains (h ∷ []) q
+    at q c None e = absurd (c.there e)
+    at q c (Some form) e = ⊎_elim
+        (λ was. absurd (there (m q) form was c.lacked))
+        (λ new. subst (Contains (h ∷ [])) (sym new.0) (in_first h []))
+        (copies.only q form e)
+      where
+        there : (o : Option Bytes) (f : Bytes) → o ≡ Some f → o ≡ None → ⊥
+        there None f x y = cc
+        there (Some g) f x y = cc
+
+pub copies_on : (a b : ℕ) (nodes m m1 m2 : Lookup) → CopiesAtMost a nodes m m1 → CopiesAtMost b nodes m1 m2 → CopiesAtMost (a + b) nodes m m2
+copies_on a b nodes m m1 m2 c d = record {
+  copied = c.copied ++ d.copied;
+  few = omega (arith, c.few, d.few, length-append c.copied d.copied);
+  all = λ q e. at q e (m1 q) refl;
+}
+  where
+    at : (q : Hash) → IsCopied nodes m m2 q → (o : Option Bytes) → m1 q ≡ o → Contains (c.copied ++ d.copied) q
+    at q e None is = Contains-append_right c.copied d.copied q (d.all q (record { stored = e.stored; lacked = is; there = e.there }))
+    at q e (Some form) is = Contains-append_left c.copied d.copied q (c.all q (record {
+      stored = e.stored;
+      lacked = e.lacked;
+      there = λ none. some_none (m1 q) form is none;
+    }))
+      where
+        some_none : (o : Option Bytes) (f : Bytes) → o ≡ Some f → o ≡ None → ⊥
+        some_none None f x y = cc
+        some_none (Some g) f x y = cc
+
+-- ---- strides
+-- some of what a grey hash names is shaded
+named_all : (nodes : Lookup) (w : Walk) (held : Lookup) (n : ℕ) (m : Lookup) (h : Hash) (form : Bytes) → nodes h ≡ Some form
+    → (u : Walk) (more : List Hash) → Contains u.grey h → ((k : Hash) → Contains more k → Contains (kids form) k)
+    → Strides nodes w held n u m → Strides nodes w held n (record { grey = u.grey ++ more; black = u.black }) m
+named_all nodes w held n m h form is u [] grey all s =
+    subst (λ (hs : List Hash). Strides nodes w held n (record { grey = hs; black = u.black }) m) (sym (append-nil u.grey)) s
+named_all nodes w held n m h form is u (k ∷ more) grey all s =
+    let next : Walk = record { grey = u.grey ++ k ∷ []; black = u.black } in
+    let on : Strides nodes w held n next m =
+    named s h k form grey is (all k (in_first k more)) (record { black = refl; grey = inr refl }) in
+    subst (λ (hs : List Hash). Strides nodes w held n (record { grey = hs; black = u.black }) m) (append_assoc u.grey (k ∷ []) more)
+    (named_all nodes w held n m h form is next more (Contains-append_left u.grey (k ∷ []) h grey)
+    (λ q c. all q (Contains-append_right (k ∷ []) more q c)) on)
+
+pub strides_named : (nodes : Lookup) (w : Walk) (held : Lookup) (n : ℕ) (u : Walk) (m : Lookup) (h : Hash) (form : Bytes) (v : Walk)
+    → Strides nodes w held n u m → nodes h ≡ Some form → Contains u.grey h → ShadesSome u (kids form) v → Strides nodes w held n v m
+strides_named nodes w held n u m h form v s is grey some =
+    subst (λ (x : Walk). Strides nodes w held n x m) (λ i. record { grey = sym some.grey i; black = sym some.black i })
+    (named_all nodes w held n m h form is u some.more grey some.only s)
+
+module _ (w : Walk) (s s' : Store) (h : Hash) (grey : Contains w.grey h) (one : CopiesOne h s s') where
+  abbrev nodes : Lookup
+  nodes = finite.get (nodes_of s)
+
+  -- the form was copied at most
+  copy_strides : Strides nodes w (finite.get s.writable) 0 w (finite.get s'.writable)
+  copy_strides = copied here h grey one.copies
+
+  pub strode_copy : Strode 0 1 w s w s'
+  strode_copy = record { nodes = one.nodes; archive = one.archive; strides = copy_strides; few = copies_one nodes h _ _ one.copies }
+
+  -- and some of what it names is shaded
+  pub strode_named : (form : Bytes) (v : Walk) → nodes h ≡ Some form → ShadesSome w (kids form) v → Strode 0 1 w s v s'
+  strode_named form v is some = record {
+    nodes = one.nodes;
+    archive = one.archive;
+    strides = strides_named nodes w _ 0 w _ h form v copy_strides is grey some;
+    few = copies_one nodes h _ _ one.copies;
+  }
+
+  -- nothing is stored under it
+  pub strode_absent : (v : Walk) → nodes h ≡ None → Leaves w h v → v.black ≡ w.black → Strode 1 1 w s v s'
+  strode_absent v gone leaves same = record {
+    nodes = one.nodes;
+    archive = one.archive;
+    strides = absent copy_strides h leaves gone same;
+    few = copies_one nodes h _ _ one.copies;
+  }
+
+  -- it becomes black
+  pub strode_found : (form : Bytes) (v : Walk) → nodes h ≡ Some form → finite.get s'.writable h ≡ nodes h → Blackens w h (kids form) v
+      → Strode 1 1 w s v s'
+  strode_found form v is there b = record {
+    nodes = one.nodes;
+    archive = one.archive;
+    strides = found (strides_named nodes w _ 0 w _ h form b.mid copy_strides is grey b.shades) h form b.leaves is (there ∙ is) b.all
+        (subst (λ (hs : List Hash). HasToo v.black hs h) (sym b.shades.black) b.black);
+    few = copies_one nodes h _ _ one.copies;
+  }
+
+-- a black hash is taken again
+pub strode_again : (w v : Walk) (s : Store) (h : Hash) → Leaves w h v → Contains w.black h → v.black ≡ w.black → Strode 1 1 w s v s
+strode_again w v s h leaves black same = record {
+  nodes = refl;
+  archive = refl;
+  strides = again here h leaves black same;
+  few = copies_more 0 1 _ _ _ (omega arith) (copies_none _ _);
+}
+
+-- what an insertion leaves of a set has this hash too
+pub has_too : {S : Type 0} (old new : HashSet Hash S) (h : Hash)
+    → ((q : Hash) → contains same_bytes new q ≡ cond (same_bytes h q) true (contains same_bytes old q)) → HasToo new.keys old.keys h
+has_too old new h sets q = (
+  λ is. chosen (same_bytes h q) refl (sym (sets q) ∙ in_black new q is),
+  λ is. is_black new q (⊎_elim
+      (λ before. sets q ∙ stays (same_bytes h q) (in_black old q before))
+      (λ same. subst (λ (x : Hash). contains same_bytes new x ≡ true) (sym same)
+      (sets h ∙ ap (λ (b : Bool). cond b true (contains same_bytes old h)) (bytes_laws.refl h))) is),
+)
+  where
+    chosen : (b : Bool) → same_bytes h q ≡ b → cond b true (contains same_bytes old q) ≡ true → Contains old.keys q ⊎ (q ≡ h)
+    chosen true e has = inr (sym (bytes_exact h q e))
+    chosen false e has = inl (is_black old q has)
+
+    stays : (b : Bool) → contains same_bytes old q ≡ true → cond b true (contains same_bytes old q) ≡ true
+    stays true has = refl
+    stays false has = has
+
+-- the hash at a place becomes black, after some were shaded
+pub blackened : (w mid v : Walk) (h r : Hash) (hashes : List Hash) (place : ℕ) → ShadesSome w hashes mid
+    → ((k : Hash) → Contains hashes k → Contains (shaded mid) k) → slice_get w.grey place ≡ Some h → r ≡ get_or mid.grey place r
+    → v.grey ≡ swap_remove mid.grey place r → HasToo v.black mid.black h → Blackens w h hashes v
+blackened w mid v h r hashes place some all at is gone too = record {
+  mid = mid;
+  shades = some;
+  all = all;
+  leaves = leaves_at mid v place h r (stands_still w.grey some.more mid.grey place h (stands_at w.grey place h at) some.grey) is gone;
+  black = subst (λ (hs : List Hash). HasToo v.black hs h) some.black too;
+}
+
+-- a hash that wasn't black is one more
+pub more_black : {S : Type 0} (old new : HashSet Hash S) (h : Hash) (added : Bool) → (Contains old.keys h → ⊥)
+    → added ≡ not (contains same_bytes old h) → length new.keys ≡ length old.keys + (if added then 1 else 0) → length new.keys ≡ length old.keys + 1
+more_black old new h added none is count = at (contains same_bytes old h) refl
+  where
+    at : (b : Bool) → contains same_bytes old h ≡ b → length new.keys ≡ length old.keys + 1
+    at true has = absurd (none (is_black old h has))
+    at false has = count ∙ ap (λ (b : Bool). length old.keys + (if b then 1 else 0)) (is ∙ ap not has)
+
+pub on_err : {X E : Type 0} (P : Type 0) (r : Result X E) → P → OnErr r P
+on_err P (Ok x) p = tt
+on_err P (Err e) p = p
+
+-- what is stored under a hash, by what was told to be named there
+kids_none : (o : Option Bytes) (tells : Option (List Hash)) → KidsAt o tells → tells ≡ None → o ≡ None
+kids_none None tells k e = refl
+kids_none (Some form) tells k e = cc
+
+kids_some : (o : Option Bytes) (tells : Option (List Hash)) (hashes : List Hash) → KidsAt o tells → tells ≡ Some hashes
+    → (form : Bytes) × (o ≡ Some form) × (hashes ≡ kids form)
+kids_some None tells hashes k e = cc
+kids_some (Some form) tells hashes k e = (form, refl, cc)
+
+module _ (w : Walk) (s s' : Store) (h : Hash) (grey : Contains w.grey h) (one : CopiesOne h s s') (tells : Option (List Hash))
+    (are : KidsAt (finite.get (nodes_of s) h) tells) where
+  pub strode_left : (v : Walk) → tells ≡ None → Leaves w h v → v.black ≡ w.black → Strode 1 1 w s v s'
+  strode_left v none leaves same = strode_absent w s s' h grey one v (kids_none _ tells are none) leaves same
+
+  module _ (hashes : List Hash) (is : tells ≡ Some hashes) (v : Walk) where
+    pub strode_some : ShadesSome w hashes v → Strode 0 1 w s v s'
+    strode_some some =
+        let k = kids_some _ tells hashes are is in
+        strode_named w s s' h grey one k.0 v k.1 (subst (λ (hs : List Hash). ShadesSome w hs v) k.2 some)
+
+    pub strode_done : finite.get s'.writable h ≡ finite.get (nodes_of s) h → Blackens w h hashes v → Strode 1 1 w s v s'
+    strode_done there b =
+        let k = kids_some _ tells hashes are is in
+        strode_found w s s' h grey one k.0 v k.1 there (subst (λ (hs : List Hash). Blackens w h hs v) k.2 b)
+
+-- a list that isn't empty
+pub some_grey : (hs : List Hash) → hs ≢ [] → 0 < length hs
+some_grey [] some = absurd (some refl)
+some_grey (h ∷ hs) some = omega arith
+
+-- ---- slices
+pub strode_none : (w : Walk) (s : Store) → Strode 0 0 w s w s
+strode_none w s = record { nodes = refl; archive = refl; strides = here; few = copies_none _ _ }
+
+-- one after another
+pub strode_on : (a b c d : ℕ) (w v u : Walk) (s t x : Store) → Strode a b w s v t → Strode c d v t u x → Strode (a + c) (b + d) w s u x
+strode_on a b c d w v u s t x first next =
+    let same : finite.get (nodes_of t) ≡ finite.get (nodes_of s) = ap (λ (n : Nodes). finite.get n) first.nodes in
+    record {
+      nodes = next.nodes ∙ first.nodes;
+      archive = next.archive ∙ first.archive;
+      strides = strides_on first.strides
+          (subst (λ (n : Lookup). Strides n v (finite.get t.writable) c u (finite.get x.writable)) same next.strides);
+      few = copies_on b d _ _ (finite.get t.writable) _ first.few
+          (subst (λ (n : Lookup). CopiesAtMost d n (finite.get t.writable) (finite.get x.writable)) same next.few);
+    }
+
+-- a bound that is higher
+pub strode_few : (a b c : ℕ) (w v : Walk) (s t : Store) → b ≤ c → Strode a b w s v t → Strode a c w s v t
+strode_few a b c w v s t le x = record {
+  nodes = x.nodes;
+  archive = x.archive;
+  strides = x.strides;
+  few = copies_more b c _ _ _ le x.few;
+}
+
+pub cut_short : (i n : ℕ) (w v u : Walk) (s t x : Store) → i < n → Strode i i w s v t → Strode 0 1 v t u x → IsCutShort n w s u x
+cut_short i n w v u s t x lt first last = record {
+  taken = i + 0;
+  fewer = omega (arith, lt);
+  strode = strode_few (i + 0) (i + 1) n w u s x (omega (arith, lt)) (strode_on i i 0 1 w v u s t x first last);
+}
+
+pub rest_on : (s t u : Store) → SameRest s t → SameRest t u → SameRest s u
+rest_on s t u a b = (
+  (b.0.0 ∙ a.0.0, b.0.1 ∙ a.0.1, b.0.2 ∙ a.0.2, b.0.3 ∙ a.0.3, b.0.4 ∙ a.0.4),
+  b.1 ∙ a.1,
+  b.2 ∙ a.2,
+)
+
+pub drains_none : (w : Walk) (s : Store) → Drains w s w s
+drains_none w s = record { taken = 0; copied = 0; strode = strode_none w s }
+
+pub drains_on : (a b : ℕ) (w v u : Walk) (s t x : Store) → Drains w s v t → Strode a b v t u x → Drains w s u x
+drains_on a b w v u s t x first next = record {
+  taken = first.taken + a;
+  copied = first.copied + b;
+  strode = strode_on first.taken first.copied a b w v u s t x first.strode next;
+}
+
+pub rest_none : (s : Store) → SameRest s s
+rest_none s = ((refl, refl, refl, refl, refl), refl, refl)
+
+-- ---- the rule
+pub rule_kept : (a b : ℕ) (w v : Walk) (s t : Store) → Strode a b w s v t → KeepsRule w s v t
+rule_kept a b w v s t x = record {
+  colours = λ c. subst (λ (n : Lookup). Colours n (finite.get t.writable) v) (sym same) (colours_stay nodes w held x.strides c);
+  shaded = shaded_still nodes w held x.strides;
+  kept = λ h. (
+    λ k. subst (λ (n : Lookup). Keeps n v h) (sym same) (kept_stays nodes w held x.strides h k),
+    λ k. kept_was nodes w held x.strides h (subst (λ (n : Lookup). Keeps n v h) same k),
+  );
+  copies = λ h form e. ⊎_elim (λ old. inl old) (λ new. inr new.0) (held_was nodes w held x.strides h form e);
+}
+  where
+    nodes : Lookup
+    nodes = finite.get (nodes_of s)
+
+    held : Lookup
+    held = finite.get s.writable
+
+    same : finite.get (nodes_of t) ≡ nodes
+    same = ap (λ (n : Nodes). finite.get n) x.nodes

@@ -1,0 +1,39 @@
+use Rattle.std.proofs.Common.{arith}
+use Rattle.copy_walk.proofs.Taking.{drains_none, drains_on, strode_on, rest_none, rest_on, rule_kept}
+use Rattle.copy_walk.proofs.walk.CopyWalk.drain.Goals as goal
+
+-- none was taken yet
+pub loop-alloc-init : goal.loop-alloc-init
+loop-alloc-init g c = record {
+  strode = λ told. drains_none c.args.self.now c.args.store.now;
+  rest = rest_none c.args.store.now;
+  later = omega arith;
+  gets = omega arith;
+}
+
+-- one more was taken
+pub loop-alloc-preserved : goal.loop-alloc-preserved
+loop-alloc-preserved g c = record {
+  strode = λ told. drains_on 1 1 c.args.self.now c.loop-alloc.self c.take.new.self c.args.store.now c.loop-alloc.store c.take.new.store
+      (c.loop-alloc.invariant.strode told) (c.in_ok-take.ensures.ok told);
+  rest = rest_on c.args.store.now c.loop-alloc.store c.take.new.store c.loop-alloc.invariant.rest c.take.ensures.rest;
+  later = omega (arith, c.loop-alloc.invariant.later, c.take.ensures.later);
+  gets = omega (arith, c.loop-alloc.invariant.gets, c.take.ensures.gets);
+}
+
+-- the next one was refused
+pub returns-in_err-take-clause-strode : goal.returns-in_err-take-clause-strode
+returns-in_err-take-clause-strode g c told =
+    drains_on 0 1 c.args.self.now c.loop-alloc.self c.take.new.self c.args.store.now c.loop-alloc.store c.take.new.store
+    (c.loop-alloc.invariant.strode told) (c.in_err-take.ensures.err told)
+
+-- each stride keeps the rule
+pub returns-in_err-take-clause-rule : goal.returns-in_err-take-clause-rule
+returns-in_err-take-clause-rule g c told =
+    let first = c.loop-alloc.invariant.strode told in
+    rule_kept _ _ _ _ _ _
+    (strode_on first.taken first.copied 0 1 c.args.self.now c.loop-alloc.self c.take.new.self c.args.store.now c.loop-alloc.store
+    c.take.new.store first.strode (c.in_err-take.ensures.err told))
+
+pub returns-clause-rule : goal.returns-clause-rule
+returns-clause-rule g c told = rule_kept _ _ _ _ _ _ (c.loop-alloc.invariant.strode told).strode

@@ -1,0 +1,37 @@
+//! The copy of one form.
+ghost use Rattle.std.specs.Prelude.{◌≡◌, ◌≤◌, IsTrue, IfOk, IfErr, IfSome, OnOk, Err, length};
+ghost use Rattle.std.specs.FinMap as finite;
+ghost use Rattle.std.specs.Option.{option_map};
+ghost use Rattle.run_io.specs.Bytes.{Rose};
+ghost use Rattle.rotating_store.specs.Puts.{IsPlain};
+ghost use Rattle.rotating_store.specs.Stores.{nodes_of};
+ghost use Rattle.copy_walk.specs.Slices.{CopiesOne, KidsAt, SameRest};
+
+use crate::kids::kids_of;
+use half_hash::Hash32;
+use node_backend::Shelf;
+use rotating_store::{RotStore, StoreFault};
+use std::alloc::Global;
+
+/// Copies one form forward, and tells the hashes that it names; None where nothing is stored.
+pub(crate) fn copy_one<Sh: Shelf>(
+    alloc: Global,
+    store: &mut RotStore<Sh>,
+    h: &Hash32,
+) -> Result<Option<Vec<Hash32>>, StoreFault>
+    ensures one { IsTrue Sh.B.tells → CopiesOne h.now store.old store.new }
+    ensures there { IsTrue Sh.B.tells → OnOk result (finite.get store.new.writable h.now ≡ finite.get (nodes_of store.old) h.now) }
+    ensures kids { IsTrue Sh.B.tells
+        → IfOk result (λ kids. KidsAt (finite.get (nodes_of store.old) h.now) (option_map (λ v. v.items) kids)) }
+    ensures few { IfOk result (λ kids. IfSome kids (λ v. length v.items ≤ 16)) }
+    ensures rest { SameRest store.old store.new }
+    ensures later { store.old.faults ≤ store.new.faults }
+    ensures gets { store.old.gets ≤ store.new.gets }
+    ensures cause { (result ≡ Err StoreFault.Fault → Rose store.old.faults store.new.faults) × IfErr result IsPlain }
+{
+    let moved = store.forward_form(alloc, h)?;
+    match moved.1 {
+        Some(form) => Ok(Some(kids_of(alloc, form.bytes())?)),
+        None => Ok(None),
+    }
+}

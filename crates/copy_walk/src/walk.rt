@@ -1,0 +1,205 @@
+//! The walk. The next hash to be taken is the last grey one, so that what one root reaches is copied before the next: few are grey at a
+//! time. A hash leaves the grey list only as it becomes black, or isn't stored: after a refusal it is still there.
+ghost use Rattle.std.specs.Prelude.{◌≡◌, ◌≢◌, ◌↔◌, ◌≤◌, ◌<◌, [], ℕ, List, IsTrue, Some, IfOk, IfErr, OnOk, OnErr, Err, length};
+ghost use Rattle.std.specs.List.{Contains, slice_get};
+ghost use Rattle.run_io.specs.Bytes.{Rose};
+ghost use Rattle.rotating_store.specs.Puts.{IsPlain};
+ghost use Rattle.copy_walk.specs.Slices.{Blackens, Strode, Slices, IsCutShort, Drains, KeepsRule, LeftBy, SameRest};
+
+use crate::copy::copy_one;
+use half_hash::{Hash32, Memory};
+use node_backend::Shelf;
+use rotating_store::{RotStore, StoreFault};
+use std::alloc::Global;
+use std::collections::HashSet;
+use std::marker::Model;
+
+/// Whether a slice left something to copy.
+#[derive(Clone, Copy, Debug, PartialEq, Eq)]
+pub enum Left {
+    /// Some hashes are still to be taken.
+    More,
+    /// Nothing is left.
+    Done,
+}
+
+/// A walk. Contracts see its grey hashes, the next one last, and its black ones.
+#[derive(Drop)]
+pub struct CopyWalk {
+    grey: Vec<Hash32>,
+    black: HashSet<Hash32>,
+}
+
+impl Model for CopyWalk {
+    ghost use Rattle.copy_walk.specs.Walks.{Walk};
+
+    ghost Value = { Walk };
+
+    ghost view = { λ w. record { grey = w.grey.items; black = w.black.keys } };
+}
+
+impl CopyWalk {
+    ghost use Rattle.copy_walk.specs.Walks.{Walk, Shades, ShadesSome, shaded, left_of};
+
+    /// A walk that begins at these hashes.
+    pub fn start(alloc: Global, roots: &[Hash32]) -> Result<CopyWalk, Memory>
+        ensures { IfOk result (λ w. w ≡ record { grey = roots.now; black = [] }) }
+    {
+        let grey = Vec::from_slice(alloc, roots)?;
+        Ok(CopyWalk {
+            grey,
+            black: HashSet::new(alloc),
+        })
+    }
+
+    /// Has a hash taken, unless it is black. It needn't be stored. Where memory is refused nothing changes.
+    pub fn shade(&mut self, h: &Hash32) -> Result<(), Memory>
+        ensures ok { OnOk result (Shades self.old h.now self.new) }
+        ensures err { OnErr result (self.new ≡ self.old) }
+    {
+        if self.black.contains(h) {
+            return Ok(());
+        }
+        self.grey.push(*h)?;
+        Ok(())
+    }
+
+    /// Takes up to n grey hashes: each form is copied to the writable backend, and what it names is shaded. One that isn't stored is let
+    /// go, so that it can be shaded again once it is written. The store's one map stays. After a refusal no grey hash is lost.
+    pub fn slice<Sh: Shelf>(
+        &mut self,
+        alloc: Global,
+        store: &mut RotStore<Sh>,
+        n: usize,
+    ) -> Result<Left, StoreFault>
+        requires { 0 < n }
+        ensures ok { IsTrue Sh.B.tells → IfOk result (λ l. Slices n self.old store.old l self.new store.new) }
+        ensures err { IsTrue Sh.B.tells → OnErr result (IsCutShort n self.old store.old self.new store.new) }
+        ensures rule { IsTrue Sh.B.tells → KeepsRule self.old store.old self.new store.new }
+        ensures left { IfOk result (λ l. LeftBy l self.new) }
+        ensures rest { SameRest store.old store.new }
+        ensures later { store.old.faults ≤ store.new.faults }
+        ensures gets { store.old.gets ≤ store.new.gets }
+        ensures cause { (result ≡ Err StoreFault.Fault → Rose store.old.faults store.new.faults) × IfErr result IsPlain }
+    {
+        for _ in 0..n {
+            if self.is_done() {
+                return Ok(Left::Done);
+            }
+            self.take(alloc, store)?;
+        }
+        Ok(self.left())
+    }
+
+    /// Takes grey hashes until none is left. The store's one map stays. After a refusal no grey hash is lost.
+    pub fn drain<Sh: Shelf>(
+        &mut self,
+        alloc: Global,
+        store: &mut RotStore<Sh>,
+    ) -> Result<(), StoreFault>
+        ensures strode { IsTrue Sh.B.tells → Drains self.old store.old self.new store.new }
+        ensures rule { IsTrue Sh.B.tells → KeepsRule self.old store.old self.new store.new }
+        ensures ok { OnOk result (self.new.grey ≡ []) }
+        ensures rest { SameRest store.old store.new }
+        ensures later { store.old.faults ≤ store.new.faults }
+        ensures gets { store.old.gets ≤ store.new.gets }
+        ensures cause { (result ≡ Err StoreFault.Fault → Rose store.old.faults store.new.faults) × IfErr result IsPlain }
+    {
+        while !self.is_done() {
+            self.take(alloc, store)?;
+        }
+        Ok(())
+    }
+
+    // Whether something is grey.
+    fn left(&self) -> Left
+        ensures { LeftBy result self.now }
+    {
+        if self.is_done() {
+            Left::Done
+        } else {
+            Left::More
+        }
+    }
+
+    /// Whether nothing is grey.
+    pub fn is_done(&self) -> bool
+        ensures { IsTrue result ↔ (self.now.grey ≡ []) }
+    {
+        self.grey.is_empty()
+    }
+
+    // Has hashes taken, one after another.
+    fn shade_all(&mut self, hashes: &[Hash32]) -> Result<(), Memory>
+        ensures some { ShadesSome self.old hashes.now self.new }
+        ensures all { OnOk result ((h : List ℕ) → Contains hashes.now h → Contains (shaded self.new) h) }
+    {
+        for hash in hashes {
+            self.shade(hash)?;
+        }
+        Ok(())
+    }
+
+    // The grey hash at a place becomes black: all that it names is shaded first.
+    fn blacken(&mut self, place: usize, hash: &Hash32, named: &[Hash32]) -> Result<(), Memory>
+        requires at { slice_get self.old.grey place ≡ Some hash.now }
+        requires few { length named.now ≤ 16 }
+        requires new { Contains self.old.black hash.now → ⊥ }
+        ensures ok { OnOk result (Blackens self.old hash.now named.now self.new) }
+        ensures err { OnErr result (ShadesSome self.old named.now self.new) }
+        ensures less { OnOk result (left_of self.new < left_of self.old) }
+    {
+        self.shade_all(named)?;
+        let _count = self.black.len();
+        self.black.insert(*hash)?;
+        self.grey.swap_remove(place);
+        Ok(())
+    }
+
+    // Takes the grey hash at a place, which isn't black.
+    fn take_at<Sh: Shelf>(
+        &mut self,
+        alloc: Global,
+        store: &mut RotStore<Sh>,
+        place: usize,
+        hash: &Hash32,
+    ) -> Result<(), StoreFault>
+        requires at { slice_get self.old.grey place ≡ Some hash.now }
+        requires new { Contains self.old.black hash.now → ⊥ }
+        ensures ok { IsTrue Sh.B.tells → OnOk result (Strode 1 1 self.old store.old self.new store.new) }
+        ensures err { IsTrue Sh.B.tells → OnErr result (Strode 0 1 self.old store.old self.new store.new) }
+        ensures less { OnOk result (left_of self.new < left_of self.old) }
+        ensures rest { SameRest store.old store.new }
+        ensures later { store.old.faults ≤ store.new.faults }
+        ensures gets { store.old.gets ≤ store.new.gets }
+        ensures cause { (result ≡ Err StoreFault.Fault → Rose store.old.faults store.new.faults) × IfErr result IsPlain }
+    {
+        let Some(kids) = copy_one(alloc, store, hash)? else {
+            self.grey.swap_remove(place);
+            return Ok(());
+        };
+        self.blacken(place, hash, &kids)?;
+        Ok(())
+    }
+
+    // Takes the last grey hash.
+    fn take<Sh: Shelf>(&mut self, alloc: Global, store: &mut RotStore<Sh>) -> Result<(), StoreFault>
+        requires { self.old.grey ≢ [] }
+        ensures ok { IsTrue Sh.B.tells → OnOk result (Strode 1 1 self.old store.old self.new store.new) }
+        ensures err { IsTrue Sh.B.tells → OnErr result (Strode 0 1 self.old store.old self.new store.new) }
+        ensures less { OnOk result (left_of self.new < left_of self.old) }
+        ensures rest { SameRest store.old store.new }
+        ensures later { store.old.faults ≤ store.new.faults }
+        ensures gets { store.old.gets ≤ store.new.gets }
+        ensures cause { (result ≡ Err StoreFault.Fault → Rose store.old.faults store.new.faults) × IfErr result IsPlain }
+    {
+        let place = self.grey.len() - 1;
+        let hash = self.grey[place];
+        if self.black.contains(&hash) {
+            self.grey.swap_remove(place);
+            return Ok(());
+        }
+        self.take_at(alloc, store, place, &hash)?;
+        Ok(())
+    }
+}

@@ -1,0 +1,306 @@
+use Rattle.std.specs.Prelude.{slice_index}
+use Rattle.ledger_machine.specs.Scripts.{numbers_of}
+use Rattle.std.proofs.Common.{◌≡◌, ◌≢◌, ℕ, true, take, length, refl, sym, ◌∙◌, ap, arith, length-append}
+use Rattle.std.proofs.lemmas.Bool.{false≢true}
+use Rattle.ledger_machine.specs.declared.commands.Line.{Line}
+use Rattle.ledger_machine.specs.Runs.{is_answered}
+use Rattle.ledger_laws.proofs.SoundSteps.{step_sound}
+use Rattle.store_core.proofs.Journals.{kept_few, kept_less, kept_next, kept_moved, kept_step, kept_done, kept_past, kept_end, kept_sliced}
+use Rattle.store_core.proofs.Journals.{kept_in_range, moved, moved_end, pushed, answers}
+use Rattle.store_core.proofs.Waiting.{done_free, next_left, blocked_by, blocked_at, same_line}
+use Rattle.store_core.proofs.store.Core.advance.Goals as goal
+use Rattle.store_core.proofs.store.Core.advance.Goals.{else-after-ne0-via-then-after-ne0+else-not-is_answered}
+use Rattle.store_core.proofs.store.Core.advance.Goals.{else-after-ne0-via-else-after-ne0}
+
+-- the actor has no line from its cursor on, and those before it are answered, so it is done
+pub returns-in_default-clause-finished : goal.returns-in_default-clause-finished
+returns-in_default-clause-finished g c =
+    let k = c.self.invariant in (
+      (λ _. rw (← c.self.view_is)
+          (kept_done _ _ _ _ _ _ _ _ _ _ _ _ k c.args.actor (omega (arith, k.cursor_count, c.len.ensures, c.if-actor-len.false))
+          (moved_end c.self.inside.cursors.items c.deref.ensures.value c.index-from.ensures c.self.inside.cursors.ok.0 c.len.ensures
+          c.if-actor-len.false c.in_default.ensures))),
+      (λ _. refl),
+    )
+
+pub returns-in_default-clause-blocked : goal.returns-in_default-clause-blocked
+returns-in_default-clause-blocked g c =
+    ((λ e. cc), (λ blocked. absurd (done_free _ _ c.args.actor ((returns-in_default-clause-finished g c).0 refl) blocked)))
+
+-- each line of the script is in range, so the one that was found is
+pub section-requires-clause-in_range : goal.section-requires-clause-in_range
+section-requires-clause-in_range g c _ _ =
+    let k = c.self.invariant in
+    let next = moved c.self.inside.cursors.items c.deref.ensures.value c.index-from.ensures
+    c.self.inside.cursors.ok.0 c.len.ensures c.if-actor-len.false c.in-Some.ensures in
+    kept_in_range _ _ _ _ _ _ _ _ _ _ _ _ k _ next.within c.index-line.result.now c.index-line.ensures
+
+pub section-requires-clause-sound : goal.section-requires-clause-sound
+section-requires-clause-sound g c _ _ = c.self.invariant.sound
+
+pub section-requires-clause-told : goal.section-requires-clause-told
+section-requires-clause-told g c _ _ = c.self.invariant.roots
+
+-- no more epochs have ended than there are entries, and there are fewer of those than lines
+pub section-requires-clause-room : goal.section-requires-clause-room
+section-requires-clause-room g c _ _ =
+    let k = c.self.invariant in
+    let next = moved c.self.inside.cursors.items c.deref.ensures.value c.index-from.ensures
+    c.self.inside.cursors.ok.0 c.len.ensures c.if-actor-len.false c.in-Some.ensures in
+    let less = kept_less _ _ _ _ _ _ _ _ _ _ _ _ k c.args.actor _
+    (omega (arith, k.cursor_count, c.len.ensures, c.if-actor-len.false)) next c.index-line.result.now c.index-line.ensures in
+    omega (arith, k.young, less, k.servable.few)
+
+-- room for an entry of each line was reserved, and this line has none yet, so the push succeeds
+pub unwrap-requires : goal.unwrap-requires
+unwrap-requires g c =
+    let k = c.self.invariant in
+    let next = moved c.self.inside.cursors.items c.deref.ensures.value c.index-from.ensures
+    c.self.inside.cursors.ok.0 c.len.ensures c.if-actor-len.false c.in-Some.ensures in
+    c.push.ensures.succeeds (let less = kept_less _ _ _ _ _ _ _ _ _ _ _ _ k c.args.actor _
+    (omega (arith, k.cursor_count, c.len.ensures, c.if-actor-len.false)) next c.index-line.result.now c.index-line.ensures in omega
+    (arith, k.room, c.self.inside.journal.ok.0))
+
+-- the line that was found is the actor's next one, and the line that it waits for has no entry
+pub returns-then-not-is_answered-clause-blocked : goal.returns-then-not-is_answered-clause-blocked
+returns-then-not-is_answered-clause-blocked g c =
+    let k = c.self.invariant in
+    let next = moved c.self.inside.cursors.items c.deref.ensures.value c.index-from.ensures
+    c.self.inside.cursors.ok.0 c.len.ensures c.if-actor-len.false c.in-Some.ensures in (
+      (λ _. rw (← c.self.view_is) (blocked_by c.self.inside.script.lines.items c.self.inside.journal.items c.args.actor c.index.result.now
+          (kept_next _ _ _ _ _ _ _ _ _ _ _ _ k c.args.actor _
+          (omega (arith, k.cursor_count, c.len.ensures, c.if-actor-len.false)) next c.index.result.now c.index.ensures)
+          c.if-after-ne0.true (sym (rw (← c.self.view_is) at c.is_answered.ensures) ∙ c.if-not-is_answered.true))),
+      (λ _. refl),
+    )
+
+pub returns-then-not-is_answered-clause-finished : goal.returns-then-not-is_answered-clause-finished
+returns-then-not-is_answered-clause-finished g c =
+    ((λ e. cc), (λ done. absurd (done_free _ _ c.args.actor done ((returns-then-not-is_answered-clause-blocked g c).0 refl))))
+
+pub returns-then-not-is_answered-clause-few : goal.returns-then-not-is_answered-clause-few
+returns-then-not-is_answered-clause-few g c = kept_few _ _ _ _ _ _ _ _ _ _ _ _ c.self.invariant
+
+-- no line of the actor stands between its old cursor and this place, so moving the cursor there skips none
+pub invariant_of-self-then-not-is_answered : goal.invariant_of-self-then-not-is_answered
+invariant_of-self-then-not-is_answered g c =
+    let k = c.self.invariant in
+    let next = moved c.self.inside.cursors.items c.deref.ensures.value c.index-from.ensures
+    c.self.inside.cursors.ok.0 c.len.ensures c.if-actor-len.false c.in-Some.ensures in
+    kept_moved _ _ _ _ _ _ _ _ _ _ _ _ k c.args.actor _ (omega (arith, k.cursor_count, c.len.ensures, c.if-actor-len.false))
+    (omega (arith, next.within)) next.none
+
+-- the line waits for none, or for one that is answered, so the actor is not blocked
+pub returns-clause-blocked : goal.returns-clause-blocked
+returns-clause-blocked g c =
+    let k = c.self.invariant in
+    let next = moved c.self.inside.cursors.items c.deref.ensures.value c.index-from.ensures
+    c.self.inside.cursors.ok.0 c.len.ensures c.if-actor-len.false c.in-Some.ensures in
+    let free : c.index-line.result.now.after ≢ 0 → is_answered c.self.inside.journal.items c.index-line.result.now.after ≡ true =
+    (let same = same_line c.self.inside.script.lines.items _ c.index-line.result.now c.index.result.now next.within c.index-line.ensures
+    c.index.ensures in λ waits.
+    elim c.else-after-ne0.branch [
+      | else-after-ne0-via-then-after-ne0+else-not-is_answered w ↦
+          ap (λ (l : Line). is_answered c.self.inside.journal.items l.after) same
+          ∙ (sym (rw (← c.self.view_is) at w.is_answered.ensures) ∙ w.if-not-is_answered.false)
+      | else-after-ne0-via-else-after-ne0 w ↦ absurd (waits (ap (λ (l : Line). l.after) same ∙ w.if-after-ne0.false))
+    ]) in (
+      (λ e. cc),
+      (λ blocked. absurd (
+          let by = blocked_at c.self.inside.script.lines.items c.self.inside.journal.items c.args.actor c.index-line.result.now
+          (kept_next _ _ _ _ _ _ _ _ _ _ _ _ k c.args.actor _
+          (omega (arith, k.cursor_count, c.len.ensures, c.if-actor-len.false)) next c.index-line.result.now c.index-line.ensures)
+          (rw (← c.self.view_is) at blocked) in
+          false≢true (sym by.1 ∙ free by.0))),
+    )
+
+-- a line of the actor was left, so it is not done
+pub returns-clause-finished : goal.returns-clause-finished
+returns-clause-finished g c =
+    let k = c.self.invariant in
+    let next = moved c.self.inside.cursors.items c.deref.ensures.value c.index-from.ensures
+    c.self.inside.cursors.ok.0 c.len.ensures c.if-actor-len.false c.in-Some.ensures in (
+      (λ e. cc),
+      (λ done. absurd (next_left c.self.inside.script.lines.items c.self.inside.journal.items c.args.actor c.index-line.result.now
+          (kept_next _ _ _ _ _ _ _ _ _ _ _ _ k c.args.actor _
+          (omega (arith, k.cursor_count, c.len.ensures, c.if-actor-len.false)) next c.index-line.result.now c.index-line.ensures)
+          (rw (← c.self.view_is) at done))),
+    )
+
+-- a slice is done of a line that isn't blocked
+pub returns-in_default-section-clause-blocked : goal.returns-in_default-section-clause-blocked
+returns-in_default-section-clause-blocked g c =
+    let k = c.self.invariant in
+    let next = moved c.self.inside.cursors.items c.deref.ensures.value c.index-from.ensures
+    c.self.inside.cursors.ok.0 c.len.ensures c.if-actor-len.false c.in-Some.ensures in
+    let free : c.index-line.result.now.after ≢ 0 → is_answered c.self.inside.journal.items c.index-line.result.now.after ≡ true =
+    (let same = same_line c.self.inside.script.lines.items _ c.index-line.result.now c.index.result.now next.within c.index-line.ensures
+    c.index.ensures in λ waits.
+    elim c.else-after-ne0.branch [
+      | else-after-ne0-via-then-after-ne0+else-not-is_answered w ↦
+          ap (λ (l : Line). is_answered c.self.inside.journal.items l.after) same
+          ∙ (sym (rw (← c.self.view_is) at w.is_answered.ensures) ∙ w.if-not-is_answered.false)
+      | else-after-ne0-via-else-after-ne0 w ↦ absurd (waits (ap (λ (l : Line). l.after) same ∙ w.if-after-ne0.false))
+    ]) in (
+      (λ e. cc),
+      (λ blocked. absurd (
+          let by = blocked_at c.self.inside.script.lines.items c.self.inside.journal.items c.args.actor c.index-line.result.now
+          (kept_next _ _ _ _ _ _ _ _ _ _ _ _ k c.args.actor _
+          (omega (arith, k.cursor_count, c.len.ensures, c.if-actor-len.false)) next c.index-line.result.now c.index-line.ensures)
+          (rw (← c.self.view_is) at blocked) in
+          false≢true (sym by.1 ∙ free by.0))),
+    )
+
+pub returns-in_default-section-clause-finished : goal.returns-in_default-section-clause-finished
+returns-in_default-section-clause-finished g c =
+    let k = c.self.invariant in
+    let next = moved c.self.inside.cursors.items c.deref.ensures.value c.index-from.ensures
+    c.self.inside.cursors.ok.0 c.len.ensures c.if-actor-len.false c.in-Some.ensures in (
+      (λ e. cc),
+      (λ done. absurd (next_left c.self.inside.script.lines.items c.self.inside.journal.items c.args.actor c.index-line.result.now
+          (kept_next _ _ _ _ _ _ _ _ _ _ _ _ k c.args.actor _
+          (omega (arith, k.cursor_count, c.len.ensures, c.if-actor-len.false)) next c.index-line.result.now c.index-line.ensures)
+          (rw (← c.self.view_is) at done))),
+    )
+
+pub returns-in_default-section-clause-few : goal.returns-in_default-section-clause-few
+returns-in_default-section-clause-few g c = kept_few _ _ _ _ _ _ _ _ _ _ _ _ c.self.invariant
+
+-- no line of the actor stands between its old cursor and this place, and a slice leaves the state
+pub invariant_of-self-in_default-section : goal.invariant_of-self-in_default-section
+invariant_of-self-in_default-section g c =
+    let k = c.self.invariant in
+    let next = moved c.self.inside.cursors.items c.deref.ensures.value c.index-from.ensures
+    c.self.inside.cursors.ok.0 c.len.ensures c.if-actor-len.false c.in-Some.ensures in
+    kept_moved _ _ _ _ _ _ _ _ _ _ _ _
+    (kept_sliced _ _ _ _ _ _ _ _ _ _ _ _ k c.section.new.self.state c.section.new.self.faults
+    (λ told. c.in_default-section.ensures.same told refl) (c.in_default-section.ensures.still refl) c.section.ensures.grows.later)
+    c.args.actor _ (omega (arith, k.cursor_count, c.len.ensures, c.if-actor-len.false)) (omega (arith, next.within)) next.none
+
+-- a slice of the actor's next line
+pub returns-in_default-section-clause-more : goal.returns-in_default-section-clause-more
+returns-in_default-section-clause-more g c _ =
+    let k = c.self.invariant in
+    let next = moved c.self.inside.cursors.items c.deref.ensures.value c.index-from.ensures
+    c.self.inside.cursors.ok.0 c.len.ensures c.if-actor-len.false c.in-Some.ensures in
+    let more = c.in_default-section.ensures.more refl in (
+      more.cut,
+      rw (← c.self.view_is) (record {
+        line = c.index-line.result.now;
+        next = kept_next _ _ _ _ _ _ _ _ _ _ _ _ k c.args.actor _
+            (omega (arith, k.cursor_count, c.len.ensures, c.if-actor-len.false)) next c.index-line.result.now c.index-line.ensures;
+        swap = more.swap;
+        counted = more.counted;
+        few = omega (arith, more.few, more.counted);
+        later = c.section.ensures.grows.later;
+        state = λ told. c.in_default-section.ensures.same told refl;
+        still = c.in_default-section.ensures.still refl;
+        rest = refl;
+      }),
+    )
+
+-- the entry is that of the next line, by a step of the machine from the state before, so the run goes on by it
+pub invariant_of-self-2 : goal.invariant_of-self-2
+invariant_of-self-2 g c =
+    let k = c.self.invariant in
+    let next = moved c.self.inside.cursors.items c.deref.ensures.value c.index-from.ensures
+    c.self.inside.cursors.ok.0 c.len.ensures c.if-actor-len.false c.in-Some.ensures in
+    let line = c.index-line.result.now in
+    let range = kept_in_range _ _ _ _ _ _ _ _ _ _ _ _ k _ next.within line c.index-line.ensures in
+    let free : c.index-line.result.now.after ≢ 0 → is_answered c.self.inside.journal.items c.index-line.result.now.after ≡ true =
+    (let same = same_line c.self.inside.script.lines.items _ c.index-line.result.now c.index.result.now next.within c.index-line.ensures
+    c.index.ensures in λ waits.
+    elim c.else-after-ne0.branch [
+      | else-after-ne0-via-then-after-ne0+else-not-is_answered w ↦
+          ap (λ (l : Line). is_answered c.self.inside.journal.items l.after) same
+          ∙ (sym (rw (← c.self.view_is) at w.is_answered.ensures) ∙ w.if-not-is_answered.false)
+      | else-after-ne0-via-else-after-ne0 w ↦ absurd (waits (ap (λ (l : Line). l.after) same ∙ w.if-after-ne0.false))
+    ]) in
+    let step = c.in-Some-section.ensures.step in
+    rw (pushed c.push.result _ _ _ _ c.push.ensures.items c.unwrap.ensures)
+    (kept_step _ _ _ _ _ _ _ _ _ _ _ _ k c.args.actor _ (omega (arith, k.cursor_count, c.len.ensures, c.if-actor-len.false)) next
+    c.index-line.result.now c.index-line.ensures _ _ _ _ refl refl free step
+    (λ t. step_sound _ c.known_half.ensures _ _ _ _ _ _ range (k.sound t) (step t))
+    c.section.ensures.told c.section.ensures.grows.few c.section.ensures.grows.ages
+    c.push.ensures.capacity c.section.ensures.grows.later
+    c.in-Some-section.ensures.fault)
+
+-- one entry more: the actor's next line with the machine's reply, and a fault only where the store's count rose
+pub returns-clause-answered : goal.returns-clause-answered
+returns-clause-answered g c _ =
+    let k = c.self.invariant in
+    let next = moved c.self.inside.cursors.items c.deref.ensures.value c.index-from.ensures
+    c.self.inside.cursors.ok.0 c.len.ensures c.if-actor-len.false c.in-Some.ensures in
+    rw (← c.self.view_is) (record {
+      line = c.index-line.result.now;
+      next = kept_next _ _ _ _ _ _ _ _ _ _ _ _ k c.args.actor _
+          (omega (arith, k.cursor_count, c.len.ensures, c.if-actor-len.false)) next c.index-line.result.now c.index-line.ensures;
+      number = refl;
+      entry = record {
+        line = c.index-line.result.now.number;
+        actor = c.args.actor;
+        reply = c.in-Some-section.reply;
+        used = c.in-Some-section.used;
+      };
+      records = refl;
+      lines = refl;
+      interval = refl;
+      opened = refl;
+      missed = refl;
+      journal = pushed c.push.result _ _ _ _ c.push.ensures.items c.unwrap.ensures;
+      actor = refl;
+      later = c.section.ensures.grows.later;
+      cause = c.in-Some-section.ensures.fault;
+      refused = c.in-Some-section.ensures.refused;
+      step = λ t. answers g.H.NodeHash.half c.self.inside.script.lines.items c.self.inside.bench.state c.section.new.self.state
+          c.index-line.result.now _ _ _ next c.index-line.ensures refl refl
+          (c.in-Some-section.ensures.step t);
+    })
+
+pub returns-in_default-clause-few : goal.returns-in_default-clause-few
+returns-in_default-clause-few g c = kept_few _ _ _ _ _ _ _ _ _ _ _ _ c.self.invariant
+
+-- the actor has no line from its cursor on, so moving the cursor to the end skips none
+pub invariant_of-self : goal.invariant_of-self
+invariant_of-self g c =
+    let k = c.self.invariant in
+    let lines = c.self.inside.script.lines.items in
+    let none = moved_end c.self.inside.cursors.items c.deref.ensures.value c.index-from.ensures
+    c.self.inside.cursors.ok.0 c.len.ensures c.if-actor-len.false c.in_default.ensures in
+    let end : c.len-in_default.result ≡ length lines = omega (arith, c.len-in_default.ensures, c.self.inside.script.lines.ok.0) in
+    kept_moved _ _ _ _ _ _ _ _ _ _ _ _ k c.args.actor _ (omega (arith, k.cursor_count, c.len.ensures, c.if-actor-len.false))
+    (omega (arith, end))
+    (ap (λ (n : ℕ). numbers_of c.args.actor (take n lines)) end
+    ∙ kept_end c.args.actor (slice_index c.self.inside.cursors.items c.args.actor) lines none)
+
+-- the line had no entry before, so there were fewer entries than lines
+pub returns-clause-few : goal.returns-clause-few
+returns-clause-few g c =
+    let k = c.self.invariant in
+    let next = moved c.self.inside.cursors.items c.deref.ensures.value c.index-from.ensures
+    c.self.inside.cursors.ok.0 c.len.ensures c.if-actor-len.false c.in-Some.ensures in
+    let less = kept_less _ _ _ _ _ _ _ _ _ _ _ _ k c.args.actor _
+    (omega (arith, k.cursor_count, c.len.ensures, c.if-actor-len.false)) next c.index-line.result.now c.index-line.ensures in
+    omega (
+      arith,
+      less,
+      ap length (pushed c.push.result _ _ _ _ c.push.ensures.items c.unwrap.ensures),
+      simp length-append at
+          (ap length (pushed c.push.result _ _ _ _ c.push.ensures.items c.unwrap.ensures)),
+    )
+
+-- the lines are those of 64 actors, so an actor past the last one has none
+pub returns-then-actor-len-clause-finished : goal.returns-then-actor-len-clause-finished
+returns-then-actor-len-clause-finished g c = (
+  λ _. rw (← c.self.view_is)
+      (kept_past _ _ _ _ _ _ _ _ _ _ _ _ c.self.invariant c.args.actor
+      (omega (arith, c.self.invariant.cursor_count, c.len.ensures, c.if-actor-len.true))),
+  λ _. refl,
+)
+
+pub returns-then-actor-len-clause-blocked : goal.returns-then-actor-len-clause-blocked
+returns-then-actor-len-clause-blocked g c =
+    ((λ e. cc), (λ blocked. absurd (done_free _ _ c.args.actor ((returns-then-actor-len-clause-finished g c).0 refl) blocked)))
+
+pub returns-then-actor-len-clause-few : goal.returns-then-actor-len-clause-few
+returns-then-actor-len-clause-few g c = rw (← c.self.view_is) (kept_few _ _ _ _ _ _ _ _ _ _ _ _ c.self.invariant)
