@@ -100,6 +100,9 @@ impl CopyWalk {
         ensures strode { IsTrue Sh.B.tells → Drains self.old store.old self.new store.new }
         ensures rule { IsTrue Sh.B.tells → KeepsRule self.old store.old self.new store.new }
         ensures ok { OnOk result (self.new.grey ≡ []) }
+
+        // where nothing is grey, nothing is done
+        ensures none { self.old.grey ≡ [] → store.new ≡ store.old }
         ensures rest { SameRest store.old store.new }
         ensures later { store.old.faults ≤ store.new.faults }
         ensures gets { store.old.gets ≤ store.new.gets }

@@ -9,4 +9,6 @@ mod maps;
 #[cfg(test)]
 mod records;
 #[cfg(test)]
+mod walks;
+#[cfg(test)]
 mod wires;

@@ -62,6 +62,10 @@ AfterRotation shaded s r s' = OnOk r (Rotated shaded s s') × OnErr r (CopiesSom
 abbrev pub AfterFit : {T E : Type 0} → List Hash → Store → Result T E → Store → Type 0
 AfterFit shaded s r s' = OnOk r (OnlyReachedOrBorn shaded s s') × OnErr r (IsFit shaded s')
 
+-- Nothing was copied: behind a swap the archive is the backend that was the writable one, and after a refusal both are as before.
+abbrev pub CopiesNothing : {T E : Type 0} → Store → Result T E → Store → Type 0
+CopiesNothing s r s' = OnOk r (s'.archive ≡ s.writable) × OnErr r ((s'.writable ≡ s.writable) × (s'.archive ≡ s.archive))
+
 -- why a rotation is refused: a device failed in it, or memory ran out
 abbrev pub RefusedBy : Store → StoreFault → Store → Type 0
 RefusedBy s fault.Fault s' = Rose s.faults s'.faults

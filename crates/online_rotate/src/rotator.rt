@@ -7,7 +7,7 @@ ghost use Rattle.rotating_store.specs.Stores.{HasNoNewNotes, KeepsNotes, AddsAtM
 ghost use Rattle.ledger_spec.specs.Retaining.{due};
 ghost use Rattle.copy_walk.specs.Slices.{Slices, IsCutShort, LeftBy, SameRest};
 ghost use Rattle.online_rotate.specs.Rotators.{slices_after};
-ghost use Rattle.online_rotate.specs.Copying.{IsFit, IsWalking, CopiesSome, Rotated, AfterRotation, AfterFit, RefusedBy};
+ghost use Rattle.online_rotate.specs.Copying.{IsFit, IsWalking, CopiesSome, Rotated, AfterRotation, AfterFit, CopiesNothing, RefusedBy};
 
 use copy_walk::{CopyWalk, Left};
 use half_hash::{Hash32, Memory};
@@ -177,6 +177,7 @@ impl Rotator {
         ensures walks { IsTrue Sh.B.tells → IsWalking self.old.shaded self.old.walk store.old
             → OnErr result (IsWalking self.old.shaded self.new.walk store.new) }
         ensures notes { IsTrue Sh.B.tells → OnOk result (KeepsNotes store.old store.new) }
+        ensures still { IsTrue Sh.B.tells → self.old.walk.grey ≡ [] → CopiesNothing store.old result store.new }
         ensures later { store.old.faults ≤ store.new.faults }
         ensures gets { store.old.gets ≤ store.new.gets }
         ensures cause { IfErr result (λ e. RefusedBy store.old e store.new) }
@@ -220,6 +221,7 @@ fn rotate<Sh: Shelf>(
     ensures ok { OnOk result ((store.new.epoch ≡ store.old.epoch + 1) × HasNoNewNotes store.old store.new
         × (store.new.spare ≡ store.old.spare) × AddsAtMostOne store.old.undone store.new.undone) }
     ensures notes { IsTrue Sh.B.tells → OnOk result (KeepsNotes store.old store.new) }
+    ensures still { IsTrue Sh.B.tells → walk.old.grey ≡ [] → CopiesNothing store.old result store.new }
     ensures err { OnErr result (SameRest store.old store.new) }
     ensures later { store.old.faults ≤ store.new.faults }
     ensures gets { store.old.gets ≤ store.new.gets }

@@ -10,3 +10,5 @@ mod endings;
 mod rows;
 #[cfg(test)]
 mod scripts;
+#[cfg(test)]
+mod slices;

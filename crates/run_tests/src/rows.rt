@@ -223,7 +223,7 @@ fn is_line(left: &str) -> bool {
 }
 
 /// The text that is written in short.
-fn expand(alloc: Global, short: &str) -> Result<Vec<u8>, Fail> {
+pub(crate) fn expand(alloc: Global, short: &str) -> Result<Vec<u8>, Fail> {
     let mut text = Vec::new(alloc);
     for byte in short.bytes() {
         match byte {

@@ -89,10 +89,14 @@ reads_beside half true drafts d d' r = record {
   state = λ told. ap (λ (s : State). with_open half true s drafts) (r.state told);
   tables = ap (λ (s : State). with_open half true s drafts) (r.state refl)
       ∙ sym (ap (λ (s : State). record (with_open half true d.state drafts) { nodes = s.nodes; born = s.born }) (r.state refl));
+  copies = r.copies;
+  slices = r.slices;
   later = r.later;
 }
 reads_beside half false drafts d d' r = record {
   state = λ told. absurd (false≢true told);
+  copies = r.copies;
+  slices = r.slices;
   tables = ap (λ (s : State). with_open half false s drafts) r.tables;
   later = r.later;
 }

@@ -60,8 +60,8 @@ pub reads_stays : (half : Half) (tells : Bool) (d d' : Desk) (old new : ForActor
 reads_stays half tells d d' old new read = record {
   later = read.later;
   listed = ap (λ (s : State). s.listed) read.tables;
-  epoch = ap (λ
-      (s : State). s.epoch) read.tables;
+  epoch = ap (λ (s : State). s.epoch) read.tables;
+  slices = read.slices;
 }
 
 -- and tells nothing

@@ -12,6 +12,7 @@ pub mod Putting
 pub mod Numbering
 pub mod Dumps
 pub mod Following
+pub mod Copies
 pub mod Viewing
 pub mod Paging
 pub mod Charging

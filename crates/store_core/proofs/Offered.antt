@@ -1,19 +1,18 @@
 -- What an offer writes is shaded before, and named by what its target reaches.
-use Rattle.std.proofs.Common.{◌≡◌, ◌⊎◌, inl, inr, ⊎_elim, Bool, true, false, if◌then◌else◌, is_some, IsTrue, ℕ, List, [], ◌∷◌, ◌++◌}
-use Rattle.std.proofs.Common.{Option, None, Some, Result, Ok, Err, OnOk, OnErr, Contains, refl, sym, ap, ◌∙◌, subst}
+use Rattle.std.proofs.Common.{◌≡◌, ◌⊎◌, inl, inr, ⊎_elim, Bool, true, false, if◌then◌else◌, is_some, ℕ, List, [], ◌++◌}
+use Rattle.std.proofs.Common.{Option, None, Some, Result, Ok, Err, Contains, refl, sym, ap, ◌∙◌, subst}
 use Rattle.std.specs.FinMap as finite
 use Rattle.std.specs.Cmp.Lexicographic.{same_text}
 use Rattle.std.proofs.lemmas.Bool.{false≢true}
 use Rattle.std.proofs.lemmas.List.{append-nil}
 use Rattle.std.proofs.lemmas.List.Elements.{Contains-append_left}
 use Rattle.ledger_spec.specs.declared.Kind.{Kind}
-use Rattle.ledger_spec.specs.declared.ShapeFault.{ShapeFault}
 use Rattle.ledger_spec.specs.declared.outcomes.Offered.{Offered}
 use Rattle.ledger_spec.specs.declared.outcomes.Offered.TheVariants as offered
-use Rattle.ledger_spec.specs.Bytes.{Bytes, Hash, Half, Lookup, Nodes, same_bytes}
+use Rattle.ledger_spec.specs.Bytes.{Bytes, Hash, Half, Lookup, same_bytes}
 use Rattle.ledger_spec.specs.Forms.{Held, form_of, hash_of}
 use Rattle.ledger_spec.specs.Offers.{Clash, node_given, spot_outcome, wire_outcome, node_outcome, stored_by}
-use Rattle.ledger_spec.specs.Reach.{Reach, root, Stored}
+use Rattle.ledger_spec.specs.Reach.{root, Stored}
 use Rattle.ledger_spec.specs.Rules.{fault_of}
 use Rattle.ledger_spec.specs.Spots.{Spot, no_base, no_parent, empty_branch, under_leaf, wanted, spot_of}
 use Rattle.ledger_spec.specs.Wire.{read_wire}
@@ -37,8 +36,8 @@ use Rattle.node_offer.specs.declared.fault.OfferFault.TheVariants as offer
 use Rattle.node_offer.specs.Faults.{offer_fault}
 use Rattle.node_offer.specs.Stored.{HasForms}
 use Rattle.node_offer.proofs.Storing.{counted_forms}
-use Rattle.acquire_core.specs.Answers.{forms_in, Answers, HasFront}
-use Rattle.acquire_core.specs.Replies.{node_reply, node_stores}
+use Rattle.acquire_core.specs.Answers.{forms_in, Answers}
+use Rattle.acquire_core.specs.Replies.{node_stores}
 use Rattle.store_core.specs.Heeds.{Heeds, IsHeeded, AreHeeded}
 use Rattle.std.specs.Map.{keys_of}
 use Rattle.std.specs.Option.{IfSome}
@@ -49,7 +48,7 @@ use Rattle.ledger_machine.specs.Rotation.{AreShaded}
 use Rattle.store_core.specs.Benches.{with_open}
 use Rattle.store_core.specs.Telling.{AreTold, AreWantedTold}
 use Rattle.store_core.proofs.Roots.{wanted_among}
-use Rattle.store_core.proofs.Turns.{Adds, forms_add, forms_grow, walking_adds, walking_heeded, walking_counted}
+use Rattle.store_core.proofs.Turns.{forms_add, forms_grow, walking_adds, walking_heeded}
 
 -- ---- heeding
 pub heeds_none : (nodes : Lookup) (r : Turning) → Heeds nodes r r

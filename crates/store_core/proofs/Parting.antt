@@ -1,8 +1,6 @@
 -- What a base reply writes is shaded before, and named by what its target reaches, part by part.
 use Rattle.std.proofs.Common.{◌≡◌, ◌⊎◌, inl, inr, ⊎_elim, Bool, true, false, if◌then◌else◌, not, is_some, length, ◌==◌, ℕ, List, [], ◌∷◌, ◌++◌}
-use Rattle.std.proofs.lemmas.List.{append-nil}
 use Rattle.std.proofs.Common.{Option, None, Some, Result, Ok, Err, Contains, refl, sym, ap, ◌∙◌, subst}
-use Rattle.std.specs.FinMap as finite
 use Rattle.std.specs.Cmp.Lexicographic.{same_text}
 use Rattle.std.proofs.lemmas.List.Elements.{Contains-append_left, Contains-append_cases}
 use Rattle.ledger_spec.specs.declared.Kind.{Kind}
@@ -13,8 +11,8 @@ use Rattle.ledger_spec.specs.declared.outcomes.HeadOffered.{HeadOffered}
 use Rattle.ledger_spec.specs.declared.outcomes.HeadOffered.TheVariants as head
 use Rattle.ledger_spec.specs.Bytes.{Bytes, Hash, Half, Lookup, same_bytes}
 use Rattle.ledger_spec.specs.Bases.{with_form, with_forms, root_outcome, root_forms, unless_clash, behind_header, behind_state, base_forms}
-use Rattle.ledger_spec.specs.Forms.{Held, form_of, hash_of, header_prefix}
-use Rattle.ledger_spec.specs.Offers.{Clash, head_given, head_outcome, head_forms, node_outcome, wire_outcome, stored_by}
+use Rattle.ledger_spec.specs.Forms.{Held, form_of, header_prefix}
+use Rattle.ledger_spec.specs.Offers.{Clash, head_given, head_outcome, head_forms, wire_outcome, stored_by}
 use Rattle.ledger_spec.specs.Reach.{Reach, root, Stored}
 use Rattle.ledger_spec.specs.Wire.{read_wire}
 use Rattle.ledger_spec.specs.Acquiring.{Acquiring}
@@ -24,8 +22,7 @@ use Rattle.ledger_spec.proofs.Storing.{in_one}
 use Rattle.ledger_laws.proofs.SoundForms.{in_head, in_nothing}
 use Rattle.ledger_laws.proofs.SoundOffers.{parts_cases}
 use Rattle.ledger_laws.proofs.Ways.{IsNamed, named_reached}
-use Rattle.copy_walk.specs.Walks as walks
-use Rattle.rotating_store.specs.Stores.{Store, nodes_of}
+use Rattle.rotating_store.specs.Stores.{Store}
 use Rattle.online_rotate.specs.Copying.{IsWalking}
 use Rattle.online_rotate.specs.Rotators.{Turning}
 use Rattle.node_offer.specs.declared.fault.OfferFault.{OfferFault}

@@ -25,7 +25,8 @@ use Rattle.ledger_machine.specs.Views.{is_retained}
 use Rattle.rotating_store.specs.Sources.{rest_of}
 use Rattle.rotating_store.specs.Stores.{Store, nodes_of, born_of, Counted}
 use Rattle.own_forms.specs.Reading.{WasRead}
-use Rattle.store_core.specs.Desks.{Desk, OnlyReads, over}
+use Rattle.store_core.specs.Desks.{Desk, OnlyReads, over, backs}
+use Rattle.store_core.proofs.Copies.{backs_of, counted_backs}
 use Rattle.store_core.specs.declared.views.Got.{Got}
 use Rattle.store_core.specs.Reads.{IsGot}
 use Rattle.store_core.specs.Refusals.{read_refusal}
@@ -61,9 +62,12 @@ abbrev pub read_desk : Desk → Store → Desk
 read_desk d st = record d { state = over st d.state; faults = st.faults; written = st.writable; archived = st.archive }
 
 -- what only read the store left the state
-pub only_reads : (tells : Bool) (half : Half) (d0 d : Desk) (st st' : Store) → d0 ≡ d → IsOver st d.state → st.faults ≡ d.faults
+pub only_reads : (tells : Bool) (half : Half) (d0 d : Desk) (st st' : Store) → d0 ≡ d → backs d0 ≡ backs_of st → IsOver st d.state
+    → st.faults ≡ d.faults
     → WasRead tells half st st' → OnlyReads tells d (read_desk d0 st')
-only_reads tells half d0 d st st' e is same read = record {
+only_reads tells half d0 d st st' e lie is same read = record {
+  copies = λ told. counted_backs st st' (read.same told) ∙ sym lie ∙ ap backs e;
+  slices = omega (arith, ap (λ (x : Desk). x.slices) e);
   state = λ told. ap (λ (x : Desk). over st' x.state) e ∙ same_over st st' d.state is (read.same told);
   tables =
       ap (λ (x : Desk). over st' x.state) e
@@ -76,10 +80,13 @@ counted_by_rest : (tells : Bool) (st st' : Store) → IsTrue tells → rest_of t
 counted_by_rest true st st' told e = ap (λ (r : Store). record r { faults = st'.faults; gets = st'.gets; noted = st'.noted }) e
 counted_by_rest false st st' told e = absurd cc
 
-pub only_asked : (tells : Bool) (d0 d : Desk) (st st' : Store) → d0 ≡ d → IsOver st d.state → st.faults ≡ d.faults
+pub only_asked : (tells : Bool) (d0 d : Desk) (st st' : Store) → d0 ≡ d → backs d0 ≡ backs_of st → IsOver st d.state
+    → st.faults ≡ d.faults
     → rest_of tells st' ≡ rest_of tells st → st.faults ≤ st'.faults
     → OnlyReads tells d (read_desk d0 st')
-only_asked tells d0 d st st' e is same rest later = record {
+only_asked tells d0 d st st' e lie is same rest later = record {
+  copies = λ told. counted_backs st st' (counted_by_rest tells st st' told rest) ∙ sym lie ∙ ap backs e;
+  slices = omega (arith, ap (λ (x : Desk). x.slices) e);
   state = λ told. ap (λ (x : Desk). over st' x.state) e ∙ same_over st st' d.state is (counted_by_rest tells st st' told rest);
   tables =
       ap (λ (x : Desk). over st' x.state) e

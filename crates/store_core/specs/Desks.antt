@@ -1,6 +1,7 @@
 -- What the commands act on: the state over a store, the store's count of faults, and where its forms lie.
-use Rattle.std.specs.Prelude.{◌≡◌, ◌≤◌, ℕ, suc, Bool, IsTrue, [], length}
-use Rattle.ledger_spec.specs.Bytes.{Hash, Half, Nodes}
+use Rattle.std.specs.Prelude.{◌≡◌, ◌≤◌, ◌&&◌, ◌==◌, if◌then◌else◌, ℕ, suc, Bool, IsTrue, List, [], length, is_some}
+use Rattle.std.specs.FinMap as finite
+use Rattle.ledger_spec.specs.Bytes.{Hash, Half, Lookup, Nodes}
 use Rattle.ledger_spec.specs.Maps.{ForHash, ForActor}
 use Rattle.ledger_spec.specs.Acquiring.{Acquiring}
 use Rattle.ledger_spec.specs.Retaining.{Retention}
@@ -9,14 +10,24 @@ use Rattle.ledger_machine.specs.State.{State, form_in}
 use Rattle.rotating_store.specs.Stores.{Store, nodes_of, born_of}
 use Rattle.online_rotate.specs.Rotators.{Turning}
 
--- a state, how often the devices of its store failed, how many slices of the rotation under way left something to copy, and what the
--- writable backend and the archive hold
+-- a state, how often the devices of its store failed, how many slices of the rotation under way left something to copy, the hashes that
+-- its walk has still to take, and what the writable backend and the archive hold
 pub record Desk : Type 0 where
   pub state : State
   pub faults : ℕ
   pub slices : ℕ
+  pub grey : List Hash
   pub written : Nodes
   pub archived : Nodes
+
+-- What stays where nothing is copied: the epoch, what the archive holds, and which hashes both backends hold. A hash that was stored, and
+-- that the writable backend hadn't, the archive had, so if the writable one has it now, both do.
+abbrev pub backs : Desk → Nodes × (Hash → Bool) × ℕ
+backs d = (d.archived, (λ h. is_some (finite.get d.written h) && is_some (finite.get d.archived h)), d.state.epoch)
+
+-- what the backend holds that was the writable one: behind a swap, which ends an epoch, that is the archive
+abbrev pub behind : Desk → Desk → Lookup
+behind d d' = if d'.state.epoch == d.state.epoch then finite.get d'.written else finite.get d'.archived
 
 -- the state with what a store holds and was born in its epoch
 abbrev pub over : Store → State → State
@@ -45,6 +56,7 @@ desk_of st wanted views b r = record {
   state = state_of st wanted views b r;
   faults = st.faults;
   slices = r.slices;
+  grey = r.walk.grey;
   written = st.writable;
   archived = st.archive;
 }
@@ -58,6 +70,7 @@ pub record Stays (d d' : Desk) : Type 0 where
   pub later : d.faults ≤ d'.faults
   pub listed : d'.state.listed ≡ d.state.listed
   pub epoch : d'.state.epoch ≡ d.state.epoch
+  pub slices : d'.slices ≤ d.slices
 
 -- and one that lists a ledger at most, and ends an epoch at most
 pub record Grows (d d' : Desk) : Type 0 where
@@ -72,5 +85,7 @@ KeepsRest s s' = s' ≡ record s { nodes = s'.nodes; born = s'.born; shaded = s'
 -- one that only reads: the state is as before, but that a store that doesn't tell what it holds may hold anything
 pub record OnlyReads (told : Bool) (d d' : Desk) : Type 0 where
   pub state : IsTrue told → d'.state ≡ d.state
+  pub copies : IsTrue told → backs d' ≡ backs d
+  pub slices : d'.slices ≤ d.slices
   pub tables : d'.state ≡ record d.state { nodes = d'.state.nodes; born = d'.state.born }
   pub later : d.faults ≤ d'.faults

@@ -1,8 +1,10 @@
 -- What contracts see of a core, and what it keeps.
-use Rattle.std.specs.Prelude.{◌≡◌, ◌⊎◌, ◌^◌, ℕ, ◌+◌, ◌-◌, ◌<◌, ◌≤◌, ◌++◌, ◌∷◌, [], List, Bool, Some, IsTrue}
+use Rattle.std.specs.Prelude.{◌≡◌, ◌⊎◌, ◌==◌, if◌then◌else◌, ◌^◌, ℕ, ◌+◌, ◌-◌, ◌<◌, ◌≤◌, ◌++◌, ◌∷◌, [], List, Bool, Some, IsTrue}
 use Rattle.std.specs.Prelude.{length, take, slice_index, slice_index_or}
 use Rattle.std.specs.List.{All, Contains}
-use Rattle.ledger_spec.specs.Bytes.{Hash, Half, Nodes}
+use Rattle.std.specs.FinMap as finite
+use Rattle.copy_walk.specs.Counts.{CopiesAtMost}
+use Rattle.ledger_spec.specs.Bytes.{Hash, Half, Lookup, Nodes}
 use Rattle.ledger_machine.specs.declared.commands.Line.{Line}
 use Rattle.ledger_machine.specs.declared.commands.Command.TheVariants as command
 use Rattle.ledger_machine.specs.declared.commands.Record.{Record}
@@ -24,7 +26,7 @@ use Rattle.run_io.specs.Bytes.{Rose}
 use Rattle.script_form.specs.Servable.{AreServable}
 use Rattle.store_core.specs.Desks.{KeepsRest}
 use Rattle.store_core.specs.Refusals.{IsRefusal}
-use Rattle.store_core.specs.Telling.{AreTold, most_slices}
+use Rattle.store_core.specs.Telling.{AreTold, most_slices, most_copied}
 
 -- what contracts see of a core: its script's records and lines, the interval, the store's count of faults at opening and now, how many
 -- slices of the rotation under way left something to copy, what the writable backend and the archive hold, how many calls for a stored
@@ -128,6 +130,20 @@ pub record Slices (told : Bool) (old : CoreView) (a : ℕ) (new : CoreView) : Ty
     archived = new.archived;
     state = new.state;
   }
+
+-- A section of this actor copies at most 256 hashes, but where its next line is a swap whose rotation has done its slices. Behind a swap,
+-- which ends an epoch, the backend that was the writable one is the archive.
+abbrev pub copied_to : CoreView → CoreView → Lookup
+copied_to c c' = if c'.state.epoch == c.state.epoch then finite.get c'.written else finite.get c'.archived
+
+pub record IsLastOfSlices (c : CoreView) (a : ℕ) : Type 0 where
+  pub line : Line
+  pub next : next_line c.lines c.journal a ≡ Some line
+  pub swap : line.command ≡ command.Swap
+  pub sliced : most_slices ≤ c.slices
+
+abbrev pub CopiesFew : CoreView → ℕ → CoreView → Type 0
+CopiesFew c a c' = IsLastOfSlices c a ⊎ CopiesAtMost most_copied (finite.get c.state.nodes) (finite.get c.written) (copied_to c c')
 
 -- a core's journal is a run of its script to its state
 abbrev pub IsRun : Half → CoreView → Type 0

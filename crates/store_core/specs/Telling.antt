@@ -29,7 +29,9 @@ use Rattle.ledger_machine.specs.declared.replies.Reply.{Reply}
 use Rattle.ledger_machine.specs.declared.replies.Reply.TheVariants as says
 use Rattle.store_core.specs.declared.rotating.Part.{Part}
 use Rattle.store_core.specs.declared.rotating.Part.TheVariants as parts
-use Rattle.store_core.specs.Desks.{Desk}
+use Rattle.copy_walk.specs.Counts.{CopiesAtMost}
+use Rattle.std.specs.FinMap as finite
+use Rattle.store_core.specs.Desks.{Desk, backs, behind}
 use Rattle.ledger_machine.specs.State.{State, form_in, Kept}
 use Rattle.ledger_machine.specs.Rotation.{WhileTurning}
 use Rattle.ledger_machine.specs.Rotation.{AreShaded}
@@ -103,6 +105,20 @@ slice_told (Err fault) = Err (unended fault)
 -- how many slices of a rotation a swap does before it copies what is left in one section
 abbrev pub most_slices : ℕ
 most_slices = 64
+
+-- how many hashes of its walk a slice takes
+abbrev pub most_copied : ℕ
+most_copied = 256
+
+-- nothing is copied, also where a swap is refused, but by a swap whose walk has something to take still
+abbrev pub CopiesBy : Command → Desk → Desk → Type 0
+CopiesBy command.Swap d d' = d.grey ≡ [] → behind d d' ≡ finite.get d.written
+CopiesBy _ d d' = backs d' ≡ backs d
+
+-- at most 256 hashes are copied, but by a swap whose rotation has done its slices
+abbrev pub CopiesFew : Command → Desk → Desk → Type 0
+CopiesFew c d d' = ((c ≡ command.Swap) × (most_slices ≤ d.slices))
+    ⊎ CopiesAtMost most_copied (finite.get d.state.nodes) (finite.get d.written) (behind d d')
 
 -- a slice is counted where it left something
 abbrev pub CountsSlice : Result Left BackFault → Desk → Desk → Type 0

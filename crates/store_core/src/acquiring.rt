@@ -17,7 +17,7 @@ ghost use Rattle.ledger_machine.specs.Ticks.{tick_reply, after_tick};
 ghost use Rattle.ledger_machine.specs.Rotation.{Tells};
 ghost use Rattle.ledger_machine.specs.Steps.{IsAfter};
 ghost use Rattle.ledger_machine.specs.Steps.{Does};
-ghost use Rattle.store_core.specs.Desks.{IsFiled, Stays, Grows, KeepsRest};
+ghost use Rattle.store_core.specs.Desks.{backs, IsFiled, Stays, Grows, KeepsRest};
 ghost use Rattle.store_core.specs.Refusals.{IsRefusal};
 ghost use Rattle.store_core.specs.Telling.{Hears, TellsRoot, AreWantedTold};
 ghost use Rattle.store_core.specs.Wanting.{judged_by, found_seq as seq_found, settled, told_at};
@@ -55,6 +55,7 @@ impl<H: NodeHash, Sh: Shelf> Machine<H, Sh> {
         ensures may_tell { OnErr result (Tells self.old.state self.new.state (target.now ∷ [])) }
         ensures names { IfOk result (λ r. TellsRoot self.old.state (Command.Want target.now seq) (Reply.Want r) self.new.state) }
         ensures stays { Stays self.old self.new }
+        ensures copies { IsTrue Sh.B.tells → backs self.new ≡ backs self.old }
     {
         if self.book.is_listed(target) {
             return Ok(WantReply::Listed);
@@ -81,6 +82,7 @@ impl<H: NodeHash, Sh: Shelf> Machine<H, Sh> {
         ensures hears { Hears self.old.state.shaded (target.now ∷ []) self.new.state.shaded }
         ensures told { OnOk result (IsSome self.old.state.turning → Contains self.new.state.shaded target.now) }
         ensures stays { Stays self.old self.new }
+        ensures copies { IsTrue Sh.B.tells → backs self.new ≡ backs self.old }
     {
         self.tell(target)?;
         self.begin_search(alloc, target, seq)
@@ -93,6 +95,7 @@ impl<H: NodeHash, Sh: Shelf> Machine<H, Sh> {
         ensures err { OnErr result (self.new ≡ self.old) }
         ensures told { self.new.state.shaded ≡ self.old.state.shaded }
         ensures stays { Stays self.old self.new }
+        ensures copies { IsTrue Sh.B.tells → backs self.new ≡ backs self.old }
     {
         self.wanted
             .insert(*target, Acquire::new(alloc, *target, seq))?;
@@ -106,6 +109,7 @@ impl<H: NodeHash, Sh: Shelf> Machine<H, Sh> {
         ensures told { self.new.state.shaded ≡ self.old.state.shaded }
         ensures err { OnErr result (self.new ≡ self.old) }
         ensures stays { Stays self.old self.new }
+        ensures copies { IsTrue Sh.B.tells → backs self.new ≡ backs self.old }
     {
         let Some(acquire) = self.wanted.get_mut(target) else {
             return Ok(PeerReply::NotOpen);
@@ -132,6 +136,7 @@ impl<H: NodeHash, Sh: Shelf> Machine<H, Sh> {
             → Does H.half self.old.state actor (Command.Base peer target.now header.now state.now tx.now) result [] self.new.state }
         ensures refused { IsRefusal result → KeepsRest self.old.state self.new.state }
         ensures stays { Stays self.old self.new }
+        ensures copies { IsTrue Sh.B.tells → backs self.new ≡ backs self.old }
         ensures told { self.new.state.shaded ≡ self.old.state.shaded }
         ensures fault { result ≡ Reply.Fault → Rose self.old.faults self.new.faults }
     {
@@ -172,6 +177,7 @@ impl<H: NodeHash, Sh: Shelf> Machine<H, Sh> {
             → Does H.half self.old.state actor (Command.Node peer target.now kind id.now blob.now) result [] self.new.state }
         ensures refused { IsRefusal result → KeepsRest self.old.state self.new.state }
         ensures stays { Stays self.old self.new }
+        ensures copies { IsTrue Sh.B.tells → backs self.new ≡ backs self.old }
         ensures told { self.new.state.shaded ≡ self.old.state.shaded }
         ensures fault { result ≡ Reply.Fault → Rose self.old.faults self.new.faults }
     {
@@ -206,6 +212,8 @@ impl<H: NodeHash, Sh: Shelf> Machine<H, Sh> {
         ensures tells { Tells self.old.state self.new.state [] }
         ensures kept { OnErr result (KeepsRest self.old.state self.new.state) }
         ensures grows { Grows self.old self.new }
+        ensures slices { self.new.slices ≤ self.old.slices }
+        ensures copies { IsTrue Sh.B.tells → backs self.new ≡ backs self.old }
         ensures fault { IfErr result (λ e. e ≡ SearchFault.Fault → Rose self.old.faults self.new.faults) }
     {
         if !self.wanted.contains_key(target) {
@@ -226,6 +234,7 @@ impl<H: NodeHash, Sh: Shelf> Machine<H, Sh> {
         ensures err { OnErr result (self.new ≡ self.old) }
         ensures told { self.new.state.shaded ≡ self.old.state.shaded }
         ensures stays { Stays self.old self.new }
+        ensures copies { IsTrue Sh.B.tells → backs self.new ≡ backs self.old }
     {
         let floor = self.book.floor();
         let Some(acquire) = self.wanted.get_mut(target) else {
@@ -243,6 +252,8 @@ impl<H: NodeHash, Sh: Shelf> Machine<H, Sh> {
         ensures hears { Hears self.old.state.shaded (told_at target.now reply.now) self.new.state.shaded }
         ensures faults { self.new.faults ≡ self.old.faults }
         ensures epoch { self.new.state.epoch ≡ self.old.state.epoch }
+        ensures slices { self.new.slices ≤ self.old.slices }
+        ensures copies { IsTrue Sh.B.tells → backs self.new ≡ backs self.old }
     {
         match reply {
             Checked::Complete => self.list(target, seq)?,
@@ -262,6 +273,8 @@ impl<H: NodeHash, Sh: Shelf> Machine<H, Sh> {
         ensures hears { Hears self.old.state.shaded (target.now ∷ []) self.new.state.shaded }
         ensures faults { self.new.faults ≡ self.old.faults }
         ensures epoch { self.new.state.epoch ≡ self.old.state.epoch }
+        ensures slices { self.new.slices ≤ self.old.slices }
+        ensures copies { IsTrue Sh.B.tells → backs self.new ≡ backs self.old }
     {
         // a complete ledger isn't below the floor; only a backend that doesn't tell what it holds may show one without a header
         if seq < self.floor() {
@@ -279,6 +292,8 @@ impl<H: NodeHash, Sh: Shelf> Machine<H, Sh> {
         ensures told { self.new.state.shaded ≡ self.old.state.shaded }
         ensures faults { self.new.faults ≡ self.old.faults }
         ensures epoch { self.new.state.epoch ≡ self.old.state.epoch }
+        ensures slices { self.new.slices ≤ self.old.slices }
+        ensures copies { IsTrue Sh.B.tells → backs self.new ≡ backs self.old }
     {
         self.book.list(target, seq)?;
         self.wanted.remove(target);
@@ -291,6 +306,8 @@ impl<H: NodeHash, Sh: Shelf> Machine<H, Sh> {
         ensures told { self.new.state.shaded ≡ self.old.state.shaded }
         ensures faults { self.new.faults ≡ self.old.faults }
         ensures epoch { self.new.state.epoch ≡ self.old.state.epoch }
+        ensures slices { self.new.slices ≤ self.old.slices }
+        ensures copies { IsTrue Sh.B.tells → backs self.new ≡ backs self.old }
     {
         self.wanted.remove(target);
     }
@@ -301,6 +318,7 @@ impl<H: NodeHash, Sh: Shelf> Machine<H, Sh> {
         ensures after { self.new.state ≡ after_tick self.old.state target.now result }
         ensures told { self.new.state.shaded ≡ self.old.state.shaded }
         ensures stays { Stays self.old self.new }
+        ensures copies { IsTrue Sh.B.tells → backs self.new ≡ backs self.old }
     {
         let Some(acquire) = self.wanted.get_mut(target) else {
             return TickReply::NotOpen;

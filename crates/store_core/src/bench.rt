@@ -1,5 +1,5 @@
 //! The machine with the open edit sessions beside it: each command is the machine's, the sessions', or one of both.
-ghost use Rattle.std.specs.Prelude.{◌≡◌, ◌<◌, ◌-◌, ◌^◌, [], IsTrue, IfOk, IfErr, IfSome, IsNone, OnErr, length, map};
+ghost use Rattle.std.specs.Prelude.{◌≤◌, ◌≡◌, ◌<◌, ◌-◌, ◌^◌, [], IsTrue, IfOk, IfErr, IfSome, IsNone, IsSome, OnErr, length, map};
 ghost use Rattle.std.specs.FinMap as finite;
 ghost use Rattle.std.specs.Option.{option_copied};
 ghost use Rattle.run_io.specs.Bytes.{Rose};
@@ -12,10 +12,10 @@ ghost use Rattle.ledger_machine.specs.Steps.{Step, own_hashes};
 ghost use Rattle.ledger_machine.specs.Steps.{Does};
 ghost use Rattle.ledger_machine.specs.Views.{is_retained as state_retains, view_reply, after_view};
 ghost use Rattle.store_core.specs.Benches.{IsOfSessions};
-ghost use Rattle.store_core.specs.Desks.{IsFiled, Stays, Grows, KeepsRest, OnlyReads, over};
+ghost use Rattle.store_core.specs.Desks.{backs, IsFiled, Stays, Grows, KeepsRest, OnlyReads, over};
 ghost use Rattle.store_core.specs.Dumping.{IsNextRecord, Follows};
 ghost use Rattle.store_core.specs.Refusals.{IsRefusal};
-ghost use Rattle.store_core.specs.Telling.{TellsRoot, AreTold, Carried, IsSlice};
+ghost use Rattle.store_core.specs.Telling.{TellsRoot, AreTold, Carried, IsSlice, CopiesBy, CopiesFew};
 
 use crate::machine::{Machine, unread};
 use crate::rotating::Part;
@@ -131,6 +131,8 @@ impl<H: NodeHash, Sh: Shelf> Bench<H, Sh> {
         ensures told { IsTrue Sh.B.tells → AreTold self.new.state }
         ensures refused { IsRefusal result.0 → KeepsRest self.old.state self.new.state }
         ensures grows { Grows self.old self.new }
+        ensures slices { self.new.slices ≤ self.old.slices }
+        ensures copies { IsTrue Sh.B.tells → CopiesBy command.now self.old self.new }
         ensures fault { result.0 ≡ Reply.Fault → Rose self.old.faults self.new.faults }
     {
         a_step_carries_what_was_told();
@@ -156,10 +158,13 @@ impl<H: NodeHash, Sh: Shelf> Bench<H, Sh> {
         ensures grows { Grows self.old self.new }
         ensures fault { IfSome result (λ r. r.0 ≡ Reply.Fault → Rose self.old.faults self.new.faults) }
         ensures more { IsNone result → IsSlice command.now part self.old self.new }
+        ensures slices { IsSome result → self.new.slices ≤ self.old.slices }
+        ensures few { IsTrue Sh.B.tells → part ≡ Part.Slice → CopiesFew command.now self.old self.new }
         ensures still { IsNone result → KeepsRest self.old.state self.new.state }
         ensures same { IsTrue Sh.B.tells → IsNone result → self.new.state ≡ self.old.state }
     {
         a_step_carries_what_was_told();
+        self.machine.known();
         match self.slice_first(alloc, command, part) {
             Ok(Left::More) => None,
             Ok(Left::Done) => Some(self.answer(alloc, actor, command)),
@@ -179,6 +184,8 @@ impl<H: NodeHash, Sh: Shelf> Bench<H, Sh> {
             → AreTold self.new.state × Carried H.half self.old.state actor command.now result.0 self.new.state }
         ensures refused { IsRefusal result.0 → KeepsRest self.old.state self.new.state }
         ensures grows { Grows self.old self.new }
+        ensures slices { self.new.slices ≤ self.old.slices }
+        ensures copies { IsTrue Sh.B.tells → CopiesBy command.now self.old self.new }
         ensures fault { result.0 ≡ Reply.Fault → Rose self.old.faults self.new.faults }
     {
         match command {
@@ -207,6 +214,8 @@ impl<H: NodeHash, Sh: Shelf> Bench<H, Sh> {
             → AreTold self.new.state × Carried H.half self.old.state actor command.now result self.new.state }
         ensures refused { IsRefusal result → KeepsRest self.old.state self.new.state }
         ensures grows { Grows self.old self.new }
+        ensures slices { self.new.slices ≤ self.old.slices }
+        ensures copies { IsTrue Sh.B.tells → backs self.new ≡ backs self.old }
         ensures fault { result ≡ Reply.Fault → Rose self.old.faults self.new.faults }
     {
         self.change(alloc, actor, command)
@@ -224,6 +233,8 @@ impl<H: NodeHash, Sh: Shelf> Bench<H, Sh> {
         ensures names { IsTrue Sh.B.tells → TellsRoot self.old.state command.now result self.new.state }
         ensures refused { IsRefusal result → KeepsRest self.old.state self.new.state }
         ensures grows { Grows self.old self.new }
+        ensures slices { self.new.slices ≤ self.old.slices }
+        ensures copies { IsTrue Sh.B.tells → backs self.new ≡ backs self.old }
         ensures fault { result ≡ Reply.Fault → Rose self.old.faults self.new.faults }
     {
         match command {
@@ -265,6 +276,8 @@ impl<H: NodeHash, Sh: Shelf> Bench<H, Sh> {
             → AreTold self.new.state × Carried H.half self.old.state actor command.now result.0 self.new.state }
         ensures refused { IsRefusal result.0 → KeepsRest self.old.state self.new.state }
         ensures grows { Grows self.old self.new }
+        ensures slices { self.new.slices ≤ self.old.slices }
+        ensures copies { IsTrue Sh.B.tells → backs self.new ≡ backs self.old }
         ensures fault { result.0 ≡ Reply.Fault → Rose self.old.faults self.new.faults }
     {
         a_session_stays_over_its_ledger();
@@ -281,6 +294,7 @@ impl<H: NodeHash, Sh: Shelf> Bench<H, Sh> {
         ensures told { self.new.state.shaded ≡ self.old.state.shaded }
         ensures err { OnErr result (self.new ≡ self.old) }
         ensures stays { Stays self.old self.new }
+        ensures copies { IsTrue Sh.B.tells → backs self.new ≡ backs self.old }
     {
         let retained = self.is_retained(target);
         self.machine.view(actor, view, target, retained)

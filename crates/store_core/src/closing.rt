@@ -1,5 +1,5 @@
 //! How a session is closed: the forms of its ledger are stored under their hashes, and the ledger is listed.
-ghost use Rattle.std.specs.Prelude.{◌≡◌, ◌∷◌, [], ℕ, IsTrue, IsSome, IfErr, IfOk, OnErr, OnOk, List, map};
+ghost use Rattle.std.specs.Prelude.{◌≤◌, ◌≡◌, ◌∷◌, [], ℕ, IsTrue, IsSome, IfErr, IfOk, OnErr, OnOk, List, map};
 ghost use Rattle.std.specs.List.{Contains};
 ghost use Rattle.cow_map.specs.Sealing.{AreNamed};
 ghost use Rattle.ledger_spec.specs.Maps.{hash_cmp, has_in};
@@ -11,7 +11,7 @@ ghost use Rattle.ledger_machine.specs.Sound.{Sound};
 ghost use Rattle.ledger_machine.specs.State.{listed_with};
 ghost use Rattle.ledger_machine.specs.Steps.{Does, IsAfter, own_hashes};
 ghost use Rattle.store_core.specs.Closing.{MayKeep, MayKeepAll, IsMade, IsUnmade, fields_of, kept_by, unkept_by, unsealed_by};
-ghost use Rattle.store_core.specs.Desks.{IsFiled, Stays, Grows, KeepsRest};
+ghost use Rattle.store_core.specs.Desks.{backs, IsFiled, Stays, Grows, KeepsRest};
 ghost use Rattle.store_core.specs.Refusals.{IsRefusal};
 ghost use Rattle.store_core.specs.Telling.{Hears, TellsRoot};
 
@@ -38,6 +38,8 @@ impl<H: NodeHash, Sh: Shelf> Bench<H, Sh> {
         ensures names { IsTrue Sh.B.tells → TellsRoot self.old.state (Command.Close id.1 given.now) result self.new.state }
         ensures refused { IsRefusal result → KeepsRest self.old.state self.new.state }
         ensures grows { Grows self.old self.new }
+        ensures slices { self.new.slices ≤ self.old.slices }
+        ensures copies { IsTrue Sh.B.tells → backs self.new ≡ backs self.old }
         ensures fault { result ≡ Reply.Fault → Rose self.old.faults self.new.faults }
     {
         match self.seal(alloc, id, given) {
@@ -82,6 +84,8 @@ impl<H: NodeHash, Sh: Shelf> Bench<H, Sh> {
         ensures names { (given : List ℕ) → TellsRoot self.old.state (Command.Close id.1 given) result self.new.state }
         ensures refused { IsRefusal result → KeepsRest self.old.state self.new.state }
         ensures grows { Grows self.old self.new }
+        ensures slices { self.new.slices ≤ self.old.slices }
+        ensures copies { IsTrue Sh.B.tells → backs self.new ≡ backs self.old }
         ensures fault { result ≡ Reply.Fault → Rose self.old.faults self.new.faults }
     {
         if self.machine.is_listed(&made.hash) {
@@ -111,6 +115,7 @@ impl<H: NodeHash, Sh: Shelf> Bench<H, Sh> {
         ensures told { OnOk result (IsSome self.old.state.turning → Contains self.new.state.shaded target.now) }
         ensures rest { KeepsRest self.old.state self.new.state }
         ensures stays { Stays self.old self.new }
+        ensures copies { IsTrue Sh.B.tells → backs self.new ≡ backs self.old }
         ensures fault { IfErr result (λ e. e ≡ OfferFault.Fault → Rose self.old.faults self.new.faults) }
     {
         a_session_stays_over_its_ledger();
@@ -124,6 +129,8 @@ impl<H: NodeHash, Sh: Shelf> Bench<H, Sh> {
         ensures told { self.new.state.shaded ≡ self.old.state.shaded }
         ensures faults { self.new.faults ≡ self.old.faults }
         ensures epoch { self.new.state.epoch ≡ self.old.state.epoch }
+        ensures slices { self.new.slices ≤ self.old.slices }
+        ensures copies { IsTrue Sh.B.tells → backs self.new ≡ backs self.old }
     {
         self.machine.list_closed(target, seq)?;
         self.sessions.end(id);
@@ -141,6 +148,7 @@ impl<H: NodeHash, Sh: Shelf> Machine<H, Sh> {
         ensures told { OnOk result (IsSome self.old.state.turning → Contains self.new.state.shaded form.now.hash) }
         ensures rest { KeepsRest self.old.state self.new.state }
         ensures stays { Stays self.old self.new }
+        ensures copies { IsTrue Sh.B.tells → backs self.new ≡ backs self.old }
         ensures fault { IfErr result (λ e. e ≡ OfferFault.Fault → Rose self.old.faults self.new.faults) }
     {
         match self.rotator.shade(&form.hash) {
@@ -162,6 +170,7 @@ impl<H: NodeHash, Sh: Shelf> Machine<H, Sh> {
         ensures hears { Hears self.old.state.shaded (map (λ f. f.hash) forms.now) self.new.state.shaded }
         ensures rest { KeepsRest self.old.state self.new.state }
         ensures stays { Stays self.old self.new }
+        ensures copies { IsTrue Sh.B.tells → backs self.new ≡ backs self.old }
         ensures fault { IfErr result (λ e. e ≡ OfferFault.Fault → Rose self.old.faults self.new.faults) }
     {
         for form in forms {
@@ -186,6 +195,7 @@ impl<H: NodeHash, Sh: Shelf> Machine<H, Sh> {
         ensures told { OnOk result (IsSome self.old.state.turning → Contains self.new.state.shaded target.now) }
         ensures rest { KeepsRest self.old.state self.new.state }
         ensures stays { Stays self.old self.new }
+        ensures copies { IsTrue Sh.B.tells → backs self.new ≡ backs self.old }
         ensures fault { IfErr result (λ e. e ≡ OfferFault.Fault → Rose self.old.faults self.new.faults) }
     {
         if self.tell(target).is_err() {
@@ -208,6 +218,8 @@ impl<H: NodeHash, Sh: Shelf> Machine<H, Sh> {
         ensures told { self.new.state.shaded ≡ self.old.state.shaded }
         ensures faults { self.new.faults ≡ self.old.faults }
         ensures epoch { self.new.state.epoch ≡ self.old.state.epoch }
+        ensures slices { self.new.slices ≤ self.old.slices }
+        ensures copies { IsTrue Sh.B.tells → backs self.new ≡ backs self.old }
     {
         if seq < self.book.floor() {
             return Err(Memory);

@@ -6,7 +6,7 @@ ghost use Rattle.ledger_machine.specs.Sessions.{edit_reply, after_edit};
 ghost use Rattle.ledger_machine.specs.Sound.{Sound};
 ghost use Rattle.open_sessions.specs.Rows.{del_said};
 ghost use Rattle.store_core.specs.Benches.{IsHeaderOf, IsFit, edit_by};
-ghost use Rattle.store_core.specs.Desks.{IsFiled, Stays, KeepsRest, OnlyReads};
+ghost use Rattle.store_core.specs.Desks.{backs, IsFiled, Stays, KeepsRest, OnlyReads};
 
 use crate::bench::Bench;
 use edit_session::Session;
@@ -37,6 +37,7 @@ impl<H: NodeHash, Sh: Shelf> Bench<H, Sh> {
         ensures told { self.new.state.shaded ≡ self.old.state.shaded }
         ensures kept { OnErr result (KeepsRest self.old.state self.new.state) }
         ensures stays { Stays self.old self.new }
+        ensures copies { IsTrue Sh.B.tells → backs self.new ≡ backs self.old }
         ensures fault { IfErr result (λ e. e ≡ BackFault.Fault → Rose self.old.faults self.new.faults) }
     {
         let id = (actor, session);
@@ -77,6 +78,7 @@ impl<H: NodeHash, Sh: Shelf> Bench<H, Sh> {
         ensures err { OnErr result (self.new ≡ self.old) }
         ensures told { self.new.state.shaded ≡ self.old.state.shaded }
         ensures stays { Stays self.old self.new }
+        ensures copies { IsTrue Sh.B.tells → backs self.new ≡ backs self.old }
     {
         known_half::<H>();
         if header.seq == 4_294_967_295 {
@@ -106,6 +108,7 @@ impl<H: NodeHash, Sh: Shelf> Bench<H, Sh> {
         ensures told { self.new.state.shaded ≡ self.old.state.shaded }
         ensures kept { OnErr result (KeepsRest self.old.state self.new.state) }
         ensures stays { Stays self.old self.new }
+        ensures copies { IsTrue Sh.B.tells → backs self.new ≡ backs self.old }
         ensures fault { IfErr result (λ e. e ≡ BackFault.Fault → Rose self.old.faults self.new.faults) }
     {
         self.machine
@@ -128,6 +131,7 @@ impl<H: NodeHash, Sh: Shelf> Bench<H, Sh> {
         ensures told { self.new.state.shaded ≡ self.old.state.shaded }
         ensures kept { OnErr result (KeepsRest self.old.state self.new.state) }
         ensures stays { Stays self.old self.new }
+        ensures copies { IsTrue Sh.B.tells → backs self.new ≡ backs self.old }
         ensures fault { IfErr result (λ e. e ≡ BackFault.Fault → Rose self.old.faults self.new.faults) }
     {
         let there = self
@@ -151,6 +155,7 @@ impl<H: NodeHash, Sh: Shelf> Bench<H, Sh> {
         ensures err { OnErr result (self.new ≡ self.old) }
         ensures told { self.new.state.shaded ≡ self.old.state.shaded }
         ensures stays { Stays self.old self.new }
+        ensures copies { IsTrue Sh.B.tells → backs self.new ≡ backs self.old }
     {
         self.machine
             .tx(alloc, &mut self.sessions, (actor, session), item)
@@ -162,6 +167,7 @@ impl<H: NodeHash, Sh: Shelf> Bench<H, Sh> {
         ensures after { self.new.state ≡ without_session self.old.state (actor, session) }
         ensures told { self.new.state.shaded ≡ self.old.state.shaded }
         ensures stays { Stays self.old self.new }
+        ensures copies { IsTrue Sh.B.tells → backs self.new ≡ backs self.old }
     {
         self.sessions.end((actor, session))
     }

@@ -1,5 +1,5 @@
 //! The state that the commands act on, over tables in memory.
-ghost use Rattle.std.specs.Prelude.{◌≡◌, ◌<◌, [], IsTrue, IfOk, IfErr, IfSome, length, map};
+ghost use Rattle.std.specs.Prelude.{◌≤◌, ◌≡◌, ◌<◌, [], IsTrue, IfOk, IfErr, IfSome, length, map};
 ghost use Rattle.std.specs.FinMap as finite;
 ghost use Rattle.std.specs.Option.{option_copied};
 ghost use Rattle.run_io.specs.Bytes.{Rose};
@@ -9,7 +9,8 @@ ghost use Rattle.ledger_machine.specs.Rotation.{Tells};
 ghost use Rattle.ledger_machine.specs.State.{opening};
 ghost use Rattle.ledger_machine.specs.Steps.{own_hashes};
 ghost use Rattle.ledger_machine.specs.Steps.{Does};
-ghost use Rattle.store_core.specs.Desks.{IsFiled, Grows, KeepsRest, OnlyReads, over};
+ghost use Rattle.rotating_store.specs.Stores.{merged};
+ghost use Rattle.store_core.specs.Desks.{backs, IsFiled, Grows, KeepsRest, OnlyReads, over};
 ghost use Rattle.store_core.specs.Dumping.{IsNextRecord, Follows};
 ghost use Rattle.store_core.specs.Reads.{ReadsNothing};
 ghost use Rattle.store_core.specs.Refusals.{IsRefusal, read_refusal};
@@ -74,9 +75,10 @@ impl<H: NodeHash, Sh: Shelf> Machine<H, Sh> {
         }
     }
 
-    /// For proofs: the machine has no sessions.
+    /// For proofs: the machine has no sessions, and what is stored is what the two backends hold.
     pub(crate) fn known(&self)
-        ensures { self.now.state.sessions ≡ [] }
+        ensures sessions { self.now.state.sessions ≡ [] }
+        ensures nodes { self.now.state.nodes ≡ merged self.now.written self.now.archived }
     {
         let _ = &self.rotator;
     }
@@ -146,6 +148,8 @@ impl<H: NodeHash, Sh: Shelf> Machine<H, Sh> {
         ensures names { TellsRoot self.old.state command.now result.0 self.new.state }
         ensures refused { IsRefusal result.0 → KeepsRest self.old.state self.new.state }
         ensures grows { Grows self.old self.new }
+        ensures slices { self.new.slices ≤ self.old.slices }
+        ensures copies { IsTrue Sh.B.tells → backs self.new ≡ backs self.old }
         ensures fault { result.0 ≡ Reply.Fault → Rose self.old.faults self.new.faults }
     {
         match command {
@@ -178,6 +182,8 @@ impl<H: NodeHash, Sh: Shelf> Machine<H, Sh> {
         ensures names { TellsRoot self.old.state command.now result self.new.state }
         ensures refused { IsRefusal result → KeepsRest self.old.state self.new.state }
         ensures grows { Grows self.old self.new }
+        ensures slices { self.new.slices ≤ self.old.slices }
+        ensures copies { IsTrue Sh.B.tells → backs self.new ≡ backs self.old }
         ensures fault { result ≡ Reply.Fault → Rose self.old.faults self.new.faults }
     {
         match command {

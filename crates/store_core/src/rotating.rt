@@ -1,6 +1,8 @@
 //! The commands that begin and end a rotation, and what one is told meanwhile.
-ghost use Rattle.std.specs.Prelude.{◌≡◌, ◌<◌, ◌≤◌, ◌-◌, ◌^◌, ◌++◌, ◌∷◌, [], IsTrue, IsSome, IfErr, IfOk, OnErr, OnOk, Ok};
+ghost use Rattle.std.specs.Prelude.{◌≡◌, ◌⊎◌, false, ◌<◌, ◌≤◌, ◌-◌, ◌^◌, ◌++◌, ◌∷◌, [], IsTrue, IsSome, IfErr, IfOk, OnErr, OnOk, Ok};
+ghost use Rattle.std.specs.FinMap as finite;
 ghost use Rattle.std.specs.List.{Contains};
+ghost use Rattle.copy_walk.specs.Counts.{CopiesAtMost};
 ghost use Rattle.std.specs.Map.{keys_of, values_of};
 ghost use Rattle.run_io.specs.Bytes.{Rose};
 ghost use Rattle.ledger_machine.specs.Rotation.{begin_reply, after_begin};
@@ -8,9 +10,10 @@ ghost use Rattle.ledger_machine.specs.Sound.{Sound};
 ghost use Rattle.ledger_machine.specs.Steps.{IsAfter};
 ghost use Rattle.ledger_machine.specs.Steps.{Does};
 ghost use Rattle.ledger_machine.specs.State.{bases as edited};
-ghost use Rattle.store_core.specs.Desks.{IsFiled, Stays, Grows, KeepsRest};
+ghost use Rattle.store_core.specs.Desks.{backs, behind, IsFiled, Stays, Grows, KeepsRest};
 ghost use Rattle.store_core.specs.Refusals.{IsRefusal};
-ghost use Rattle.store_core.specs.Telling.{most_slices, CountsSlice, IsSlice, Hears, BeginsBy, AfterSwap, IsRotating, AreTold, Carried};
+ghost use Rattle.store_core.specs.Telling.{most_slices, most_copied, CopiesBy, CountsSlice, IsSlice, Hears, BeginsBy, AfterSwap};
+ghost use Rattle.store_core.specs.Telling.{IsRotating, AreTold, Carried};
 
 use crate::bench::Bench;
 use crate::machine::{Machine, unread};
@@ -47,6 +50,7 @@ impl<H: NodeHash, Sh: Shelf> Machine<H, Sh> {
         ensures hears { Hears self.old.state.shaded (h.now ∷ []) self.new.state.shaded }
         ensures told { OnOk result (IsSome self.old.state.turning → Contains self.new.state.shaded h.now) }
         ensures stays { Stays self.old self.new }
+        ensures copies { IsTrue Sh.B.tells → backs self.new ≡ backs self.old }
         ensures faults { self.new.faults ≡ self.old.faults }
     {
         self.rotator.shade(h)?;
@@ -60,6 +64,8 @@ impl<H: NodeHash, Sh: Shelf> Machine<H, Sh> {
         ensures told { IfOk result (λ r. BeginsBy self.old.state bases.now r self.new.state) }
         ensures err { OnErr result (self.new ≡ self.old) }
         ensures grows { Grows self.old self.new }
+        ensures slices { self.new.slices ≤ self.old.slices }
+        ensures copies { IsTrue Sh.B.tells → backs self.new ≡ backs self.old }
     {
         let targets = self.targets(alloc, bases)?;
         let begun = self.rotator.begin(alloc, &mut self.book, &targets)?;
@@ -79,7 +85,8 @@ impl<H: NodeHash, Sh: Shelf> Machine<H, Sh> {
 
     /// Whether a rotation is under way that may do one more slice.
     pub(crate) fn may_slice(&self) -> bool
-        ensures { IsTrue result → IsSome self.now.state.turning × (self.now.slices < most_slices) }
+        ensures yes { IsTrue result → IsSome self.now.state.turning × (self.now.slices < most_slices) }
+        ensures no { result ≡ false → (self.now.grey ≡ []) ⊎ (most_slices ≤ self.now.slices) }
     {
         self.rotator.busy() && self.rotator.slices() < MOST_SLICES
     }
@@ -92,7 +99,10 @@ impl<H: NodeHash, Sh: Shelf> Machine<H, Sh> {
         ensures rest { KeepsRest self.old.state self.new.state }
         ensures told { self.new.state.shaded ≡ self.old.state.shaded }
         ensures counts { CountsSlice result self.old self.new }
-        ensures stays { Stays self.old self.new }
+        ensures few { IsTrue Sh.B.tells → CopiesAtMost n (finite.get self.old.state.nodes) (finite.get self.old.written)
+            (finite.get self.new.written) }
+        ensures done { result ≡ Ok Left.Done → self.new.grey ≡ [] }
+        ensures later { self.old.faults ≤ self.new.faults }
         ensures fault { IfErr result (λ e. e ≡ BackFault.Fault → Rose self.old.faults self.new.faults) }
     {
         let sliced = self.rotator.slice(alloc, &mut self.store, n);
@@ -106,6 +116,8 @@ impl<H: NodeHash, Sh: Shelf> Machine<H, Sh> {
         ensures err { IsTrue Sh.B.tells → OnErr result (self.new.state ≡ self.old.state) }
         ensures kept { OnErr result (KeepsRest self.old.state self.new.state) }
         ensures grows { Grows self.old self.new }
+        ensures slices { self.new.slices ≤ self.old.slices }
+        ensures still { IsTrue Sh.B.tells → self.old.grey ≡ [] → behind self.old self.new ≡ finite.get self.old.written }
         ensures fault { IfErr result (λ e. e ≡ BackFault.Fault → Rose self.old.faults self.new.faults) }
     {
         if !self.rotator.busy() {
@@ -128,6 +140,12 @@ impl<H: NodeHash, Sh: Shelf> Bench<H, Sh> {
         ensures rest { KeepsRest self.old.state self.new.state }
         ensures later { self.old.faults ≤ self.new.faults }
         ensures more { result ≡ Ok Left.More → IsSlice command.now part self.old self.new }
+        ensures slices { (result ≡ Ok Left.More → ⊥) → self.new.slices ≤ self.old.slices }
+        ensures few { IsTrue Sh.B.tells → CopiesAtMost most_copied (finite.get self.old.state.nodes) (finite.get self.old.written)
+            (finite.get self.new.written) }
+        ensures none { (command.now ≡ Command.Swap → ⊥) → self.new ≡ self.old }
+        ensures done { result ≡ Ok Left.Done → command.now ≡ Command.Swap → part ≡ Part.Slice
+            → (self.new.grey ≡ []) ⊎ (most_slices ≤ self.old.slices) }
         ensures err { IfErr result (λ e. (command.now ≡ Command.Swap) × (e ≡ BackFault.Fault → Rose self.old.faults self.new.faults)) }
     {
         let Command::Swap = command else {
@@ -145,6 +163,9 @@ impl<H: NodeHash, Sh: Shelf> Bench<H, Sh> {
         ensures same { IsTrue Sh.B.tells → self.new.state ≡ self.old.state }
         ensures rest { KeepsRest self.old.state self.new.state }
         ensures counts { CountsSlice result self.old self.new }
+        ensures few { IsTrue Sh.B.tells → CopiesAtMost most_copied (finite.get self.old.state.nodes) (finite.get self.old.written)
+            (finite.get self.new.written) }
+        ensures done { result ≡ Ok Left.Done → self.new.grey ≡ [] }
         ensures later { self.old.faults ≤ self.new.faults }
         ensures fault { IfErr result (λ e. e ≡ BackFault.Fault → Rose self.old.faults self.new.faults) }
     {
@@ -162,6 +183,8 @@ impl<H: NodeHash, Sh: Shelf> Bench<H, Sh> {
             → AreTold self.new.state × Carried H.half self.old.state actor command.now result self.new.state }
         ensures refused { IsRefusal result → KeepsRest self.old.state self.new.state }
         ensures grows { Grows self.old self.new }
+        ensures slices { self.new.slices ≤ self.old.slices }
+        ensures copies { IsTrue Sh.B.tells → CopiesBy command.now self.old self.new }
         ensures fault { result ≡ Reply.Fault → Rose self.old.faults self.new.faults }
     {
         match command {
@@ -180,6 +203,8 @@ impl<H: NodeHash, Sh: Shelf> Bench<H, Sh> {
             → AreTold self.new.state × Carried H.half self.old.state actor Command.Begin result self.new.state }
         ensures refused { IsRefusal result → KeepsRest self.old.state self.new.state }
         ensures grows { Grows self.old self.new }
+        ensures slices { self.new.slices ≤ self.old.slices }
+        ensures copies { IsTrue Sh.B.tells → backs self.new ≡ backs self.old }
         ensures fault { result ≡ Reply.Fault → Rose self.old.faults self.new.faults }
     {
         match self.begin(alloc) {
@@ -198,6 +223,8 @@ impl<H: NodeHash, Sh: Shelf> Bench<H, Sh> {
             → AreTold self.new.state × Carried H.half self.old.state actor Command.Swap result self.new.state }
         ensures refused { IsRefusal result → KeepsRest self.old.state self.new.state }
         ensures grows { Grows self.old self.new }
+        ensures slices { self.new.slices ≤ self.old.slices }
+        ensures still { IsTrue Sh.B.tells → self.old.grey ≡ [] → behind self.old self.new ≡ finite.get self.old.written }
         ensures fault { result ≡ Reply.Fault → Rose self.old.faults self.new.faults }
     {
         match self.swap(alloc) {
@@ -213,6 +240,8 @@ impl<H: NodeHash, Sh: Shelf> Bench<H, Sh> {
         ensures told { IfOk result (λ r. BeginsBy self.old.state (edited self.old.state) r self.new.state) }
         ensures err { OnErr result (self.new ≡ self.old) }
         ensures grows { Grows self.old self.new }
+        ensures slices { self.new.slices ≤ self.old.slices }
+        ensures copies { IsTrue Sh.B.tells → backs self.new ≡ backs self.old }
     {
         let bases = self.sessions.bases(alloc)?;
         self.machine.begin(alloc, &bases)
@@ -227,6 +256,8 @@ impl<H: NodeHash, Sh: Shelf> Bench<H, Sh> {
         ensures err { IsTrue Sh.B.tells → OnErr result (self.new.state ≡ self.old.state) }
         ensures kept { OnErr result (KeepsRest self.old.state self.new.state) }
         ensures grows { Grows self.old self.new }
+        ensures slices { self.new.slices ≤ self.old.slices }
+        ensures still { IsTrue Sh.B.tells → self.old.grey ≡ [] → behind self.old self.new ≡ finite.get self.old.written }
         ensures fault { IfErr result (λ e. e ≡ BackFault.Fault → Rose self.old.faults self.new.faults) }
     {
         a_session_stays_over_its_ledger();

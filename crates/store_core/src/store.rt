@@ -6,7 +6,7 @@ ghost use Rattle.ledger_machine.specs.Scripts.{Rises, line_of, numbers_of};
 ghost use Rattle.ledger_machine.specs.Runs.{IsDone, IsBlocked, is_answered as answered, opening_of};
 ghost use Rattle.ledger_machine.specs.Records.{AreRecords};
 ghost use Rattle.script_form.specs.Servable.{AreServable};
-ghost use Rattle.store_core.specs.Journal.{Advances, Slices, IsJournal, IsNew, IsNext, AllBefore, AllFrom};
+ghost use Rattle.store_core.specs.Journal.{Advances, Slices, CopiesFew, IsJournal, IsNew, IsNext, AllBefore, AllFrom};
 ghost use Rattle.run_io.specs.Bytes.{Rose};
 ghost use Rattle.rotating_store.specs.Stores.{Store, nodes_of};
 ghost use Rattle.store_core.specs.Dumping.{HoldsOf, IsNextRecord, Follows, Lists, missed_after};
@@ -141,6 +141,8 @@ impl<H: NodeHash, Sh: Shelf> Core<H, Sh> {
     pub fn step(&mut self, alloc: Global, actor: u8) -> Stepped
         ensures answered { result ≡ Stepped.Answered → Advances H.half Sh.B.tells self.old actor self.new }
         ensures more { result ≡ Stepped.More → Slices Sh.B.tells self.old actor self.new }
+        ensures copies { IsTrue Sh.B.tells → CopiesFew self.old actor self.new }
+        ensures slices { result ≢ Stepped.More → self.new.slices ≤ self.old.slices }
         ensures blocked { (result ≡ Stepped.Blocked) ↔ IsBlocked self.old.lines self.old.journal actor }
         ensures finished { (result ≡ Stepped.Finished) ↔ IsDone self.old.lines self.old.journal actor }
         ensures unchanged { (result ≡ Stepped.Blocked) ⊎ (result ≡ Stepped.Finished) → self.new ≡ self.old }
@@ -153,6 +155,7 @@ impl<H: NodeHash, Sh: Shelf> Core<H, Sh> {
     pub fn step_whole(&mut self, alloc: Global, actor: u8) -> Stepped
         ensures answered { result ≡ Stepped.Answered → Advances H.half Sh.B.tells self.old actor self.new }
         ensures whole { result ≢ Stepped.More }
+        ensures slices { self.new.slices ≤ self.old.slices }
         ensures blocked { (result ≡ Stepped.Blocked) ↔ IsBlocked self.old.lines self.old.journal actor }
         ensures finished { (result ≡ Stepped.Finished) ↔ IsDone self.old.lines self.old.journal actor }
         ensures unchanged { (result ≡ Stepped.Blocked) ⊎ (result ≡ Stepped.Finished) → self.new ≡ self.old }
@@ -165,6 +168,8 @@ impl<H: NodeHash, Sh: Shelf> Core<H, Sh> {
     fn advance(&mut self, alloc: Global, actor: u8, part: Part) -> Stepped
         ensures answered { result ≡ Stepped.Answered → Advances H.half Sh.B.tells self.old actor self.new }
         ensures more { result ≡ Stepped.More → (part ≡ Part.Slice) × Slices Sh.B.tells self.old actor self.new }
+        ensures copies { IsTrue Sh.B.tells → part ≡ Part.Slice → CopiesFew self.old actor self.new }
+        ensures slices { result ≢ Stepped.More → self.new.slices ≤ self.old.slices }
         ensures blocked { (result ≡ Stepped.Blocked) ↔ IsBlocked self.old.lines self.old.journal actor }
         ensures finished { (result ≡ Stepped.Finished) ↔ IsDone self.old.lines self.old.journal actor }
         ensures unchanged { (result ≡ Stepped.Blocked) ⊎ (result ≡ Stepped.Finished) → self.new ≡ self.old }

@@ -8,7 +8,7 @@ ghost use Rattle.run_io.specs.Bytes.{Rose};
 ghost use Rattle.ledger_machine.specs.Views.{is_retained as state_retains, after_view, unview_reply, after_unview};
 ghost use Rattle.ledger_machine.specs.Reading.{IsRead, view_root};
 ghost use Rattle.store_core.specs.Benches.{view_by};
-ghost use Rattle.store_core.specs.Desks.{IsFiled, Stays, OnlyReads};
+ghost use Rattle.store_core.specs.Desks.{backs, IsFiled, Stays, OnlyReads};
 ghost use Rattle.path_proof.specs.Paths.{held_nodes};
 ghost use Rattle.store_core.specs.Reads.{IsFollowed, IsGot, Says};
 
@@ -48,6 +48,7 @@ impl<H: NodeHash, Sh: Shelf> Machine<H, Sh> {
         ensures told { self.new.state.shaded ≡ self.old.state.shaded }
         ensures err { OnErr result (self.new ≡ self.old) }
         ensures stays { Stays self.old self.new }
+        ensures copies { IsTrue Sh.B.tells → backs self.new ≡ backs self.old }
     {
         let id = (actor, view);
         if self.views.contains_key(&id) {
@@ -76,6 +77,7 @@ impl<H: NodeHash, Sh: Shelf> Machine<H, Sh> {
         ensures after { self.new.state ≡ after_unview self.old.state (actor, view) }
         ensures told { self.new.state.shaded ≡ self.old.state.shaded }
         ensures stays { Stays self.old self.new }
+        ensures copies { IsTrue Sh.B.tells → backs self.new ≡ backs self.old }
     {
         self.views.remove(&(actor, view)).is_some()
     }

@@ -1,5 +1,7 @@
 -- all that is reached is in the writable backend, which a swap leaves
 use Rattle.online_rotate.proofs.Rotating.{on_err, strode_some, strode_walks, some_alike, walking_alike, drained_rotated}
+use Rattle.std.proofs.Common.{◌≡◌, OnOk, rules, ap, ◌∙◌}
+use Rattle.rotating_store.specs.Stores.{Store}
 use Rattle.online_rotate.proofs.Rotating.{swapped_rest, swapped_notes}
 use Rattle.online_rotate.proofs.rotator.rotate.Goals as goal
 
@@ -41,3 +43,24 @@ returns-clause-ok g c = swapped_rest c.args.store.now c.drain.new.store c.prepar
 pub returns-clause-notes : goal.returns-clause-notes
 returns-clause-notes g c told = swapped_notes c.args.store.now c.drain.new.store c.prepare.new.self c.swap.new.self
     c.drain.ensures.rest c.prepare.ensures.rest.2 (c.swap.ensures.notes told)
+
+-- where nothing is grey, nothing is done before the swap
+pub returns-in_err-drain-clause-still : goal.returns-in_err-drain-clause-still
+returns-in_err-drain-clause-still g c told none =
+    let same = c.drain.ensures.none none in
+    let ok : OnOk c.from_residual.result (c.drain.new.store.archive ≡ c.args.store.now.writable) = search rules in
+    (ok, on_err _ c.from_residual.result (ap (λ (s : Store). s.writable) same, ap (λ (s : Store). s.archive) same))
+
+pub returns-in_err-prepare-clause-still : goal.returns-in_err-prepare-clause-still
+returns-in_err-prepare-clause-still g c told none =
+    let drained = c.drain.ensures.none none in
+    let same = c.prepare.ensures.same told in
+    let ok : OnOk c.from_residual-in_err-prepare.result (c.prepare.new.self.archive ≡ c.args.store.now.writable) = search rules in (
+      ok,
+      on_err _ c.from_residual-in_err-prepare.result
+          (same.0 ∙ ap (λ (s : Store). s.writable) drained, same.1 ∙ ap (λ (s : Store). s.archive) drained),
+    )
+
+pub returns-clause-still : goal.returns-clause-still
+returns-clause-still g c told none =
+    (c.swap.ensures.archive told ∙ (c.prepare.ensures.same told).0 ∙ ap (λ (s : Store). s.writable) (c.drain.ensures.none none), tt)

@@ -1,4 +1,5 @@
-use Rattle.std.proofs.Common.{arith}
+use Rattle.std.proofs.Common.{refl, sym, ◌∙◌, arith}
+use Rattle.std.proofs.lemmas.Bool.{false≢true}
 use Rattle.copy_walk.proofs.Taking.{drains_none, drains_on, strode_on, rest_none, rest_on, rule_kept}
 use Rattle.copy_walk.proofs.walk.CopyWalk.drain.Goals as goal
 
@@ -6,6 +7,7 @@ use Rattle.copy_walk.proofs.walk.CopyWalk.drain.Goals as goal
 pub loop-alloc-init : goal.loop-alloc-init
 loop-alloc-init g c = record {
   strode = λ told. drains_none c.args.self.now c.args.store.now;
+  none = λ empty. (refl, empty);
   rest = rest_none c.args.store.now;
   later = omega arith;
   gets = omega arith;
@@ -16,6 +18,7 @@ pub loop-alloc-preserved : goal.loop-alloc-preserved
 loop-alloc-preserved g c = record {
   strode = λ told. drains_on 1 1 c.args.self.now c.loop-alloc.self c.take.new.self c.args.store.now c.loop-alloc.store c.take.new.store
       (c.loop-alloc.invariant.strode told) (c.in_ok-take.ensures.ok told);
+  none = λ empty. absurd (false≢true (sym c.loop-alloc-test.true ∙ c.is_done.ensures.1 (c.loop-alloc.invariant.none empty).1));
   rest = rest_on c.args.store.now c.loop-alloc.store c.take.new.store c.loop-alloc.invariant.rest c.take.ensures.rest;
   later = omega (arith, c.loop-alloc.invariant.later, c.take.ensures.later);
   gets = omega (arith, c.loop-alloc.invariant.gets, c.take.ensures.gets);

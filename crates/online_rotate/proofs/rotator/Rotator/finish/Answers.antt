@@ -1,5 +1,5 @@
 -- what is left is reached or was written before; a refusal has copied only what is reached
-use Rattle.std.proofs.Common.{◌≡◌, OnOk, rules, subst}
+use Rattle.std.proofs.Common.{◌≡◌, [], OnOk, rules, subst}
 use Rattle.copy_walk.specs.Walks.{Walk}
 use Rattle.online_rotate.specs.Copying.{IsWalking, Rotated, OnlyReachedOrBorn}
 use Rattle.online_rotate.proofs.Rotating.{walk_is, on_err, fit_on, only_born}
@@ -48,3 +48,18 @@ returns-clause-fit g c tells k fit =
           (subst (λ (w : Walk). IsWalking c.args.self.now.shaded w c.args.store.now) same k)),
       tt,
     )
+
+-- where nothing is grey, nothing is copied
+pub returns-in_err-rotate-clause-still : goal.returns-in_err-rotate-clause-still
+returns-in_err-rotate-clause-still g c tells none =
+    let same : c.args.self.now.walk ≡ c.in-Some.walk =
+    walk_is c.self.inside.walk c.in-Some.walk _ _ _ c.args.self.now c.in-Some.is c.self.view_is in
+    let kept = c.in_err-rotate.ensures.still tells (subst (λ (w : Walk). w.grey ≡ []) same none) in
+    let ok : OnOk c.from_residual.result (c.rotate.new.store.archive ≡ c.args.store.now.writable) = search rules in
+    (ok, on_err _ c.from_residual.result kept.1)
+
+pub returns-clause-still : goal.returns-clause-still
+returns-clause-still g c tells none =
+    let same : c.args.self.now.walk ≡ c.in-Some.walk =
+    walk_is c.self.inside.walk c.in-Some.walk _ _ _ c.args.self.now c.in-Some.is c.self.view_is in
+    ((c.in_ok-rotate.ensures.still tells (subst (λ (w : Walk). w.grey ≡ []) same none)).0, tt)

@@ -21,3 +21,7 @@ returns-clause-told g c =
     let drafts = c.self.inside.sessions in
     rw (← c.self.view_is) (begins_told half tells c.self.inside.machine c.begin.new.self drafts _ c.begin.result
     (c.deref.ensures.value ∙ c.in_ok-bases.ensures ∙ sym (bases_open half tells c.self.inside.machine.state drafts)) c.begin.ensures.told)
+
+-- the machine copies nothing
+pub returns-clause-copies : goal.returns-clause-copies
+returns-clause-copies g c told = rw (← c.self.view_is) (c.begin.ensures.copies told)

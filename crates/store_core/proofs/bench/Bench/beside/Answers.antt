@@ -57,7 +57,7 @@ returns-clause-carries g c told =
     (lifted half c.a_session_stays_over_its_ledger.ensures drafts tells s s' c.args.actor c.args.command.now _ _ told c.requires.beside
     (λ es. c.a_row_is_one_beside_any_sessions.ensures half es s s' c.args.actor c.args.command.now _ _ c.requires.beside)
     (c.self.invariant told (filed told)) (c.answer-answered.ensures.does told))
-    (tells_open half tells s s' drafts c.args.actor c.args.command.now _ c.requires.beside c.known.ensures c.answer-answered.ensures.tells)
+    (tells_open half tells s s' drafts c.args.actor c.args.command.now _ c.requires.beside c.known.ensures.sessions c.answer-answered.ensures.tells)
     (names_open half tells s s' drafts c.args.command.now _ c.requires.beside c.answer-answered.ensures.names) before)
 
 -- where it is refused, too
@@ -75,3 +75,7 @@ returns-clause-refused g c is =
     c.args.actor c.args.command.now _ _ told c.requires.beside
     (λ es. c.a_row_is_one_beside_any_sessions.ensures half es s s' c.args.actor c.args.command.now _ _ c.requires.beside)
     (c.self.invariant told (filed told)) (c.answer-answered.ensures.does told)))
+
+-- the machine copies nothing
+pub returns-clause-copies : goal.returns-clause-copies
+returns-clause-copies g c told = rw (← c.self.view_is) (c.answer-answered.ensures.copies told)

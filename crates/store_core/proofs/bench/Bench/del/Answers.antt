@@ -46,3 +46,11 @@ returns-clause-after g c told =
     c.remove.new.self.state c.self.inside.sessions c.remove.new.sessions (c.args.actor, c.args.session) c.args.key.now
     {E = BackFault} (Ok c.in_ok-there.there) told (c.remove.ensures.reads.state told) (c.self.invariant told (filed told))
     (rw c.in_ok-there.was at (c.remove.ensures.changed told))).1
+
+-- the machine copies nothing
+pub returns-in_err-there-clause-copies : goal.returns-in_err-there-clause-copies
+returns-in_err-there-clause-copies g c told = rw (← c.self.view_is) (c.remove.ensures.reads.copies told)
+
+-- the machine copies nothing
+pub returns-clause-copies : goal.returns-clause-copies
+returns-clause-copies g c told = rw (← c.self.view_is) (c.remove.ensures.reads.copies told)

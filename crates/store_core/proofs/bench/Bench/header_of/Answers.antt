@@ -2,6 +2,7 @@
 use Rattle.std.proofs.Common.{sym, subst}
 use Rattle.store_core.specs.Desks.{Desk, IsFiled}
 use Rattle.store_core.proofs.Benches.{keeps_read}
+use Rattle.store_core.proofs.Benches.{reads_beside}
 use Rattle.store_core.proofs.bench.Bench.header_of.Goals as goal
 
 pub header_of-requires-after_bounds : goal.header_of-requires-after_bounds
@@ -12,3 +13,8 @@ pub invariant_of-self : goal.invariant_of-self
 invariant_of-self g c =
     keeps_read g.H.NodeHash.half g.Sh.B.Backend.tells c.self.inside.machine c.header_of.new.self c.self.inside.sessions
     c.header_of.ensures.reads c.self.invariant
+
+pub returns-clause-reads : goal.returns-clause-reads
+returns-clause-reads g c =
+    rw (← c.self.view_is)
+    (reads_beside g.H.NodeHash.half g.Sh.B.Backend.tells c.self.inside.sessions _ c.header_of.new.self c.header_of.ensures.reads)

@@ -13,7 +13,7 @@ returns-then-is_retained g c =
     ∙ sym (ap (λ b. b || list_any (λ d. same_bytes c.args.target.now d.base) (values_of c.self.inside.sessions))
     (sym c.is_retained.ensures ∙ c.if-is_retained.true))
     ∙ retained_with g.H.NodeHash.half g.Sh.B.Backend.tells c.self.inside.machine.state c.self.inside.sessions c.args.target.now
-    c.known.ensures)
+    c.known.ensures.sessions)
 
 pub returns-else-is_retained : goal.returns-else-is_retained
 returns-else-is_retained g c =
@@ -22,4 +22,4 @@ returns-else-is_retained g c =
     ∙ sym (ap (λ b. b || list_any (λ d. same_bytes c.args.target.now d.base) (values_of c.self.inside.sessions))
     (sym c.is_retained.ensures ∙ c.if-is_retained.false))
     ∙ retained_with g.H.NodeHash.half g.Sh.B.Backend.tells c.self.inside.machine.state c.self.inside.sessions c.args.target.now
-    c.known.ensures)
+    c.known.ensures.sessions)

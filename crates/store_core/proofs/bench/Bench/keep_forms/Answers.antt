@@ -32,3 +32,7 @@ returns-clause-rest g c =
     (λ told. kept_open g.H.NodeHash.half c.a_session_stays_over_its_ledger.ensures c.self.inside.sessions g.Sh.B.Backend.tells
     c.self.inside.machine.state c.keep_ledger.new.self.state _ c.keep_ledger.result told (c.self.invariant told (filed told))
     (c.keep_ledger.ensures.keeps told)))
+
+-- the machine copies nothing
+pub returns-clause-copies : goal.returns-clause-copies
+returns-clause-copies g c told = rw (← c.self.view_is) (c.keep_ledger.ensures.copies told)

@@ -21,3 +21,7 @@ returns-clause-ok g c =
     rw (← c.self.view_is)
     (enlisted g.H.NodeHash.half g.Sh.B.Backend.tells c.self.inside.machine.state _ c.self.inside.sessions _ c.args.id c.args.target.now
     c.args.seq c.in_ok-list_closed.ensures.ok c.end.ensures.after)
+
+-- the machine copies nothing
+pub returns-clause-copies : goal.returns-clause-copies
+returns-clause-copies g c told = rw (← c.self.view_is) (c.list_closed.ensures.copies told)

@@ -2,6 +2,7 @@
 use Rattle.std.proofs.Common.{sym, subst}
 use Rattle.store_core.specs.Desks.{Desk, IsFiled}
 use Rattle.store_core.proofs.Benches.{keeps_read}
+use Rattle.store_core.proofs.Benches.{reads_beside}
 use Rattle.store_core.proofs.bench.Bench.next_stored.Goals as goal
 
 pub next_stored-requires-after_bounds : goal.next_stored-requires-after_bounds
@@ -17,3 +18,13 @@ pub invariant_of-self-2 : goal.invariant_of-self-2
 invariant_of-self-2 g c =
     keeps_read g.H.NodeHash.half g.Sh.B.Backend.tells c.self.inside.machine c.next_stored.new.self c.self.inside.sessions
     c.next_stored.ensures.reads c.self.invariant
+
+pub returns-in_err-next-clause-reads : goal.returns-in_err-next-clause-reads
+returns-in_err-next-clause-reads g c =
+    rw (← c.self.view_is)
+    (reads_beside g.H.NodeHash.half g.Sh.B.Backend.tells c.self.inside.sessions _ c.next_stored.new.self c.next_stored.ensures.reads)
+
+pub returns-clause-reads : goal.returns-clause-reads
+returns-clause-reads g c =
+    rw (← c.self.view_is)
+    (reads_beside g.H.NodeHash.half g.Sh.B.Backend.tells c.self.inside.sessions _ c.next_stored.new.self c.next_stored.ensures.reads)

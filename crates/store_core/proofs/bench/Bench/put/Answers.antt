@@ -33,3 +33,7 @@ returns-clause-after g c told =
     rw (← c.self.view_is) (ok_second _ _ c.put.result (put_row g.H.NodeHash.half g.Sh.B.Backend.tells c.self.inside.machine.state
     c.put.new.self.state c.self.inside.sessions c.put.new.sessions (c.args.actor, c.args.session) c.args.item.now.key c.args.item.now.value
     c.put.result told (c.put.ensures.reads.state told) (c.self.invariant told (filed told)) (c.put.ensures.changed told)))
+
+-- the machine copies nothing
+pub returns-clause-copies : goal.returns-clause-copies
+returns-clause-copies g c told = rw (← c.self.view_is) (c.put.ensures.reads.copies told)

@@ -1,11 +1,12 @@
 -- a refused slice is a refused swap, which leaves the state
-use Rattle.std.proofs.Common.{◌≡◌, [], List, map, sym, ap, subst}
+use Rattle.std.proofs.Common.{◌≡◌, [], List, Ok, map, sym, ap, subst}
 use Rattle.ledger_spec.specs.Forms.{Held}
 use Rattle.shamap_node.specs.Nodes.{held}
-use Rattle.ledger_machine.specs.declared.commands.Command.{Command}
 use Rattle.ledger_machine.specs.declared.commands.Command.TheVariants as command
 use Rattle.ledger_machine.specs.Steps.{Step, MayBeRefused}
+use Rattle.ledger_machine.specs.State.{State}
 use Rattle.store_core.proofs.Rotations.{does_unread, same_told}
+use Rattle.store_core.proofs.Sections.{copied_few}
 use Rattle.store_core.proofs.bench.Bench.section.Goals as goal
 
 pub returns-in-Err-clause-step : goal.returns-in-Err-clause-step
@@ -21,3 +22,10 @@ returns-in-Err-clause-step g c told =
     (c.a_step_carries_what_was_told.ensures half s s' c.args.actor c.args.command.now c.unread.result []
     (rw c.unread.ensures does)
     (same_told half s s' c.args.actor c.args.command.now c.unread.result same (c.requires.told told)).1)
+
+-- what the slice copied, and the step no more
+pub returns-in-Ok-Done-clause-few : goal.returns-in-Ok-Done-clause-few
+returns-in-Ok-Done-clause-few g c told part =
+    copied_few c.args.command.now c.args.self.now c.slice_first.new.self c.answer.new.self (rw (← c.self.view_is) c.known.ensures.nodes)
+    (ap (λ (s : State). s.epoch) c.slice_first.ensures.rest) (c.slice_first.ensures.few told) c.slice_first.ensures.none
+    (λ swap. c.in-Ok-Done.ensures.done (ap Ok c.in-Ok-Done.field-0-is) swap part) (c.answer.ensures.copies told)

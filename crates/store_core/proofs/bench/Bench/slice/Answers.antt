@@ -1,8 +1,7 @@
 -- a slice leaves the state, and so what the open sessions are
-use Rattle.std.proofs.Common.{IsSome, sym, ap, subst}
+use Rattle.std.proofs.Common.{ap}
 use Rattle.ledger_machine.specs.State.{State, form_in}
 use Rattle.store_core.specs.Benches.{with_open}
-use Rattle.store_core.specs.Desks.{Desk}
 use Rattle.store_core.proofs.Benches.{keeps_same}
 use Rattle.store_core.proofs.Sections.{open_rest}
 use Rattle.store_core.proofs.bench.Bench.slice.Goals as goal

@@ -12,3 +12,7 @@ returns-clause-after g c =
     rw (← c.self.view_is)
     (view_after g.H.NodeHash.half g.Sh.B.Backend.tells c.self.inside.machine.state c.view.new.self.state c.self.inside.sessions
     (c.args.actor, c.args.view) c.args.target.now c.view.result c.view.ensures.after)
+
+-- the machine copies nothing
+pub returns-clause-copies : goal.returns-clause-copies
+returns-clause-copies g c told = rw (← c.self.view_is) (c.view.ensures.copies told)

@@ -1,5 +1,5 @@
 -- the acquisition that is lent is open, and stays so whatever it is charged
-use Rattle.std.proofs.Common.{◌≡◌, ◌∙◌, [], Some, Contains, List, refl, sym, ap, subst}
+use Rattle.std.proofs.Common.{◌≡◌, ◌∙◌, [], Some, Contains, refl, sym, ap, subst}
 use Rattle.ledger_spec.specs.Maps.{ForHash, hash_cmp, get_in, set_in}
 use Rattle.ledger_spec.specs.Acquiring.{Acquiring}
 use Rattle.ledger_spec.specs.Own.{AreStored}
@@ -15,6 +15,7 @@ use Rattle.store_core.specs.Wanting.{AreOpen, base_answer}
 use Rattle.store_core.proofs.Opens.{set_open, found_open, based_open, taken_desk}
 use Rattle.store_core.proofs.Parts.{does_base, same_parts}
 use Rattle.store_core.proofs.Tables.{IsOver, filed_over}
+use Rattle.store_core.proofs.Copies.{stored_backs}
 use Rattle.store_core.proofs.Turns.{keeps_taken, answers_forms, wanted_told, walked_state}
 use Rattle.store_core.proofs.Roots.{found_key}
 use Rattle.store_core.specs.Telling.{AreWantedTold}
@@ -106,3 +107,22 @@ returns-clause-refused g c is =
 pub returns-clause-told : goal.returns-clause-told
 returns-clause-told g c =
     ap (λ (x : Turning). x.shaded) c.take_base-taken.ensures.rotator ∙ ap (λ (d : Desk). d.state.shaded) c.self.view_is
+
+-- what is written is new
+pub returns-clause-copies : goal.returns-clause-copies
+returns-clause-copies g c told =
+    let half = g.H.NodeHash.half in
+    let t = c.args.target.now in
+    let wanted : ForHash Acquiring = c.self.inside.wanted.entries in
+    let a : Acquiring = c.in-Some.acquire.now in
+    rw (← c.self.view_is) (stored_backs half c.self.inside.store c.take_base-taken.new.store (
+    let st : Store = c.self.inside.store in
+    let is : IsOver st c.args.self.now.state = rw (← c.self.view_is) (record { nodes = refl; born = refl; epoch = refl }) in
+    answers_forms half (acquire.base_reply half (forms_in st) a c.args.peer c.args.header.now c.args.state.now c.args.tx.now)
+    (acquire.base_stores half (forms_in st) a c.args.peer c.args.header.now c.args.state.now c.args.tx.now) st
+    (acquire.said_base c.take_base-taken.result) c.take_base-taken.new.store
+    (same_parts half st c.take_base-taken.new.store a c.args.peer c.take_base-taken.result c.args.header.now _ c.args.state.now _
+    c.args.tx.now _
+    c.bytes.ensures c.lent-state.ensures c.lent-tx.ensures
+    (c.take_base-taken.ensures.answer told (filed_over half st c.args.self.now.state is (c.requires.filed told))))
+    ))

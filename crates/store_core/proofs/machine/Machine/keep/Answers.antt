@@ -1,11 +1,12 @@
 -- the rotation is told, and then the form is written
-use Rattle.std.proofs.Common.{◌≡◌, true, refl, sym, subst}
+use Rattle.std.proofs.Common.{refl}
 use Rattle.ledger_spec.specs.Bytes.{Bytes}
 use Rattle.ledger_machine.specs.State.{State}
 use Rattle.ledger_machine.specs.Steps.{IsAfter}
 use Rattle.rotating_store.specs.Puts.{Puts, TellsWrongHash}
 use Rattle.store_core.specs.Desks.{state_of}
 use Rattle.store_core.specs.Telling.{KeepsTurning}
+use Rattle.store_core.proofs.Copies.{put_backs}
 use Rattle.store_core.proofs.Keeping.{keeps_by, told_keeps}
 use Rattle.store_core.proofs.Turns.{keeps_shaded, keeps_put, just_told, hears_shaded, told_shaded, on_ok}
 use Rattle.store_core.proofs.machine.Machine.keep.Goals as goal
@@ -51,3 +52,9 @@ returns-clause-told g c =
     rw (← c.self.view_is)
     (on_ok c.kept.result (told_shaded c.self.inside.rotator c.shade.new.self c.self.inside.book c.args.form.now.hash
     c.self.invariant.1.step c.in-Ok.ensures.told))
+
+-- a form that is put is new, or nothing is written
+pub returns-clause-copies : goal.returns-clause-copies
+returns-clause-copies g c told =
+    rw (← c.self.view_is) (put_backs c.self.inside.store c.args.form.now.hash _ c.put_hashed-put.result c.put_hashed-put.new.self
+    (c.put_hashed-put.ensures.puts told))

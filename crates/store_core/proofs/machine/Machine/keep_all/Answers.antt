@@ -24,7 +24,9 @@ loop-form-preserved g c =
         later = omega (arith, c.loop-form.invariant.stays.later, c.keep.ensures.stays.later);
         listed = c.keep.ensures.stays.listed ∙ c.loop-form.invariant.stays.listed;
         epoch = c.keep.ensures.stays.epoch ∙ c.loop-form.invariant.stays.epoch;
+        slices = omega (arith, c.loop-form.invariant.stays.slices, c.keep.ensures.stays.slices);
       };
+      copies = λ told. c.keep.ensures.copies told ∙ c.loop-form.invariant.copies told;
     }
 
 pub returns-in-Err-clause-keeps : goal.returns-in-Err-clause-keeps

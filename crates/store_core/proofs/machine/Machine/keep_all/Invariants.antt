@@ -1,5 +1,5 @@
-use Rattle.std.proofs.Common.{IsTrue, map, drop}
-use Rattle.store_core.specs.Desks.{Stays, KeepsRest}
+use Rattle.std.proofs.Common.{◌≡◌, IsTrue, map, drop}
+use Rattle.store_core.specs.Desks.{Stays, KeepsRest, backs}
 use Rattle.store_core.specs.Telling.{Hears}
 use Rattle.store_core.proofs.KeepingAll.{AreKept}
 use Rattle.store_core.proofs.machine.Machine.keep_all.Given as goal
@@ -12,4 +12,5 @@ invariant-loop-form g l = record {
   hears : Hears l.fn.self.state.shaded (map (λ f. f.hash) l.forms) l.self.state.shaded;
   rest : KeepsRest l.fn.self.state l.self.state;
   stays : Stays l.fn.self l.self;
+  copies : IsTrue g.Sh.B.Backend.tells → backs l.self ≡ backs l.fn.self;
 }

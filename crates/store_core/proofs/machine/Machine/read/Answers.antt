@@ -9,5 +9,5 @@ pub returns-clause-reads : goal.returns-clause-reads
 returns-clause-reads g c =
     let d : Desk = c.args.self.now in
     let is : IsOver c.self.inside.store d.state = rw (← c.self.view_is) (record { nodes = refl; born = refl; epoch = refl }) in
-    only_asked _ _ _ c.self.inside.store c.read.new.source c.self.view_is is (ap (λ (x : Desk). x.faults) c.self.view_is)
+    only_asked _ _ _ c.self.inside.store c.read.new.source c.self.view_is refl is (ap (λ (x : Desk). x.faults) c.self.view_is)
     c.read.ensures.rest c.read.ensures.later

@@ -31,7 +31,7 @@ pub returns-in-Some-clause-reads : goal.returns-in-Some-clause-reads
 returns-in-Some-clause-reads g c =
     let d : Desk = c.args.self.now in
     let is : IsOver c.self.inside.store d.state = rw (← c.self.view_is) (record { nodes = refl; born = refl; epoch = refl }) in
-    only_reads _ _ _ _ c.self.inside.store c.root_in.new.store c.self.view_is is (ap (λ (x : Desk). x.faults) c.self.view_is)
+    only_reads _ _ _ _ c.self.inside.store c.root_in.new.store c.self.view_is refl is (ap (λ (x : Desk). x.faults) c.self.view_is)
     c.root_in.ensures.read
 
 pub invariant_of-self : goal.invariant_of-self

@@ -1,5 +1,7 @@
 -- the rotation ends with all that it was told to keep copied, or goes on
-use Rattle.std.proofs.Common.{◌≡◌, true, sym, ◌∙◌}
+use Rattle.std.proofs.Common.{◌≡◌, true, [], sym, ◌∙◌, subst}
+use Rattle.store_core.specs.Desks.{Desk}
+use Rattle.store_core.proofs.Sections.{finish_still}
 use Rattle.store_core.proofs.Turns.{finish_keeps, finish_swaps, finish_stays, finish_grows, finish_fault}
 use Rattle.store_core.proofs.machine.Machine.swap.Goals as goal
 
@@ -39,3 +41,11 @@ pub returns-clause-fault : goal.returns-clause-fault
 returns-clause-fault g c =
     rw c.swap_told.ensures (rw (← c.self.view_is) (finish_fault c.finish-ended.result c.self.inside.store c.finish-ended.new.store
     c.finish-ended.ensures.cause))
+
+-- nothing is grey, so nothing is copied before the swap
+pub returns-clause-still : goal.returns-clause-still
+returns-clause-still g c told none =
+    rw (← c.self.view_is) (finish_still c.self.inside.wanted.entries c.self.inside.views.entries c.self.inside.book
+    c.finish-ended.new.book c.self.inside.rotator c.finish-ended.new.self c.self.inside.store c.finish-ended.new.store
+    c.finish-ended.result c.finish-ended.ensures.after
+    (c.finish-ended.ensures.still told (subst (λ (d : Desk). d.grey ≡ []) (sym c.self.view_is) none)))

@@ -1,6 +1,6 @@
 use Rattle.std.specs.Prelude.{slice_index}
 use Rattle.ledger_machine.specs.Scripts.{numbers_of}
-use Rattle.std.proofs.Common.{◌≡◌, ◌≢◌, ℕ, true, take, length, refl, sym, ◌∙◌, ap, arith, length-append}
+use Rattle.std.proofs.Common.{◌≡◌, ◌≢◌, inl, inr, ⊎_elim, ℕ, true, take, length, refl, sym, ◌∙◌, ap, arith, length-append}
 use Rattle.std.proofs.lemmas.Bool.{false≢true}
 use Rattle.ledger_machine.specs.declared.commands.Line.{Line}
 use Rattle.ledger_machine.specs.Runs.{is_answered}
@@ -8,6 +8,7 @@ use Rattle.ledger_laws.proofs.SoundSteps.{step_sound}
 use Rattle.store_core.proofs.Journals.{kept_few, kept_less, kept_next, kept_moved, kept_step, kept_done, kept_past, kept_end, kept_sliced}
 use Rattle.store_core.proofs.Journals.{kept_in_range, moved, moved_end, pushed, answers}
 use Rattle.store_core.proofs.Waiting.{done_free, next_left, blocked_by, blocked_at, same_line}
+use Rattle.store_core.proofs.Sections.{core_same}
 use Rattle.store_core.proofs.store.Core.advance.Goals as goal
 use Rattle.store_core.proofs.store.Core.advance.Goals.{else-after-ne0-via-then-after-ne0+else-not-is_answered}
 use Rattle.store_core.proofs.store.Core.advance.Goals.{else-after-ne0-via-else-after-ne0}
@@ -304,3 +305,37 @@ returns-then-actor-len-clause-blocked g c =
 
 pub returns-then-actor-len-clause-few : goal.returns-then-actor-len-clause-few
 returns-then-actor-len-clause-few g c = rw (← c.self.view_is) (kept_few _ _ _ _ _ _ _ _ _ _ _ _ c.self.invariant)
+
+-- ---- what a section copies
+pub returns-in_default-section-clause-copies : goal.returns-in_default-section-clause-copies
+returns-in_default-section-clause-copies g c told part =
+    let k = c.self.invariant in
+    let next = moved c.self.inside.cursors.items c.deref.ensures.value c.index-from.ensures
+    c.self.inside.cursors.ok.0 c.len.ensures c.if-actor-len.false c.in-Some.ensures in
+    let is = kept_next _ _ _ _ _ _ _ _ _ _ _ _ k c.args.actor _
+    (omega (arith, k.cursor_count, c.len.ensures, c.if-actor-len.false)) next c.index-line.result.now c.index-line.ensures in
+    rw (← c.self.view_is) (⊎_elim
+    (λ last. inl (record { line = c.index-line.result.now; next = is; swap = last.0; sliced = last.1 }))
+    (λ copied. inr copied)
+    (c.section.ensures.few told part))
+
+pub returns-clause-copies : goal.returns-clause-copies
+returns-clause-copies g c told part =
+    let k = c.self.invariant in
+    let next = moved c.self.inside.cursors.items c.deref.ensures.value c.index-from.ensures
+    c.self.inside.cursors.ok.0 c.len.ensures c.if-actor-len.false c.in-Some.ensures in
+    let is = kept_next _ _ _ _ _ _ _ _ _ _ _ _ k c.args.actor _
+    (omega (arith, k.cursor_count, c.len.ensures, c.if-actor-len.false)) next c.index-line.result.now c.index-line.ensures in
+    rw (← c.self.view_is) (⊎_elim
+    (λ last. inl (record { line = c.index-line.result.now; next = is; swap = last.0; sliced = last.1 }))
+    (λ copied. inr copied)
+    (c.section.ensures.few told part))
+
+pub returns-in_default-clause-copies : goal.returns-in_default-clause-copies
+returns-in_default-clause-copies g c told part = core_same c.args.actor _ _ c.self.view_is
+
+pub returns-then-not-is_answered-clause-copies : goal.returns-then-not-is_answered-clause-copies
+returns-then-not-is_answered-clause-copies g c told part = core_same c.args.actor _ _ c.self.view_is
+
+pub returns-then-actor-len-clause-copies : goal.returns-then-actor-len-clause-copies
+returns-then-actor-len-clause-copies g c told part = core_same c.args.actor c.args.self.now c.args.self.now refl
