@@ -1,16 +1,21 @@
-//! `ledger_audit --plain` checks a whole ledger that is given in plain lines on standard input: the answer is one line, and a status.
+//! `ledger_audit` checks a whole ledger that is given in a server's pages on standard input, `ledger_audit --plain` one in plain lines, and
+//! `ledger_audit --path` one object along its path: the answer is one line, and a status.
 #![tactic(auto)]
 
 ghost use Rattle.std.specs.Prelude.{◌≡◌, ◌⊎◌, ◌↔◌, map, IfOk, string_bytes};
 ghost use Rattle.std.specs.Process.{exit_status};
-ghost use Rattle.ledger_audit.specs.Top.{AreCommand};
+ghost use Rattle.ledger_audit.specs.Words.{AreCommand};
 
+mod progress;
 mod text;
 mod top;
+mod words;
 
 use half_hash::Half512;
+use progress::{Teller, Telling};
 use run_io::{StdSink, StdSource};
 use std::alloc::AllocError;
+use std::io::{IsTerminal, Stderr};
 use std::process::ExitCode;
 use std::{env, io};
 use top::{NO_MEMORY, USAGE, ledger_audit};
@@ -77,7 +82,18 @@ fn texts_of<'a>(rt: &HostRuntime, words: &'a [String]) -> Result<Vec<&'a str>, A
 fn run_on(rt: &HostRuntime, words: &[&str]) -> u8
     ensures { (result ≡ USAGE) ↔ (AreCommand (map (λ w. w.now) words.now) → ⊥) }
 {
-    let mut source = StdSource::new(rt.stdin());
+    let teller = Teller::new(rt, terminal_of(rt));
+    let mut source = Telling::new(StdSource::new(rt.stdin()), teller);
     let mut sink = StdSink::new(rt.stdout());
     ledger_audit::<Half512, _, _>(rt.alloc(), words, &mut source, &mut sink)
+}
+
+/// Standard error, where it is a terminal.
+fn terminal_of(rt: &HostRuntime) -> Option<Stderr> {
+    let stderr = rt.stderr();
+    if stderr.is_terminal() {
+        Some(stderr)
+    } else {
+        None
+    }
 }

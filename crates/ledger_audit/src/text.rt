@@ -1,25 +1,70 @@
-//! The line that an audit prints.
+//! The line that is printed.
 ghost use Rattle.std.specs.Prelude.{◌≡◌, ◌++◌, ◌∷◌, [], OnOk, IfOk};
 ghost use Rattle.std.specs.String.{string_bytes};
 ghost use Rattle.hex.specs.Hex.{encode_upper};
-ghost use Rattle.plain_audit.specs.declared.answer.Answer.TheVariants.{Whole as whole};
+ghost use Rattle.audit_core.specs.declared.answer.Answer.TheVariants.{Whole as whole};
 ghost use Rattle.ledger_audit.specs.Text.{cause_text, header_text, state_text, txs_text, two_text, answer_text};
+ghost use Rattle.ledger_audit.specs.Text.{refused_text, path_text, said_text};
 
+use audit_core::{Answer, Cause, Sum};
 use half_hash::Hash32;
-use plain_audit::{Answer, Cause, Sum};
+use path_audit::PathAnswer;
 use std::alloc::{AllocError, Global};
 use std::fmt::Write;
 
-/// The line of an answer.
-pub(crate) fn line_of(alloc: Global, answer: &Answer) -> Result<String, AllocError>
-    ensures { IfOk result (λ text. string_bytes text ≡ answer_text answer.now ++ 10 ∷ []) }
+/// What is said of a ledger, or of a path.
+#[derive(Debug, Drop)]
+pub enum Said {
+    OfLedger(Answer),
+    OfPath(PathAnswer),
+}
+
+/// The line of what is said.
+pub(crate) fn line_of(alloc: Global, said: &Said) -> Result<String, AllocError>
+    ensures { IfOk result (λ text. string_bytes text ≡ said_text said.now ++ 10 ∷ []) }
 {
     let mut text = String::new(alloc);
-    push_answer(&mut text, answer)?;
+    match said {
+        Said::OfLedger(answer) => push_answer(&mut text, answer)?,
+        Said::OfPath(answer) => push_path(&mut text, answer)?,
+    }
     text.push_str("\n")?;
     Ok(text)
 }
 
+// Appends the answer of a path.
+fn push_path(text: &mut String, answer: &PathAnswer) -> Result<(), AllocError>
+    ensures { OnOk result (string_bytes text.new ≡ string_bytes text.old ++ path_text answer.now) }
+{
+    match answer {
+        PathAnswer::Value(bytes) => {
+            text.push_str("value ")?;
+            push_digits(text, bytes.bytes())
+        }
+        PathAnswer::Nothing => text.push_str("none"),
+        PathAnswer::NoPath => text.push_str("no path"),
+        PathAnswer::Refused { line, cause } => push_refusal(text, *line, cause),
+    }
+}
+
+// Appends a refused line and its cause.
+fn push_refusal(text: &mut String, line: u64, cause: &Cause) -> Result<(), AllocError>
+    ensures { OnOk result (string_bytes text.new ≡ string_bytes text.old ++ refused_text line cause.now) }
+{
+    write!(text, "refused {line} ")?;
+    push_cause(text, cause)
+}
+
+// Appends the digits of bytes.
+fn push_digits(text: &mut String, bytes: &[u8]) -> Result<(), AllocError>
+    ensures { OnOk result (string_bytes text.new ≡ string_bytes text.old ++ encode_upper bytes.now) }
+{
+    let digits = hex::encode_upper(*text.allocator(), bytes)?;
+    text.push_str(&digits)?;
+    Ok(())
+}
+
+// Appends the answer of a ledger.
 fn push_answer(text: &mut String, answer: &Answer) -> Result<(), AllocError>
     ensures { OnOk result (string_bytes text.new ≡ string_bytes text.old ++ answer_text answer.now) }
 {
@@ -28,10 +73,7 @@ fn push_answer(text: &mut String, answer: &Answer) -> Result<(), AllocError>
         Answer::OtherHash { wanted, found } => push_two(text, "differs hash ", wanted, found),
         Answer::OtherState { named, found } => push_two(text, "differs state ", named, found),
         Answer::OtherTx { named, found } => push_two(text, "differs transactions ", named, found),
-        Answer::Refused { line, cause } => {
-            write!(text, "refused {line} ")?;
-            push_cause(text, cause)
-        }
+        Answer::Refused { line, cause } => push_refusal(text, *line, cause),
     }
 }
 
@@ -39,9 +81,7 @@ fn push_answer(text: &mut String, answer: &Answer) -> Result<(), AllocError>
 fn push_hash(text: &mut String, hash: &Hash32) -> Result<(), AllocError>
     ensures { OnOk result (string_bytes text.new ≡ string_bytes text.old ++ encode_upper hash.now) }
 {
-    let digits = hex::encode_upper(*text.allocator(), &hash.bytes)?;
-    text.push_str(&digits)?;
-    Ok(())
+    push_digits(text, &hash.bytes)
 }
 
 // Appends words, and two hashes.
@@ -105,6 +145,14 @@ fn push_cause(text: &mut String, cause: &Cause) -> Result<(), AllocError>
         Cause::ZeroKey => text.push_str("zerokey"),
         Cause::TooMuch => text.push_str("toomuch"),
         Cause::Late => text.push_str("late"),
+        Cause::NoJson => text.push_str("nojson"),
+        Cause::Hash => text.push_str("hash"),
+        Cause::Index => text.push_str("index"),
+        Cause::OtherLedger => text.push_str("otherledger"),
+        Cause::State => text.push_str("state"),
+        Cause::Item => text.push_str("item"),
+        Cause::Extra => text.push_str("extra"),
+        Cause::Unfinished => text.push_str("unfinished"),
         Cause::NotBehind { before, key } => push_two(text, "notbehind ", before, key),
     }
 }

@@ -20,32 +20,20 @@ use Rattle.ledger_spec.specs.Forms.{data_limit}
 use Rattle.ledger_spec.specs.Maps.{hash_cmp, IsMap}
 use Rattle.ledger_spec.specs.Tree.{Entry}
 use Rattle.root_pass.specs.Rows.{IsBehind}
-use Rattle.plain_audit.specs.declared.cause.Cause.{Cause}
-use Rattle.plain_audit.specs.declared.answer.Answer.{Answer}
-use Rattle.plain_audit.specs.Lines.{Said, header_word, tx_word, got, digits_of, checked, keyed, item_of, headed, first_of, items_or_none}
-use Rattle.plain_audit.specs.Lines.{is_behind, with_state, with_tx, after_line, step, line_most}
-use Rattle.plain_audit.specs.Answers.{IsVerdict, Goes, Says}
-use Rattle.plain_audit.specs.Ledgers.{IsItemText, IsTxLine, IsHeaderLine, AreEach, Tells, joined, LedgerIsAnswered}
-use Rattle.plain_audit.proofs.Behind.{behind_true}
-use Rattle.plain_audit.proofs.Texts.{decoded_size, begins_is}
-use Rattle.plain_audit.proofs.Cuts.{cut_line}
+use Rattle.audit_core.specs.declared.cause.Cause.{Cause}
+use Rattle.audit_core.specs.declared.answer.Answer.{Answer}
+use Rattle.audit_core.specs.Said.{Said, checked, digits_of, got, headed, is_behind, items_or_none, keyed, with_state, with_tx}
+use Rattle.audit_core.specs.Verdicts.{IsVerdict}
+use Rattle.audit_core.specs.Runs.{Goes, Says, step, joined}
+use Rattle.plain_audit.specs.Lines.{after_line, first_of, header_word, item_of, line_most, tx_word}
+use Rattle.plain_audit.specs.Answers.{Comes}
+use Rattle.plain_audit.specs.Ledgers.{IsItemText, IsTxLine, IsHeaderLine, AreEach, Tells, LedgerIsAnswered}
+use Rattle.audit_core.proofs.Behind.{behind_true, behind_in}
+use Rattle.audit_core.proofs.Decoded.{decoded_size, decoded_one, digits_is, checked_read}
+use Rattle.plain_audit.proofs.Texts.{begins_is}
+use Rattle.audit_core.proofs.Cuts.{AreOne, one_append, cut_joined}
+use Rattle.audit_core.specs.declared.answer.Answer.TheVariants.{Refused}
 use Rattle.line_feed.proofs.Newlines.{one_join}
-
--- digits are no newlines
-digits_one : (text : Bytes) → AllPass is_hex_digit text → IsOneLine text
-digits_one [] all = tt
-digits_one (x ∷ text) all = (
-  λ newline. let digit : is_hex_digit x ≡ true = all 0 0 (omega arith) in
-      let none : is_hex_digit 10 ≡ false = refl in
-      false≢true (sym none ∙ ap is_hex_digit (sym newline) ∙ digit),
-  digits_one text (λ k d low. all (suc k) d (omega arith)),
-)
-
-decoded_one : (text bytes : Bytes) → decode_of text ≡ Ok bytes → IsOneLine text
-decoded_one text bytes is = digits_one text ((decode_of-ok text bytes is).1)
-
-digits_is : (text bytes : Bytes) → decode_of text ≡ Ok bytes → digits_of text ≡ Some bytes
-digits_is text bytes is = ap got is
 
 -- an item's text is one line that isn't too long
 item_one : (text : Bytes) (e : Entry) → IsItemText text e → IsOneLine text
@@ -72,7 +60,7 @@ item_read : (text : Bytes) (e : Entry) → IsItemText text e → item_of text �
 unfolding item_of
 item_read text e is =
     cond-true (nat_lt 64 (length text) && (slice_index text 64 == 32)) _ _ form
-    ∙ ap (λ k. keyed k (digits_of (drop 65 text))) key_is ∙ ap (keyed (Some e.0)) data_is ∙ within
+    ∙ ap (λ k. keyed k (digits_of (drop 65 text))) key_is ∙ ap (keyed (Some e.0)) data_is ∙ checked_read e is.item
   where
     size : length text ≡ 65 + length is.data_text
     size =
@@ -104,18 +92,6 @@ item_read text e is =
         (omega (arith, length-append is.key_text (32 ∷ []), is.key.digits)))
         ∙ digits_is is.data_text e.1 is.bytes
 
-    nonzero : is_zero e.0 ≡ false
-    nonzero = by (is_zero e.0) refl
-      where
-        by : (z : Bool) → is_zero e.0 ≡ z → is_zero e.0 ≡ false
-        by false z_is = z_is
-        by true z_is = let wrong : false ≡ true = sym (ap not z_is) ∙ is.item.key_nonzero in absurd (false≢true wrong)
-
-    within : checked e.0 e.1 ≡ Ok e
-    within =
-        cond-false (is_zero e.0) _ _ nonzero
-        ∙ cond-false (nat_lt data_limit (length e.1)) _ _ (le-ltb data_limit (length e.1) is.item.data_size)
-
 -- it begins with a digit, so isn't a transaction's line
 no_digit : is_hex_digit 116 ≡ false
 no_digit = refl
@@ -136,28 +112,24 @@ no_tx text e is = by (starts_with nat_eq text tx_word) refl
         absurd (first is.key_text (32 ∷ is.data_text) (drop 3 text) is.key.digits ((decode_of-ok is.key_text e.0 is.key.value).1)
         (sym is.text_is ∙ begins_is text tx_word word))
 
--- a key in a map that rises comes behind those before it
-behind_in : (xs ys : Items) (e : Entry) → IsMap hash_cmp (xs ++ e ∷ ys) → IsBehind xs e.0
-unfolding IsStrictlySortedBy
-behind_in [] ys e rising = tt
-behind_in (x ∷ xs) ys e rising = (at xs rising.0, behind_in xs ys e rising.1)
-  where
-    at : (zs : Items) → AllByRecursion (λ k. hash_cmp x.0 k ≡ Less) (keys_of (zs ++ e ∷ ys)) → hash_cmp x.0 e.0 ≡ Less
-    at [] all = all.0
-    at (z ∷ zs) all = at zs all.1
-
-step_is : (s : Option Said) (line : Bytes) (t : Said) → length line ≤ line_most → after_line s line ≡ Ok t → step s line ≡ Ok t
+step_is : (s : Option Said) (line : Bytes) (t : Said) → length line ≤ line_most → after_line s line ≡ Ok t
+    → step line_most after_line s line ≡ Ok t
 step_is s line t short is = cond-false (nat_lt line_most (length line)) _ _ (le-ltb line_most (length line) short) ∙ is
 
 state_step : (s : Said) (line : Bytes) (e : Entry) → is_some s.txs ≡ false → IsItemText line e → IsBehind s.items e.0
-    → step (Some s) line ≡ Ok (record { header = s.header; items = s.items ++ e ∷ []; txs = s.txs })
+    → step line_most after_line (Some s) line ≡ Ok (record { header = s.header; items = s.items ++ e ∷ []; txs = s.txs })
 state_step s line e none is behind =
     step_is (Some s) line _ (omega (arith, item_short line e is))
     (cond-false (starts_with nat_eq line tx_word) _ _ (no_tx line e is) ∙ ap (with_state s) (item_read line e is)
     ∙ cond-false (is_some s.txs) _ _ none ∙ cond-true (is_behind s.items e.0) _ _ (behind_true s.items e.0 behind))
 
 tx_step : (s : Said) (line : Bytes) (e : Entry) → IsTxLine line e → IsBehind (items_or_none s.txs) e.0
-    → step (Some s) line ≡ Ok (record { header = s.header; items = s.items; txs = Some (items_or_none s.txs ++ e ∷ []) })
+    → step line_most after_line (Some s) line ≡ Ok (record {
+      header = s.header;
+      items = s.items;
+      txs = Some
+          (items_or_none s.txs ++ e ∷ []);
+    })
 tx_step s line e is behind =
     step_is (Some s) line _ (omega (arith, ap length is.line_is, length-append tx_word is.text, item_short is.text e is.item))
     (cond-true (starts_with nat_eq line tx_word) _ _ word ∙ ap (with_tx s) (ap item_of text_is ∙ item_read is.text e is.item)
@@ -169,7 +141,8 @@ tx_step s line e is behind =
     text_is : drop 3 line ≡ is.text
     text_is = ap (drop 3) is.line_is ∙ drop_at tx_word is.text 3 refl
 
-head_step : (line header : Bytes) → IsHeaderLine line header → step None line ≡ Ok (record { header = header; items = []; txs = None })
+head_step : (line header : Bytes) → IsHeaderLine line header → step line_most after_line None line ≡ Ok
+    (record { header = header; items = []; txs = None })
 unfolding first_of
 head_step line header is =
     step_is None line _ (omega
@@ -186,12 +159,14 @@ head_step line header is =
 module _ (half : Half) (expect : Option Hash) (answer : Answer) where
   -- whatever the line's number
   abbrev Reads : Option Said → List Bytes → Type 0
-  Reads s lines = (n : ℕ) → Says half expect n s lines [] answer
+  Reads s lines = (n : ℕ) → Says Refused line_most after_line (Comes half expect) n s lines [] answer
 
-  one_read : (s : Option Said) (line : Bytes) (lines : List Bytes) (t : Said) → step s line ≡ Ok t → Reads (Some t) lines → Reads s
+  one_read : (s : Option Said) (line : Bytes) (lines : List Bytes) (t : Said) → step line_most after_line s line ≡ Ok t → Reads
+      (Some t) lines → Reads s
       (line ∷ lines)
   one_read s line lines t is reads n =
-      subst (λ (r : Result Said Cause). Goes half expect n answer r (λ after. Says half expect (n + 1) (Some after) lines [] answer))
+      subst (λ (r : Result Said Cause). Goes Refused line_most after_line (Comes half expect) n answer r
+      (λ after. Says Refused line_most after_line (Comes half expect) (n + 1) (Some after) lines [] answer))
       (sym is)
       (reads (n + 1))
 
@@ -250,18 +225,7 @@ module _ (half : Half) (expect : Option Hash) (answer : Answer) where
       same None (Some items) (l ∷ ls) given is some none = absurd (false≢true (some (omega arith)))
       same (Some es) (Some items) (l ∷ ls) given is some none = ap Some is
 
--- each line is one
-AreOne : List Bytes → Type 0
-AreOne [] = Unit {0}
-AreOne (line ∷ lines) = IsOneLine line × AreOne lines
-
-one_append : (a b : List Bytes) → AreOne a → AreOne b → AreOne (a ++ b)
-unfolding AreOne
-one_append [] b one more = more
-one_append (line ∷ a) b one more = (one.0, one_append a b one.1 more)
-
 states_one : (lines : List Bytes) (items : Items) → AreEach IsItemText lines items → AreOne lines
-unfolding AreOne
 states_one [] [] each = tt
 states_one [] (e ∷ items) each = absurd each
 states_one (line ∷ lines) [] each = absurd each
@@ -271,7 +235,6 @@ tx_word_one : IsOneLine tx_word
 tx_word_one = ((λ e. omega (arith, e)), ((λ e. omega (arith, e)), ((λ e. omega (arith, e)), tt)))
 
 txs_one : (lines : List Bytes) (items : Items) → AreEach IsTxLine lines items → AreOne lines
-unfolding AreOne
 txs_one [] [] each = tt
 txs_one [] (e ∷ items) each = absurd each
 txs_one (line ∷ lines) [] each = absurd each
@@ -296,7 +259,6 @@ header_word_one = (
 )
 
 tells_one : (lines : List Bytes) (s : Said) → Tells lines s → AreOne lines
-unfolding AreOne
 tells_one lines s tells =
     subst AreOne (sym tells.lines_are) (
       subst IsOneLine (sym tells.header.line_is)
@@ -305,16 +267,8 @@ tells_one lines s tells =
           (txs_one tells.tx_lines (items_or_none s.txs) tells.txs),
     )
 
--- lines that are joined are cut again
-cut_joined : (lines : List Bytes) → AreOne lines → cut (joined lines) ≡ (lines, [])
-unfolding cut AreOne
-cut_joined [] one = refl
-cut_joined (line ∷ lines) one =
-    ap cut (append_assoc line (10 ∷ []) (joined lines)) ∙ cut_line line (joined lines) one.0
-    ∙ ap (λ (p : List Bytes × Bytes). (line ∷ p.0, p.1)) (cut_joined lines one.1)
-
 pub ledger_answered : LedgerIsAnswered
 ledger_answered half expect bytes s answer text verdict =
-    subst (λ (p : List Bytes × Bytes). Says half expect 1 None p.0 p.1 answer)
+    subst (λ (p : List Bytes × Bytes). Says Refused line_most after_line (Comes half expect) 1 None p.0 p.1 answer)
     (sym (ap cut text.bytes_are ∙ cut_joined text.lines (tells_one text.lines s text.tells)))
     (tells_read half expect answer text.lines s text.tells verdict 1)

@@ -14,49 +14,15 @@ use Rattle.half_hash.specs.Zero.{is_zero, is_nonzero}
 use Rattle.ledger_spec.specs.Bytes.{Bytes}
 use Rattle.ledger_spec.specs.Forms.{IsItem, data_limit}
 use Rattle.ledger_spec.specs.Tree.{Entry, IsByteEntry}
-use Rattle.plain_audit.specs.declared.cause.Cause.TheVariants as causes
-use Rattle.plain_audit.specs.Lines.{got, digits_of, checked, keyed, item_of}
+use Rattle.audit_core.specs.declared.cause.Cause.TheVariants as causes
+use Rattle.audit_core.specs.Said.{checked, digits_of, got, keyed}
+use Rattle.plain_audit.specs.Lines.{item_of}
+use Rattle.audit_core.proofs.Decoded.{digits_some, decoded_bytes, decoded_size, checked_is}
 use Rattle.plain_audit.specs.Ledgers.{IsItemText}
-
-got_some : (r : Result Bytes FromHexError) (bytes : Bytes) → got r ≡ Some bytes → r ≡ Ok bytes
-got_some (Ok b) bytes is = cc
-got_some (Err e) bytes is = cc
-
--- digits say their bytes
-pub digits_some : (text bytes : Bytes) → digits_of text ≡ Some bytes → decode_of text ≡ Ok bytes
-digits_some text bytes is = got_some (decode_of text) bytes is
-
--- what decodes is bytes
-bytes_from : (xs : List ℕ) → IsBytes xs → IsTrue (are_bytes xs)
-bytes_from [] h = refl
-bytes_from (x ∷ xs) h =
-    let small : x < 256 = h 0 in
-    and_from (nat_lt x 256) (are_bytes xs) (lt-ltb x 256 small) (bytes_from xs (λ i. h (suc i)))
-
-pub decoded_bytes : (text bytes : Bytes) → decode_of text ≡ Ok bytes → IsTrue (are_bytes bytes)
-decoded_bytes text bytes is = bytes_from bytes ((decode_of-ok text bytes is).3)
-
-pub decoded_size : (text bytes : Bytes) → decode_of text ≡ Ok bytes → length text ≡ 2 * length bytes
-decoded_size text bytes is = (decode_of-ok text bytes is).2
 
 -- the two bytes of an item's text
 pub item_bytes : (text : Bytes) (e : Entry) → IsItemText text e → IsByteEntry e
 item_bytes text e is = (decoded_bytes is.key_text e.0 is.key.value, decoded_bytes is.data_text e.1 is.bytes)
-
-checked_is : (key bytes : Bytes) (e : Entry) → checked key bytes ≡ Ok e → (e ≡ (key, bytes)) × IsTrue (is_nonzero key) ×
-    (length bytes ≤ data_limit)
-checked_is key bytes e is = by (is_zero key) (nat_lt data_limit (length bytes)) refl refl is
-  where
-    by : (z l : Bool) → is_zero key ≡ z → nat_lt data_limit (length bytes) ≡ l
-        → (Rattle.std.specs.Prelude.if◌then◌else◌ z (Err causes.ZeroKey)
-        (Rattle.std.specs.Prelude.if◌then◌else◌ l (Err causes.TooMuch) (Ok (key, bytes)))) ≡ Ok e
-        → (e ≡ (key, bytes)) × IsTrue (is_nonzero key) × (length bytes ≤ data_limit)
-    by true l zero_is l_is is = cc
-    by false true zero_is l_is is = cc
-    by false false zero_is l_is is =
-        let same : e ≡ (key, bytes) = cc in
-        let nonzero : IsTrue (is_nonzero key) = ap Rattle.std.specs.Prelude.not zero_is in
-        (same, nonzero, ltb-false data_limit (length bytes) l_is)
 
 -- the item that a text says is the item whose text it is
 pub item_text : (text : Bytes) (e : Entry) → item_of text ≡ Ok e → IsItemText text e

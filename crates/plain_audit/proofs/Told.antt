@@ -15,16 +15,20 @@ use Rattle.ledger_spec.specs.Maps.{hash_cmp, IsMap}
 use Rattle.ledger_spec.specs.Tree.{Entry, IsByteEntry}
 use Rattle.root_pass.specs.Rows.{IsBehind}
 use Rattle.tree_laws.proofs.Orders.{map_append, all_weaker}
-use Rattle.plain_audit.specs.declared.cause.Cause.{Cause}
-use Rattle.plain_audit.specs.declared.cause.Cause.TheVariants as causes
-use Rattle.plain_audit.specs.declared.answer.Answer.{Answer}
-use Rattle.plain_audit.specs.declared.answer.Answer.TheVariants.{Refused}
-use Rattle.plain_audit.specs.Lines.{Said, header_word, tx_word, digits_of, headed, first_of, item_of, items_or_none, is_behind, last_key}
-use Rattle.plain_audit.specs.Lines.{with_state, with_tx, after_line, step, line_most}
-use Rattle.plain_audit.specs.Answers.{IsVerdict, unended, Ends, Goes, Says}
-use Rattle.plain_audit.specs.Ledgers.{IsItemText, IsTxLine, AreEach, Tells, joined, IsAccepted, AcceptedIsLedger, TextHasItems}
-use Rattle.plain_audit.proofs.Behind.{behind_from}
-use Rattle.plain_audit.proofs.Texts.{digits_some, item_text, item_bytes, begins_is}
+use Rattle.audit_core.specs.declared.cause.Cause.{Cause}
+use Rattle.audit_core.specs.declared.cause.Cause.TheVariants as causes
+use Rattle.audit_core.specs.declared.answer.Answer.{Answer}
+use Rattle.audit_core.specs.declared.answer.Answer.TheVariants.{Refused}
+use Rattle.audit_core.specs.Said.{Said, digits_of, headed, is_behind, items_or_none, last_key, with_state, with_tx}
+use Rattle.audit_core.specs.Verdicts.{IsVerdict, IsAccepted}
+use Rattle.audit_core.specs.Runs.{Ends, Goes, Says, step, unended, joined}
+use Rattle.plain_audit.specs.Lines.{after_line, first_of, header_word, item_of, line_most, tx_word}
+use Rattle.plain_audit.specs.Answers.{Comes}
+use Rattle.plain_audit.specs.Ledgers.{IsItemText, IsTxLine, AreEach, Tells, AcceptedIsLedger, TextHasItems}
+use Rattle.audit_core.proofs.Behind.{behind_from, rises_push, none_rises}
+use Rattle.audit_core.proofs.Cuts.{all_of, cut_all}
+use Rattle.audit_core.proofs.Decoded.{digits_some}
+use Rattle.plain_audit.proofs.Texts.{item_text, item_bytes, begins_is}
 
 -- one line and one entry more
 each_push : (P : Bytes → Entry → Type 0) (lines : List Bytes) (items : Items) (line : Bytes) (e : Entry) → AreEach P lines items → P line e
@@ -33,18 +37,6 @@ each_push P [] [] line e each here = (here, tt)
 each_push P [] (f ∷ items) line e each here = absurd each
 each_push P (l ∷ lines) [] line e each here = absurd each
 each_push P (l ∷ lines) (f ∷ items) line e each here = (each.0, each_push P lines items line e each.1 here)
-
--- a key behind all rises
-rises_push : (items : Items) (e : Entry) → IsMap hash_cmp items → IsBehind items e.0 → IsMap hash_cmp (items ++ e ∷ [])
-unfolding IsStrictlySortedBy
-rises_push items e rising behind =
-    map_append items (e ∷ []) rising (tt, tt)
-    (all_weaker (λ (f : Entry). hash_cmp f.0 e.0 ≡ Less) (λ (f : Entry). AllByRecursion (λ (h : Entry). hash_cmp f.0 h.0 ≡ Less) (e ∷ []))
-    (λ f less. (less, tt)) items behind)
-
-none_rises : IsMap {X = Bytes} hash_cmp []
-unfolding IsStrictlySortedBy
-none_rises = tt
 
 -- the header's line
 head_told : (line : Bytes) (s : Said) → first_of line ≡ Ok s → Tells (line ∷ []) s
@@ -168,7 +160,8 @@ abbrev TellsSome : List Bytes → Option Said → Type 0
 TellsSome lines None = lines ≡ []
 TellsSome lines (Some s) = Tells lines s
 
-step_told : (lines : List Bytes) (s : Option Said) (line : Bytes) (t : Said) → TellsSome lines s → step s line ≡ Ok t → Tells
+step_told : (lines : List Bytes) (s : Option Said) (line : Bytes) (t : Said) → TellsSome lines s
+    → step line_most after_line s line ≡ Ok t → Tells
     (lines ++ line ∷ []) t
 step_told lines s line t tells is = by_size (nat_lt line_most (length line)) s tells is
   where
@@ -182,52 +175,35 @@ module _ (half : Half) (expect : Option Hash) (answer : Answer) (accepted : IsAc
   not_refused : (n : ℕ) (cause : Cause) → answer ≡ Refused n cause → ⊥
   not_refused n cause is = subst IsAccepted is accepted
 
-  end_told : (n : ℕ) (lines : List Bytes) (s : Option Said) (rest : Bytes) → TellsSome lines s → Ends half expect n s rest answer
+  end_told : (n : ℕ) (lines : List Bytes) (s : Option Said) (rest : Bytes) → TellsSome lines s → Ends Refused line_most after_line
+      (Comes half expect) n s rest answer
       → (t : Said) × Tells lines t × IsVerdict half expect t answer × (rest ≡ [])
-  end_told n lines s (x ∷ rest) tells ends = absurd (not_refused n (unended (x ∷ rest)) ends)
+  end_told n lines s (x ∷ rest) tells ends = absurd (not_refused n (unended line_most (x ∷ rest)) ends)
   end_told n lines None [] tells ends = absurd (not_refused n causes.NoHeader ends)
   end_told n lines (Some s) [] tells ends = (s, tells, ends, refl)
 
   says_told : (n : ℕ) (before : List Bytes) (s : Option Said) (lines : List Bytes) (rest : Bytes) → TellsSome before s
-      → Says half expect n s lines rest answer
+      → Says Refused line_most after_line (Comes half expect) n s lines rest answer
       → (t : Said) × Tells (before ++ lines) t × IsVerdict half expect t answer × (rest ≡ [])
   says_told n before s [] rest tells says =
       let end = end_told n before s rest tells says in
       (end.0, subst (λ (ls : List Bytes). Tells ls end.0) (sym (append-nil before)) end.1, end.2, end.3)
   says_told n before s (line ∷ lines) rest tells says =
-      by (step s line) refl (λ u more goes. says_told (n + 1) (before ++ line ∷ []) (Some u) lines rest more goes) says
+      by (step line_most after_line s line) refl (λ u more goes. says_told (n + 1) (before ++ line ∷ []) (Some u) lines rest more goes) says
     where
-      by : (r : Result Said Cause) → step s line ≡ r
-          → ((u : Said) → Tells (before ++ line ∷ []) u → Says half expect (n + 1) (Some u) lines rest answer
+      by : (r : Result Said Cause) → step line_most after_line s line ≡ r
+          → ((u : Said) → Tells (before ++ line ∷ []) u → Says Refused line_most after_line (Comes half expect) (n + 1)
+          (Some u) lines rest answer
           → (t : Said) × Tells ((before ++ line ∷ []) ++ lines) t × IsVerdict half expect t answer × (rest ≡ []))
-          → Goes half expect n answer r (λ after. Says half expect (n + 1) (Some after) lines rest answer)
+          → Goes Refused line_most after_line (Comes half expect) n answer r (λ after. Says Refused line_most after_line
+          (Comes half expect) (n + 1) (Some after) lines rest answer)
           → (t : Said) × Tells (before ++ line ∷ lines) t × IsVerdict half expect t answer × (rest ≡ [])
       by (Err cause) is more goes = absurd (not_refused n cause goes)
       by (Ok u) is more goes =
           let on = more u (step_told before s line u tells is) goes in
           (on.0, subst (λ (ls : List Bytes). Tells ls on.0) (append_assoc before (line ∷ []) lines) on.1, on.2, on.3)
 
--- the lines with their newlines, and the rest, are the bytes
-all_of : List Bytes × Bytes → Bytes
-all_of p = joined p.0 ++ p.1
-
-onto_all : (x : ℕ) (p : List Bytes × Bytes) → all_of (onto x p) ≡ x ∷ all_of p
-unfolding all_of
-onto_all x ([], rest) = refl
-onto_all x (line ∷ lines, rest) = refl
-
-cut_all : (bytes : Bytes) → all_of (cut bytes) ≡ bytes
-unfolding cut all_of
-cut_all [] = refl
-cut_all (x ∷ bytes) = by (x == 10) refl (cut_all bytes)
-  where
-    by : (b : Bool) → (x == 10) ≡ b → all_of (cut bytes) ≡ bytes
-        → all_of (if b then ([] ∷ (cut bytes).0, (cut bytes).1) else onto x (cut bytes)) ≡ x ∷ bytes
-    by true is rest = let newline : 10 ≡ x = sym (eqb-true x 10 is) in ap (λ (b : Bytes). 10 ∷ b) rest ∙ ap (λ y. y ∷ bytes) newline
-    by false is rest = onto_all x (cut bytes) ∙ ap (λ (b : Bytes). x ∷ b) rest
-
 pub accepted_told : AcceptedIsLedger
-unfolding all_of
 accepted_told half expect bytes answer is accepted =
     let told = says_told half expect answer accepted 1 [] None (cut bytes).0 (cut bytes).1 refl is in (
       told.0,

@@ -8,10 +8,13 @@ use Rattle.ledger_spec.specs.Bytes.{Bytes, Hash, Half, Items}
 use Rattle.ledger_spec.specs.Forms.{IsItem}
 use Rattle.ledger_spec.specs.Maps.{hash_cmp, IsMap}
 use Rattle.ledger_spec.specs.Tree.{Entry, AreItems}
-use Rattle.plain_audit.specs.declared.answer.Answer.{Answer}
-use Rattle.plain_audit.specs.declared.answer.Answer.TheVariants.{Whole, OtherHash, OtherState, OtherTx, Refused}
-use Rattle.plain_audit.specs.Lines.{Said, header_word, tx_word, items_or_none}
-use Rattle.plain_audit.specs.Answers.{IsVerdict, IsAnswer}
+use Rattle.audit_core.specs.declared.answer.Answer.{Answer}
+use Rattle.audit_core.specs.declared.answer.Answer.TheVariants.{Whole, OtherHash, OtherState, OtherTx, Refused}
+use Rattle.audit_core.specs.Said.{Said, items_or_none}
+use Rattle.audit_core.specs.Verdicts.{IsVerdict, IsAccepted}
+use Rattle.audit_core.specs.Runs.{joined}
+use Rattle.plain_audit.specs.Lines.{header_word, tx_word}
+use Rattle.plain_audit.specs.Answers.{IsAnswer}
 
 -- the text is the key's 64 digits, a space, and the data's digits
 pub record IsItemText (text : Bytes) (e : Entry) : Type 0 where
@@ -54,23 +57,11 @@ pub record Tells (lines : List Bytes) (s : Said) : Type 0 where
   pub rising : IsMap hash_cmp s.items
   pub tx_rising : IsMap hash_cmp (items_or_none s.txs)
 
--- the lines with their newlines
-abbrev pub joined : List Bytes → Bytes
-joined lines = flat_map (λ (line : Bytes). line ++ 10 ∷ []) lines
-
 -- the bytes are the text of this ledger
 pub record IsLedgerText (bytes : Bytes) (s : Said) : Type 0 where
   pub lines : List Bytes
   pub bytes_are : bytes ≡ joined lines
   pub tells : Tells lines s
-
--- no line is refused
-abbrev pub IsAccepted : Answer → Type 0
-IsAccepted (Refused line cause) = ⊥
-IsAccepted (Whole sum) = Unit {0}
-IsAccepted (OtherHash wanted found) = Unit {0}
-IsAccepted (OtherState named found) = Unit {0}
-IsAccepted (OtherTx named found) = Unit {0}
 
 -- where no line is refused the input is a ledger's text, and the answer is the verdict on that ledger
 abbrev pub AcceptedIsLedger : Type 0

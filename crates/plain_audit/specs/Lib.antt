@@ -1,4 +1,4 @@
 pub mod Lines
 pub mod Answers
-pub mod Keeping
 pub mod Ledgers
+pub mod Twins

@@ -3,15 +3,12 @@
 //! whole, something differs from what the header names, or a line is refused. A line at a time is held, and two tables of open nodes.
 #![tactic(auto)]
 
-mod answer;
-mod audit;
-mod cause;
-mod counting;
-mod digits;
 mod laws;
+mod lines;
 mod run;
 
-pub use answer::{Answer, Sum};
-pub use cause::Cause;
-pub use laws::{a_ledgers_text_is_accepted, an_accepted_input_is_a_ledger};
+pub use laws::{
+    a_ledgers_text_is_accepted, an_accepted_input_is_a_ledger,
+    whole_runs_of_one_hash_are_of_one_ledger,
+};
 pub use run::audit_plain;

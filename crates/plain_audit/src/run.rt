@@ -2,15 +2,16 @@
 ghost use Rattle.std.specs.Prelude.{◌≡◌, ◌≤◌, ℕ, Ok, Err, Option, length, IfOk, IfErr, IfSome};
 ghost use Rattle.run_io.specs.Bytes.{Rose};
 ghost use Rattle.ledger_spec.specs.Bytes.{Half};
-ghost use Rattle.plain_audit.specs.declared.cause.Cause.{Cause as AnyCause};
-ghost use Rattle.plain_audit.specs.declared.cause.LineFault.TheVariants as faults;
-ghost use Rattle.plain_audit.specs.Lines.{Said, after_line as said_after};
-ghost use Rattle.plain_audit.specs.Answers.{IsAnswer, Ends};
-ghost use Rattle.plain_audit.specs.Keeping.{Keeps, KeepsSome};
+ghost use Rattle.audit_core.specs.declared.cause.Cause.{Cause as AnyCause};
+ghost use Rattle.audit_core.specs.declared.cause.LineFault.TheVariants as faults;
+ghost use Rattle.audit_core.specs.Said.{Said};
+ghost use Rattle.audit_core.specs.Runs.{Both, Ends};
+ghost use Rattle.audit_core.specs.Keeping.{Keeps};
+ghost use Rattle.plain_audit.specs.Lines.{line_most, after_line as said_after};
+ghost use Rattle.plain_audit.specs.Answers.{IsAnswer, Comes};
 
-use crate::audit::Audit;
-use crate::cause::LineFault;
-use crate::{Answer, Cause};
+use crate::lines::{add, first};
+use audit_core::{Answer, Audit, Cause, LineFault};
 use half_hash::{Hash32, NodeHash};
 use line_feed::{Fed, Feed};
 use run_io::{AllFault, Source};
@@ -63,14 +64,14 @@ fn after_line<H: NodeHash>(
     audit: Option<Audit>,
     line: &[u8],
 ) -> Result<Audit, LineFault>
-    ensures ok { IfOk result (λ after. (s : Option Said) → KeepsSome H.half audit s
+    ensures ok { IfOk result (λ after. (s : Option Said) → Both (Keeps H.half) audit s
         → (t : Said) × (said_after s line.now ≡ Ok t) × Keeps H.half after t) }
-    ensures cause { IfErr result (λ fault. (cause : AnyCause) (s : Option Said) → fault ≡ faults.Cause cause → KeepsSome H.half audit s
+    ensures cause { IfErr result (λ fault. (cause : AnyCause) (s : Option Said) → fault ≡ faults.Cause cause → Both (Keeps H.half) audit s
         → said_after s line.now ≡ Err cause) }
 {
     match audit {
-        None => Audit::first(alloc, line),
-        Some(mut audit) => match audit.add::<H>(alloc, line) {
+        None => first(alloc, line),
+        Some(mut audit) => match add::<H>(&mut audit, alloc, line) {
             Ok(()) => Ok(audit),
             Err(fault) => Err(fault),
         },
@@ -79,7 +80,8 @@ fn after_line<H: NodeHash>(
 
 // The answer where no line is left, behind which these bytes stand.
 fn ended<H: NodeHash>(audit: Option<Audit>, n: u64, rest: &[u8], expect: Option<Hash32>) -> Answer
-    ensures { length rest.now ≤ 2097220 → (s : Option Said) → KeepsSome H.half audit s → Ends H.half expect n s rest.now result }
+    ensures { length rest.now ≤ 2097220 → (s : Option Said) → Both (Keeps H.half) audit s
+        → Ends Answer.Refused line_most said_after (Comes H.half expect) n s rest.now result }
 {
     if !rest.is_empty() {
         return refused(n, Cause::Unended);

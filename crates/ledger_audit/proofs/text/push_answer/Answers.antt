@@ -1,6 +1,6 @@
 use Rattle.std.proofs.Common.{◌≡◌, ◌++◌, OnOk, sym, subst}
 use Rattle.std.specs.String.{string_bytes}
-use Rattle.plain_audit.specs.declared.answer.Answer.{Answer}
+use Rattle.audit_core.specs.declared.answer.Answer.{Answer}
 use Rattle.ledger_audit.specs.Text.{answer_text}
 use Rattle.ledger_audit.proofs.text.push_answer.Goals as goal
 

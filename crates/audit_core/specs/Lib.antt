@@ -1,0 +1,5 @@
+pub mod Said
+pub mod Verdicts
+pub mod Runs
+pub mod Keeping
+pub mod Twins
