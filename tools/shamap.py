@@ -1,5 +1,6 @@
 """The hash tree and the header of a ledger, by dictionaries and nothing of the program, for the tools that make scripts and journals."""
 import hashlib
+import itertools
 
 DROPS = 10**17
 
@@ -44,6 +45,17 @@ class Tree:
         self.forms[half(form)] = form
         return half(form)
 
+    def path(self, key):
+        """The forms of the nodes from the root down to the key, or to where nothing is."""
+        forms, at = [], self.hash
+        while at != bytes(32):
+            forms.append(self.forms[at])
+            if not forms[-1].startswith(b"MIN\0"):
+                break
+            branch = 4 + 32 * nibbles(key)[len(forms) - 1]
+            at = forms[-1][branch : branch + 32]
+        return forms
+
     def missing(self, stored, path):
         """The missing places in the order of the walk."""
         if tuple(path) not in stored:
@@ -54,3 +66,20 @@ class Tree:
 def header(seq, parent, tx_root, state_root, parent_close=0, close=0, resolution=10):
     return (seq.to_bytes(4, "big") + DROPS.to_bytes(8, "big") + parent + tx_root + state_root
             + parent_close.to_bytes(4, "big") + close.to_bytes(4, "big") + bytes([resolution, 0]))
+
+
+def pages(head, items, size):
+    """The documents of a ledger's pages, as rippled answers `ledger_data` with `binary`: the first one has the header, all but the last one a
+    marker."""
+    name, seq = text(half(b"LWR\0" + head)), int.from_bytes(head[:4], "big")
+    items, first = iter(items), True
+    page = list(itertools.islice(items, size))
+    while first or page:
+        state = [{"data": text(data), "index": text(key)} for key, data in page]
+        result = {"ledger_hash": name, "ledger_index": seq, "state": state, "status": "success", "validated": True}
+        if first:
+            result["ledger"] = {"closed": True, "ledger_data": text(head)}
+        last, page, first = page, list(itertools.islice(items, size)), False
+        if page:
+            result["marker"] = text(last[-1][0])
+        yield {"result": result}
