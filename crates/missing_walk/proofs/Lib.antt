@@ -1,6 +1,5 @@
 pub mod Noting
 pub mod LeafForms
-pub mod Parts
 pub mod Walking
 pub mod Ledgers
 pub mod Places

@@ -1,5 +1,5 @@
 -- What a search keeps while it runs, and how a finding changes it.
-use Rattle.std.specs.Prelude.{◌≡◌, ℕ, ◌==◌, ◌≤◌, ◌||◌, Bool, true, false, is_some, nat_le, if◌then◌else◌, List, [], ◌∷◌, ◌++◌, length}
+use Rattle.std.specs.Prelude.{◌≡◌, ℕ, ◌==◌, ◌||◌, Bool, true, false, is_some, nat_le, if◌then◌else◌, List, [], ◌∷◌, ◌++◌, length}
 use Rattle.std.specs.Prelude.{Option}
 use Rattle.std.specs.Prelude.{None, Some, IfSome}
 use Rattle.std.specs.Option.{option_map}
@@ -16,8 +16,6 @@ use Rattle.ledger_spec.specs.Forms.{Held, inner, leaf}
 use Rattle.ledger_spec.specs.Findings.{Sight, missing, broken, sound, walk_map, Finding, lacks, breaks}
 use Rattle.ledger_spec.specs.Findings.{missing_of, first_broken, seen}
 use Rattle.tree_laws.specs.Walks.{finding_of}
-use Rattle.rotating_store.specs.Stores.{Store}
-use Rattle.own_forms.specs.Reading.{WasRead, IsReadable}
 use Rattle.missing_walk.specs.declared.Found.{Found}
 use Rattle.missing_walk.specs.declared.sight.Sight.{Sight as Look}
 use Rattle.missing_walk.specs.declared.sight.Sight.TheVariants as look
@@ -53,13 +51,6 @@ note s f = if is_over s then s else noted s f
 abbrev pub sees : Seen → List Finding → Seen
 sees s [] = s
 sees s (f ∷ rest) = sees (note s f) rest
-
--- a part of the walk: the store was only read, and these findings were noted; no more places are noted than a search may find
-pub record Walks (tells : Bool) (half : Half) (s s' : Store) (f f' : Found) (all : List Finding) : Type 0 where
-  pub read : WasRead tells half s s'
-  pub header : f'.header ≡ f.header
-  pub few : length f.missing ≤ most_missing → length f'.missing ≤ most_missing
-  pub found : IsReadable tells half s → shown f' ≡ sees (shown f) all
 
 -- the header that is stored under the target, its fields read by the definitions
 pub record IsHeaderOf (nodes : Lookup) (target : Hash) (head : Option Header) : Type 0 where

@@ -2,8 +2,8 @@
 //! device failing, and with a dump that is read again.
 use crate::endings::status_of_run;
 use crate::scripts::{
-    AGAIN, AGAIN_SAYS, DUMP, DUMPING, ROTATIONS, ROWS, SMALL, TURNED_TWICE, TURNED_TWICE_SAYS,
-    TURNING, WHOLE, WHOLE_SAYS,
+    AGAIN, AGAIN_SAYS, DUMP, DUMPING, MARKED, ROTATIONS, ROWS, SMALL, TURNED_TWICE,
+    TURNED_TWICE_SAYS, TURNING, WHOLE, WHOLE_SAYS,
 };
 use half_hash::{Blob, Half512, Hash32, Memory, TinyHash};
 use ledger_header::Header;
@@ -19,7 +19,7 @@ use std::thread::Threads;
 
 /// What fails alone, the status that it gives, and how many calls of it two rotations with a dump make: the source, the sink, the shelf,
 /// and the backends in the order in which they are made.
-const DEVICES: [(u8, u64); 7] = [(4, 7), (5, 27), (6, 4), (6, 9), (6, 48), (6, 23), (6, 7)];
+const DEVICES: [(u8, u64); 7] = [(4, 7), (5, 27), (6, 4), (6, 9), (6, 47), (6, 23), (6, 7)];
 
 /// The calls of the shelf in that script: two open the store, and in each rotation one makes a backend and one drops the old one, which may
 /// fail. The status where the call fails, and what is printed of its rotation.
@@ -107,6 +107,32 @@ fn one_failing_call(rt: HostRuntime) -> Result<(), Fail> {
         }
         assert_eq!(rt; failed, *calls, "{device}");
     }
+    Ok(())
+}
+
+/// A check of a ledger whose root was found whole before asks for the header alone, which the first backend that is asked has.
+#[test]
+fn a_check_passes_what_is_marked(rt: HostRuntime) -> Result<(), Fail> {
+    let alloc = rt.alloc();
+    let script = expand(alloc, MARKED)?;
+    let mut asked: u64 = 0;
+    for device in 3..5usize {
+        for call in 1..=MANY_CALLS {
+            let (_, printed) = run_failing(
+                &rt,
+                alloc,
+                &["replay"],
+                script.as_slice(),
+                device,
+                call,
+            )?;
+            let text = str::from_utf8(printed.as_slice()).or(Err("text"))?;
+            if text.contains("12 0 check fault") {
+                asked = asked.saturating_add(1);
+            }
+        }
+    }
+    assert_eq!(rt; asked, 1);
     Ok(())
 }
 

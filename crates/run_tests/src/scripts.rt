@@ -2,8 +2,9 @@
 
 /// A script, the status, and the journal, in short: `[xx]` is the byte xx and 31 zero bytes, `_` is 32
 /// zero bytes, `@` the header of ledger 10, and `#` the root of its state map.
-pub(crate) const ROWS: [(&str, u8, &str); 22] = [
+pub(crate) const ROWS: [(&str, u8, &str); 23] = [
     (WHOLE, 0, WHOLE_SAYS),
+    (MARKED, 0, MARKED_SAYS),
     (SMALL, 0, WHOLE_SAYS),
     (COMPRESSED, 0, COMPRESSED_SAYS),
     (TX, 0, TX_SAYS),
@@ -63,6 +64,36 @@ end complete 1 closed 0 listed 1 floor 0 last 10 epoch 0
 ";
 
 /// The same, with a root in the form of its branches alone.
+/// Ledger 20 has the same account state as ledger 10.
+pub(crate) const MARKED: &str = "0 want [DD] 10
+0 peer 5 [DD]
+0 check [DD]
+0 base 5 [DD] @ #
+0 check [DD]
+0 node 5 [DD] state [10]01 0102[10]01
+0 node 5 [DD] state [10]01 0102[10]01
+0 check [DD]
+0 want [E7] 20
+0 peer 5 [E7]
+0 base 5 [E7] 000000140000000000000000__[DE]00000000000000000000
+0 check [E7]
+";
+
+const MARKED_SAYS: &str = "1 0 want opened
+2 0 peer added
+3 0 check need 5 header
+4 0 base good / good
+5 0 check need 5 state:[10]01
+6 0 node good
+7 0 node duplicate
+8 0 check complete
+9 0 want opened
+10 0 peer added
+11 0 base good
+12 0 check complete
+end complete 2 closed 0 listed 2 floor 0 last 10 epoch 0
+";
+
 pub(crate) const SMALL: &str = "0 want [DD] 10
 0 peer 5 [DD]
 0 check [DD]

@@ -13,6 +13,7 @@ pub mod Numbering
 pub mod Dumps
 pub mod Following
 pub mod Copies
+pub mod Checks
 pub mod Viewing
 pub mod Paging
 pub mod Charging

@@ -59,7 +59,7 @@ no_root s v kind none = sym (ap (option_and_then (λ x. option_map (header_root 
 
 -- what the commands act on, after the store was read
 abbrev pub read_desk : Desk → Store → Desk
-read_desk d st = record d { state = over st d.state; faults = st.faults; written = st.writable; archived = st.archive }
+read_desk d st = record d { state = over st d.state; faults = st.faults; gets = st.gets; written = st.writable; archived = st.archive }
 
 -- what only read the store left the state
 pub only_reads : (tells : Bool) (half : Half) (d0 d : Desk) (st st' : Store) → d0 ≡ d → backs d0 ≡ backs_of st → IsOver st d.state

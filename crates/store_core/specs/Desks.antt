@@ -10,11 +10,12 @@ use Rattle.ledger_machine.specs.State.{State, form_in}
 use Rattle.rotating_store.specs.Stores.{Store, nodes_of, born_of}
 use Rattle.online_rotate.specs.Rotators.{Turning}
 
--- a state, how often the devices of its store failed, how many slices of the rotation under way left something to copy, the hashes that
--- its walk has still to take, and what the writable backend and the archive hold
+-- a state, how often the devices of its store failed and how often they were asked, how many slices of the rotation under way left
+-- something to copy, the hashes that its walk has still to take, and what the writable backend and the archive hold
 pub record Desk : Type 0 where
   pub state : State
   pub faults : ℕ
+  pub gets : ℕ
   pub slices : ℕ
   pub grey : List Hash
   pub written : Nodes
@@ -55,6 +56,7 @@ abbrev pub desk_of : Store → ForHash Acquiring → ForActor Hash → Retention
 desk_of st wanted views b r = record {
   state = state_of st wanted views b r;
   faults = st.faults;
+  gets = st.gets;
   slices = r.slices;
   grey = r.walk.grey;
   written = st.writable;

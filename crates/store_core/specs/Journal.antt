@@ -24,22 +24,26 @@ use Rattle.ledger_machine.specs.Swaps.{AllSwapsKeep}
 use Rattle.ledger_machine.specs.Throughout.{AreInOrder}
 use Rattle.run_io.specs.Bytes.{Rose}
 use Rattle.script_form.specs.Servable.{AreServable}
+use Rattle.full_below.specs.declared.marks.Marks.{Marks}
+use Rattle.store_core.specs.Checking.{SearchesBy}
 use Rattle.store_core.specs.Desks.{KeepsRest}
 use Rattle.store_core.specs.Refusals.{IsRefusal}
 use Rattle.store_core.specs.Telling.{AreTold, most_slices, most_copied}
 
--- what contracts see of a core: its script's records and lines, the interval, the store's count of faults at opening and now, how many
--- slices of the rotation under way left something to copy, what the writable backend and the archive hold, how many calls for a stored
--- record failed, the journal, and the state
+-- what contracts see of a core: its script's records and lines, the interval, the store's count of faults at opening and now and its count
+-- of gets, how many slices of the rotation under way left something to copy, what the writable backend and the archive hold, the marks of
+-- what was found whole, how many calls for a stored record failed, the journal, and the state
 pub record CoreView : Type 0 where
   pub records : List Record
   pub lines : List Line
   pub interval : ℕ
   pub opened : ℕ
   pub faults : ℕ
+  pub gets : ℕ
   pub slices : ℕ
   pub written : Nodes
   pub archived : Nodes
+  pub marks : Marks
   pub missed : ℕ
   pub journal : List Entry
   pub state : State
@@ -111,6 +115,8 @@ pub record Advances (half : Half) (told : Bool) (old : CoreView) (a : ℕ) (new 
   pub refused : IsRefusal entry.reply → KeepsRest old.state new.state
   -- where the store tells what it holds, the state is what a step of that line leaves
   pub step : IsTrue told → Answers half old.lines old.state entry new.state
+  -- and a check passes what is marked, and leaves the roots of a ledger without findings marked
+  pub search : IsTrue told → SearchesBy half old.state line.command entry.reply old.marks old.gets new.marks new.gets
 
 -- A slice of the actor's next line, a swap, that left something to copy: it is counted, and there are at most 64 of a rotation. No entry
 -- is recorded, and the state is as it was; where the store doesn't tell what it holds, but for what is stored and what was told.
@@ -125,6 +131,7 @@ pub record Slices (told : Bool) (old : CoreView) (a : ℕ) (new : CoreView) : Ty
   pub still : KeepsRest old.state new.state
   pub rest : new ≡ record old {
     faults = new.faults;
+    gets = new.gets;
     slices = new.slices;
     written = new.written;
     archived = new.archived;

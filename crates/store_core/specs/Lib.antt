@@ -1,4 +1,5 @@
 pub mod Desks
+pub mod Checking
 pub mod Wanting
 pub mod Refusals
 pub mod Heeds

@@ -8,6 +8,7 @@ ghost use Rattle.ledger_spec.specs.Maps.{hash_cmp, get_in};
 ghost use Rattle.ledger_spec.specs.Acquiring.{after_verdict};
 ghost use Rattle.acquire_core.specs.Replies.{found_verdict};
 ghost use Rattle.missing_walk.specs.Founds.{IsFound};
+ghost use Rattle.store_core.specs.Checking.{AreKept, Shares};
 ghost use Rattle.ledger_machine.specs.Scripts.{AreBytes, AreOffered};
 ghost use Rattle.ledger_machine.specs.State.{stored_seq, with_wanted, ended};
 ghost use Rattle.ledger_machine.specs.Want.{want_reply, after_want};
@@ -18,7 +19,7 @@ ghost use Rattle.ledger_machine.specs.Rotation.{Tells};
 ghost use Rattle.ledger_machine.specs.Steps.{IsAfter};
 ghost use Rattle.ledger_machine.specs.Steps.{Does};
 ghost use Rattle.store_core.specs.Desks.{backs, IsFiled, Stays, Grows, KeepsRest};
-ghost use Rattle.store_core.specs.Refusals.{IsRefusal};
+ghost use Rattle.store_core.specs.Refusals.{IsRefusal, search_reply};
 ghost use Rattle.store_core.specs.Telling.{Hears, TellsRoot, AreWantedTold};
 ghost use Rattle.store_core.specs.Wanting.{judged_by, found_seq as seq_found, settled, told_at};
 
@@ -30,7 +31,8 @@ use half_hash::{Blob, Hash32, Memory, NodeHash, known_half};
 use ledger_machine::{
     BaseReply, CheckReply, Command, NodeReply, PeerReply, Reply, TickReply, WantReply,
 };
-use missing_walk::{Found, SearchFault, whole};
+use ledger_searches::Searches;
+use missing_walk::{Found, SearchFault};
 use nib_path::NodeId;
 use node_backend::Shelf;
 use shamap_node::Kind;
@@ -198,13 +200,15 @@ impl<H: NodeHash, Sh: Shelf> Machine<H, Sh> {
         node_answer(taken)
     }
 
-    /// Searches for what is missing of a ledger, and lists it where nothing is and it is acceptable.
+    /// Searches for what is missing of a ledger, passing what is marked, and lists it where nothing is and it is acceptable.
     pub(crate) fn check(
         &mut self,
         alloc: Global,
+        searches: &mut Searches,
         target: &Hash32,
     ) -> Result<CheckReply, SearchFault>
-        requires { IsFiled H.half Sh.B.tells self.old.state }
+        requires filed { IsFiled H.half Sh.B.tells self.old.state }
+        requires searches { AreKept H.half Sh.B.tells self.old.state searches.old }
         ensures reply { IsTrue Sh.B.tells → IfOk result (λ r. r ≡ check_reply H.half self.old.state target.now) }
         ensures after { IsTrue Sh.B.tells
             → IfOk result (λ r. IsAfter (after_check self.old.state target.now (stored_seq self.old.state target.now) r) self.new.state) }
@@ -214,12 +218,14 @@ impl<H: NodeHash, Sh: Shelf> Machine<H, Sh> {
         ensures grows { Grows self.old self.new }
         ensures slices { self.new.slices ≤ self.old.slices }
         ensures copies { IsTrue Sh.B.tells → backs self.new ≡ backs self.old }
+        ensures shares { Shares H.half Sh.B.tells self.old.state (Command.Check target.now) (search_reply result) searches.old self.old.gets
+            searches.new self.new.gets }
         ensures fault { IfErr result (λ e. e ≡ SearchFault.Fault → Rose self.old.faults self.new.faults) }
     {
         if !self.wanted.contains_key(target) {
             return Ok(CheckReply::NotOpen);
         }
-        let found = whole::<H, Sh>(alloc, &mut self.store, target)?;
+        let found = searches.look::<H, Sh>(alloc, &mut self.store, target)?;
         let reply = self.judge(alloc, target, &found)?;
         self.settle(target, found_seq(&found), &reply)?;
         Ok(check_told(reply))
@@ -234,6 +240,7 @@ impl<H: NodeHash, Sh: Shelf> Machine<H, Sh> {
         ensures err { OnErr result (self.new ≡ self.old) }
         ensures told { self.new.state.shaded ≡ self.old.state.shaded }
         ensures stays { Stays self.old self.new }
+        ensures gets { self.new.gets ≡ self.old.gets }
         ensures copies { IsTrue Sh.B.tells → backs self.new ≡ backs self.old }
     {
         let floor = self.book.floor();
@@ -251,6 +258,7 @@ impl<H: NodeHash, Sh: Shelf> Machine<H, Sh> {
         ensures err { OnErr result ((reply.now ≡ Checked.Complete) × IsAfter self.old.state self.new.state) }
         ensures hears { Hears self.old.state.shaded (told_at target.now reply.now) self.new.state.shaded }
         ensures faults { self.new.faults ≡ self.old.faults }
+        ensures gets { self.new.gets ≡ self.old.gets }
         ensures epoch { self.new.state.epoch ≡ self.old.state.epoch }
         ensures slices { self.new.slices ≤ self.old.slices }
         ensures copies { IsTrue Sh.B.tells → backs self.new ≡ backs self.old }
@@ -272,6 +280,7 @@ impl<H: NodeHash, Sh: Shelf> Machine<H, Sh> {
         ensures err { OnErr result (IsAfter self.old.state self.new.state) }
         ensures hears { Hears self.old.state.shaded (target.now ∷ []) self.new.state.shaded }
         ensures faults { self.new.faults ≡ self.old.faults }
+        ensures gets { self.new.gets ≡ self.old.gets }
         ensures epoch { self.new.state.epoch ≡ self.old.state.epoch }
         ensures slices { self.new.slices ≤ self.old.slices }
         ensures copies { IsTrue Sh.B.tells → backs self.new ≡ backs self.old }
@@ -291,6 +300,7 @@ impl<H: NodeHash, Sh: Shelf> Machine<H, Sh> {
         ensures err { OnErr result (self.new ≡ self.old) }
         ensures told { self.new.state.shaded ≡ self.old.state.shaded }
         ensures faults { self.new.faults ≡ self.old.faults }
+        ensures gets { self.new.gets ≡ self.old.gets }
         ensures epoch { self.new.state.epoch ≡ self.old.state.epoch }
         ensures slices { self.new.slices ≤ self.old.slices }
         ensures copies { IsTrue Sh.B.tells → backs self.new ≡ backs self.old }
@@ -305,6 +315,7 @@ impl<H: NodeHash, Sh: Shelf> Machine<H, Sh> {
         ensures after { self.new.state ≡ ended self.old.state target.now }
         ensures told { self.new.state.shaded ≡ self.old.state.shaded }
         ensures faults { self.new.faults ≡ self.old.faults }
+        ensures gets { self.new.gets ≡ self.old.gets }
         ensures epoch { self.new.state.epoch ≡ self.old.state.epoch }
         ensures slices { self.new.slices ≤ self.old.slices }
         ensures copies { IsTrue Sh.B.tells → backs self.new ≡ backs self.old }

@@ -12,6 +12,7 @@ ghost use Rattle.ledger_machine.specs.Steps.{Step, own_hashes};
 ghost use Rattle.ledger_machine.specs.Steps.{Does};
 ghost use Rattle.ledger_machine.specs.Views.{is_retained as state_retains, view_reply, after_view};
 ghost use Rattle.store_core.specs.Benches.{IsOfSessions};
+ghost use Rattle.store_core.specs.Checking.{AreKept, Shares};
 ghost use Rattle.store_core.specs.Desks.{backs, IsFiled, Stays, Grows, KeepsRest, OnlyReads, over};
 ghost use Rattle.store_core.specs.Dumping.{IsNextRecord, Follows};
 ghost use Rattle.store_core.specs.Refusals.{IsRefusal};
@@ -23,6 +24,7 @@ use edit_session::a_session_stays_over_its_ledger;
 use half_hash::{Hash32, Memory, NodeHash};
 use ledger_laws::{a_row_is_one_beside_any_sessions, a_step_carries_what_was_told};
 use ledger_machine::{Command, Record, Reply, ViewReply};
+use ledger_searches::Searches;
 use node_backend::{BackFault, Shelf};
 use online_rotate::Left;
 use open_sessions::Open;
@@ -119,6 +121,7 @@ impl<H: NodeHash, Sh: Shelf> Bench<H, Sh> {
     pub(crate) fn answer(
         &mut self,
         alloc: Global,
+        searches: &mut Searches,
         actor: u8,
         command: &Command,
     ) -> (Reply, Vec<Arc<Node>>)
@@ -126,8 +129,11 @@ impl<H: NodeHash, Sh: Shelf> Bench<H, Sh> {
         requires sound { IsTrue Sh.B.tells → Sound H.half self.old.state }
         requires told { IsTrue Sh.B.tells → AreTold self.old.state }
         requires room { self.old.state.epoch < 2 ^ 64 - 1 }
+        requires searches { AreKept H.half Sh.B.tells self.old.state searches.old }
         ensures step { IsTrue Sh.B.tells
             → Step H.half self.old.state actor command.now result.0 (map (λ a. held a.value) result.1.items) self.new.state }
+        ensures shares { Shares H.half Sh.B.tells self.old.state command.now result.0 searches.old self.old.gets
+            searches.new self.new.gets }
         ensures told { IsTrue Sh.B.tells → AreTold self.new.state }
         ensures refused { IsRefusal result.0 → KeepsRest self.old.state self.new.state }
         ensures grows { Grows self.old self.new }
@@ -136,13 +142,14 @@ impl<H: NodeHash, Sh: Shelf> Bench<H, Sh> {
         ensures fault { result.0 ≡ Reply.Fault → Rose self.old.faults self.new.faults }
     {
         a_step_carries_what_was_told();
-        self.serve(alloc, actor, command)
+        self.serve(alloc, searches, actor, command)
     }
 
     /// One section of a command: the reply, and the nodes that it used; or none where a slice of a swap left something to copy.
     pub(crate) fn section(
         &mut self,
         alloc: Global,
+        searches: &mut Searches,
         actor: u8,
         command: &Command,
         part: Part,
@@ -151,8 +158,12 @@ impl<H: NodeHash, Sh: Shelf> Bench<H, Sh> {
         requires sound { IsTrue Sh.B.tells → Sound H.half self.old.state }
         requires told { IsTrue Sh.B.tells → AreTold self.old.state }
         requires room { self.old.state.epoch < 2 ^ 64 - 1 }
+        requires searches { AreKept H.half Sh.B.tells self.old.state searches.old }
         ensures step { IsTrue Sh.B.tells → IfSome result (λ r.
             Step H.half self.old.state actor command.now r.0 (map (λ a. held a.value) r.1.items) self.new.state) }
+        ensures shares { IfSome result (λ r.
+            Shares H.half Sh.B.tells self.old.state command.now r.0 searches.old self.old.gets searches.new self.new.gets) }
+        ensures unsearched { IsNone result → searches.new ≡ searches.old }
         ensures told { IsTrue Sh.B.tells → AreTold self.new.state }
         ensures refused { IfSome result (λ r. IsRefusal r.0 → KeepsRest self.old.state self.new.state) }
         ensures grows { Grows self.old self.new }
@@ -167,19 +178,28 @@ impl<H: NodeHash, Sh: Shelf> Bench<H, Sh> {
         self.machine.known();
         match self.slice_first(alloc, command, part) {
             Ok(Left::More) => None,
-            Ok(Left::Done) => Some(self.answer(alloc, actor, command)),
+            Ok(Left::Done) => Some(self.answer(alloc, searches, actor, command)),
             Err(fault) => Some((unread(fault), Vec::new(alloc))),
         }
     }
 
     // What a command does, and what it carries of the rotation under way.
-    fn serve(&mut self, alloc: Global, actor: u8, command: &Command) -> (Reply, Vec<Arc<Node>>)
+    fn serve(
+        &mut self,
+        alloc: Global,
+        searches: &mut Searches,
+        actor: u8,
+        command: &Command,
+    ) -> (Reply, Vec<Arc<Node>>)
         requires in_range { IsInRange command.now }
         requires sound { IsTrue Sh.B.tells → Sound H.half self.old.state }
         requires told { IsTrue Sh.B.tells → AreTold self.old.state }
         requires room { self.old.state.epoch < 2 ^ 64 - 1 }
+        requires searches { AreKept H.half Sh.B.tells self.old.state searches.old }
         ensures does { IsTrue Sh.B.tells
             → Does H.half self.old.state actor command.now result.0 (map (λ a. held a.value) result.1.items) self.new.state }
+        ensures shares { Shares H.half Sh.B.tells self.old.state command.now result.0 searches.old self.old.gets
+            searches.new self.new.gets }
         ensures carries { IsTrue Sh.B.tells
             → AreTold self.new.state × Carried H.half self.old.state actor command.now result.0 self.new.state }
         ensures refused { IsRefusal result.0 → KeepsRest self.old.state self.new.state }
@@ -199,7 +219,7 @@ impl<H: NodeHash, Sh: Shelf> Bench<H, Sh> {
             Command::Begin | Command::Swap => {
                 (self.rotate(alloc, actor, command), Vec::new(alloc))
             }
-            _ => self.beside(alloc, actor, command),
+            _ => self.beside(alloc, searches, actor, command),
         }
     }
 
@@ -265,13 +285,22 @@ impl<H: NodeHash, Sh: Shelf> Bench<H, Sh> {
     }
 
     // What a command does that names no session and sees none, and what it carries of the rotation under way.
-    fn beside(&mut self, alloc: Global, actor: u8, command: &Command) -> (Reply, Vec<Arc<Node>>)
+    fn beside(
+        &mut self,
+        alloc: Global,
+        searches: &mut Searches,
+        actor: u8,
+        command: &Command,
+    ) -> (Reply, Vec<Arc<Node>>)
         requires beside { IsBeside command.now }
         requires in_range { IsInRange command.now }
         requires filed { IsFiled H.half Sh.B.tells self.old.state }
         requires told { IsTrue Sh.B.tells → AreTold self.old.state }
+        requires searches { AreKept H.half Sh.B.tells self.old.state searches.old }
         ensures does { IsTrue Sh.B.tells
             → Does H.half self.old.state actor command.now result.0 (map (λ a. held a.value) result.1.items) self.new.state }
+        ensures shares { Shares H.half Sh.B.tells self.old.state command.now result.0 searches.old self.old.gets
+            searches.new self.new.gets }
         ensures carries { IsTrue Sh.B.tells
             → AreTold self.new.state × Carried H.half self.old.state actor command.now result.0 self.new.state }
         ensures refused { IsRefusal result.0 → KeepsRest self.old.state self.new.state }
@@ -282,7 +311,7 @@ impl<H: NodeHash, Sh: Shelf> Bench<H, Sh> {
     {
         a_session_stays_over_its_ledger();
         a_row_is_one_beside_any_sessions();
-        let answered = self.machine.answer(alloc, actor, command);
+        let answered = self.machine.answer(alloc, searches, actor, command);
         self.machine.known();
         answered
     }

@@ -10,6 +10,7 @@ ghost use Rattle.ledger_machine.specs.State.{opening};
 ghost use Rattle.ledger_machine.specs.Steps.{own_hashes};
 ghost use Rattle.ledger_machine.specs.Steps.{Does};
 ghost use Rattle.rotating_store.specs.Stores.{merged};
+ghost use Rattle.store_core.specs.Checking.{AreKept, Shares};
 ghost use Rattle.store_core.specs.Desks.{backs, IsFiled, Grows, KeepsRest, OnlyReads, over};
 ghost use Rattle.store_core.specs.Dumping.{IsNextRecord, Follows};
 ghost use Rattle.store_core.specs.Reads.{ReadsNothing};
@@ -21,6 +22,7 @@ use crate::told::unsearched;
 use acquire_core::Acquire;
 use half_hash::{Hash32, NodeHash};
 use ledger_machine::{Command, Record, Reply};
+use ledger_searches::Searches;
 use node_backend::{BackFault, Shelf};
 use online_rotate::Rotator;
 use retain_book::Book;
@@ -132,9 +134,11 @@ impl<H: NodeHash, Sh: Shelf> Machine<H, Sh> {
     }
 
     /// What a command does that names no session and sees none: the reply, and the nodes that it used.
+    #[tactic(auto, using(crate::proofs::Checks::no_check_as))]
     pub(crate) fn answer(
         &mut self,
         alloc: Global,
+        searches: &mut Searches,
         actor: u8,
         command: &Command,
     ) -> (Reply, Vec<Arc<Node>>)
@@ -142,8 +146,11 @@ impl<H: NodeHash, Sh: Shelf> Machine<H, Sh> {
         requires in_range { IsInRange command.now }
         requires filed { IsFiled H.half Sh.B.tells self.old.state }
         requires told { IsTrue Sh.B.tells → AreWantedTold self.old.state }
+        requires searches { AreKept H.half Sh.B.tells self.old.state searches.old }
         ensures does { IsTrue Sh.B.tells
             → Does H.half self.old.state actor command.now result.0 (map (λ a. held a.value) result.1.items) self.new.state }
+        ensures shares { Shares H.half Sh.B.tells self.old.state command.now result.0 searches.old self.old.gets
+            searches.new self.new.gets }
         ensures tells { Tells self.old.state self.new.state (own_hashes H.half self.old.state actor command.now result.0) }
         ensures names { TellsRoot self.old.state command.now result.0 self.new.state }
         ensures refused { IsRefusal result.0 → KeepsRest self.old.state self.new.state }
@@ -166,18 +173,22 @@ impl<H: NodeHash, Sh: Shelf> Machine<H, Sh> {
                 Ok(paged) => (Reply::Page(paged.reply), paged.used),
                 Err(fault) => (unread(fault), Vec::new(alloc)),
             },
-            _ => (self.act(alloc, actor, command), Vec::new(alloc)),
+            _ => (self.act(alloc, searches, actor, command), Vec::new(alloc)),
         }
     }
 
     /// The same of a command that reads nothing.
-    fn act(&mut self, alloc: Global, actor: u8, command: &Command) -> Reply
+    #[tactic(auto, using(crate::proofs::Checks::no_check_as))]
+    fn act(&mut self, alloc: Global, searches: &mut Searches, actor: u8, command: &Command) -> Reply
         requires beside { IsBeside command.now }
         requires reads_nothing { ReadsNothing command.now }
         requires in_range { IsInRange command.now }
         requires filed { IsFiled H.half Sh.B.tells self.old.state }
         requires told { IsTrue Sh.B.tells → AreWantedTold self.old.state }
+        requires searches { AreKept H.half Sh.B.tells self.old.state searches.old }
         ensures does { IsTrue Sh.B.tells → Does H.half self.old.state actor command.now result [] self.new.state }
+        ensures shares { Shares H.half Sh.B.tells self.old.state command.now result searches.old self.old.gets
+            searches.new self.new.gets }
         ensures tells { Tells self.old.state self.new.state (own_hashes H.half self.old.state actor command.now result) }
         ensures names { TellsRoot self.old.state command.now result self.new.state }
         ensures refused { IsRefusal result → KeepsRest self.old.state self.new.state }
@@ -209,7 +220,7 @@ impl<H: NodeHash, Sh: Shelf> Machine<H, Sh> {
                 id,
                 blob,
             } => self.node(alloc, *peer, target, *kind, id, blob),
-            Command::Check { target } => match self.check(alloc, target) {
+            Command::Check { target } => match self.check(alloc, searches, target) {
                 Ok(reply) => Reply::Check(reply),
                 Err(fault) => unsearched(fault),
             },

@@ -52,6 +52,7 @@ impl<H: NodeHash, Sh: Shelf> Machine<H, Sh> {
         ensures stays { Stays self.old self.new }
         ensures copies { IsTrue Sh.B.tells → backs self.new ≡ backs self.old }
         ensures faults { self.new.faults ≡ self.old.faults }
+        ensures gets { self.new.gets ≡ self.old.gets }
     {
         self.rotator.shade(h)?;
         Ok(())

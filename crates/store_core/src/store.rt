@@ -1,11 +1,13 @@
 //! The core: a script, the journal of what was answered, and the state after it.
-ghost use Rattle.std.specs.Prelude.{◌≡◌, ◌≢◌, ◌⊎◌, ◌↔◌, ◌<◌, ◌≤◌, ◌^◌, [], ℕ, true, IsTrue, IfOk, length, count_by};
+ghost use Rattle.std.specs.Prelude.{◌≡◌, ◌≢◌, ◌⊎◌, ◌↔◌, ◌+◌, ◌<◌, ◌≤◌, ◌^◌, [], ℕ, true, IsTrue, IfOk, length, count_by};
 ghost use Rattle.std.specs.Prelude.{IfErr, IfSome, MatchOption, drop, take};
 ghost use Rattle.std.specs.Option.{option_copied};
 ghost use Rattle.ledger_machine.specs.Scripts.{Rises, line_of, numbers_of};
 ghost use Rattle.ledger_machine.specs.Runs.{IsDone, IsBlocked, is_answered as answered, opening_of};
 ghost use Rattle.ledger_machine.specs.Records.{AreRecords};
 ghost use Rattle.script_form.specs.Servable.{AreServable};
+ghost use Rattle.store_core.specs.Checking.{TurnsBy};
+ghost use Rattle.ledger_searches.specs.Sharing.{IsPaired};
 ghost use Rattle.store_core.specs.Journal.{Advances, Slices, CopiesFew, IsJournal, IsNew, IsNext, AllBefore, AllFrom};
 ghost use Rattle.run_io.specs.Bytes.{Rose};
 ghost use Rattle.rotating_store.specs.Stores.{Store, nodes_of};
@@ -16,7 +18,10 @@ use crate::bench::Bench;
 use crate::records::put_records;
 use crate::rotating::Part;
 use half_hash::{Hash32, NodeHash, known_half};
-use ledger_machine::{CheckReply, CloseReply, Entry, Line, Record, Reply, Script, Totals};
+use ledger_machine::{
+    CheckReply, CloseReply, Entry, Line, Record, Reply, Script, SwapReply, Totals,
+};
+use ledger_searches::Searches;
 use node_backend::{BackFault, Shelf};
 use rotating_store::{RotStore, Unopened};
 use std::alloc::Global;
@@ -59,12 +64,15 @@ pub struct Core<H: NodeHash, Sh: Shelf> {
     cursors: Vec<usize>,
     journal: Vec<Entry>,
     bench: Bench<H, Sh>,
+    /// What searches share, turned where a swap may have lost what it is true of.
+    searches: Searches,
 }
 
 impl<H: NodeHash, Sh: Shelf> Model for Core<H, Sh> {
     ghost use Rattle.std.specs.Prelude.{vec_capacity};
     ghost use Rattle.std.specs.Coded.{codes};
     ghost use Rattle.ledger_spec.specs.Maps.{map_code, set_code};
+    ghost use Rattle.store_core.specs.Checking.{KeepsSearches};
     ghost use Rattle.store_core.specs.Journal.{CoreView, CoreKeeps};
 
     ghost Value = { CoreView };
@@ -77,16 +85,19 @@ impl<H: NodeHash, Sh: Shelf> Model for Core<H, Sh> {
       interval = c.interval;
       opened = c.opened;
       faults = c.bench.faults;
+      gets = c.bench.gets;
       slices = c.bench.slices;
       written = c.bench.written;
       archived = c.bench.archived;
+      marks = c.searches.marks;
       missed = c.missed;
       journal = c.journal.items;
       state = c.bench.state;
     } };
 
     ghost invariant = { λ c. CoreKeeps H.half c.script.records.items c.script.lines.items c.cursors.items c.journal.items
-        (vec_capacity c.journal) c.interval Sh.B.tells c.opened c.bench.faults c.missed c.bench.state };
+        (vec_capacity c.journal) c.interval Sh.B.tells c.opened c.bench.faults c.missed c.bench.state
+        × KeepsSearches H.half Sh.B.tells c.bench.state c.journal.items c.searches };
 }
 
 impl<H: NodeHash, Sh: Shelf> Core<H, Sh> {
@@ -125,6 +136,10 @@ impl<H: NodeHash, Sh: Shelf> Core<H, Sh> {
         let Ok(journal) = Vec::with_capacity(alloc, script.lines.len()) else {
             return Err(Unopened::Memory);
         };
+        let Ok(searches) = Searches::new(alloc) else {
+            return Err(Unopened::Memory);
+        };
+        let bench = Bench::new(alloc, hash, interval, store);
         Ok(Core {
             script,
             interval,
@@ -132,7 +147,8 @@ impl<H: NodeHash, Sh: Shelf> Core<H, Sh> {
             missed: 0,
             cursors,
             journal,
-            bench: Bench::new(alloc, hash, interval, store),
+            bench,
+            searches,
         })
     }
 
@@ -190,10 +206,14 @@ impl<H: NodeHash, Sh: Shelf> Core<H, Sh> {
             return Stepped::Blocked;
         }
         let line = &self.script.lines[at];
-        let Some((reply, used)) = self.bench.section(alloc, actor, &line.command, part) else {
+        let Some((reply, used)) = self
+            .bench
+            .section(alloc, &mut self.searches, actor, &line.command, part)
+        else {
             self.cursors[actor as usize] = at;
             return Stepped::More;
         };
+        turn_behind(&mut self.searches, &reply);
         let entry = Entry {
             line: line.number,
             actor,
@@ -300,6 +320,17 @@ impl<H: NodeHash, Sh: Shelf> Core<H, Sh> {
             last: self.bench.last(),
             epoch: self.bench.epoch(),
         }
+    }
+}
+
+// Behind a swap, which may have lost what is marked or cached, the next generation begins.
+fn turn_behind(searches: &mut Searches, reply: &Reply)
+    requires paired { IsPaired searches.old }
+    requires room { searches.old.marks.generation + 1 < 2 ^ 64 }
+    ensures { TurnsBy reply.now searches.old searches.new }
+{
+    if let Reply::Swap(SwapReply::Swapped(_)) = reply {
+        searches.turn();
     }
 }
 

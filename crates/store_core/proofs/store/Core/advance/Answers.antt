@@ -1,6 +1,6 @@
 use Rattle.std.specs.Prelude.{slice_index}
 use Rattle.ledger_machine.specs.Scripts.{numbers_of}
-use Rattle.std.proofs.Common.{◌≡◌, ◌≢◌, inl, inr, ⊎_elim, ℕ, true, take, length, refl, sym, ◌∙◌, ap, arith, length-append}
+use Rattle.std.proofs.Common.{◌≡◌, ◌≢◌, [], inl, inr, ⊎_elim, ℕ, true, take, length, refl, sym, ◌∙◌, ap, arith, length-append}
 use Rattle.std.proofs.lemmas.Bool.{false≢true}
 use Rattle.ledger_machine.specs.declared.commands.Line.{Line}
 use Rattle.ledger_machine.specs.Runs.{is_answered}
@@ -9,6 +9,10 @@ use Rattle.store_core.proofs.Journals.{kept_few, kept_less, kept_next, kept_move
 use Rattle.store_core.proofs.Journals.{kept_in_range, moved, moved_end, pushed, answers}
 use Rattle.store_core.proofs.Waiting.{done_free, next_left, blocked_by, blocked_at, same_line}
 use Rattle.store_core.proofs.Sections.{core_same}
+use Rattle.ledger_searches.specs.declared.searches.Searches.{Searches}
+use Rattle.full_below.specs.declared.marks.Marks.{Marks}
+use Rattle.store_core.specs.Journal.{CoreView}
+use Rattle.store_core.proofs.Checks.{keeps_on, keeps_same, search_on}
 use Rattle.store_core.proofs.store.Core.advance.Goals as goal
 use Rattle.store_core.proofs.store.Core.advance.Goals.{else-after-ne0-via-then-after-ne0+else-not-is_answered}
 use Rattle.store_core.proofs.store.Core.advance.Goals.{else-after-ne0-via-else-after-ne0}
@@ -16,7 +20,7 @@ use Rattle.store_core.proofs.store.Core.advance.Goals.{else-after-ne0-via-else-a
 -- the actor has no line from its cursor on, and those before it are answered, so it is done
 pub returns-in_default-clause-finished : goal.returns-in_default-clause-finished
 returns-in_default-clause-finished g c =
-    let k = c.self.invariant in (
+    let k = c.self.invariant.0 in (
       (λ _. rw (← c.self.view_is)
           (kept_done _ _ _ _ _ _ _ _ _ _ _ _ k c.args.actor (omega (arith, k.cursor_count, c.len.ensures, c.if-actor-len.false))
           (moved_end c.self.inside.cursors.items c.deref.ensures.value c.index-from.ensures c.self.inside.cursors.ok.0 c.len.ensures
@@ -31,21 +35,21 @@ returns-in_default-clause-blocked g c =
 -- each line of the script is in range, so the one that was found is
 pub section-requires-clause-in_range : goal.section-requires-clause-in_range
 section-requires-clause-in_range g c _ _ =
-    let k = c.self.invariant in
+    let k = c.self.invariant.0 in
     let next = moved c.self.inside.cursors.items c.deref.ensures.value c.index-from.ensures
     c.self.inside.cursors.ok.0 c.len.ensures c.if-actor-len.false c.in-Some.ensures in
     kept_in_range _ _ _ _ _ _ _ _ _ _ _ _ k _ next.within c.index-line.result.now c.index-line.ensures
 
 pub section-requires-clause-sound : goal.section-requires-clause-sound
-section-requires-clause-sound g c _ _ = c.self.invariant.sound
+section-requires-clause-sound g c _ _ = c.self.invariant.0.sound
 
 pub section-requires-clause-told : goal.section-requires-clause-told
-section-requires-clause-told g c _ _ = c.self.invariant.roots
+section-requires-clause-told g c _ _ = c.self.invariant.0.roots
 
 -- no more epochs have ended than there are entries, and there are fewer of those than lines
 pub section-requires-clause-room : goal.section-requires-clause-room
 section-requires-clause-room g c _ _ =
-    let k = c.self.invariant in
+    let k = c.self.invariant.0 in
     let next = moved c.self.inside.cursors.items c.deref.ensures.value c.index-from.ensures
     c.self.inside.cursors.ok.0 c.len.ensures c.if-actor-len.false c.in-Some.ensures in
     let less = kept_less _ _ _ _ _ _ _ _ _ _ _ _ k c.args.actor _
@@ -55,7 +59,7 @@ section-requires-clause-room g c _ _ =
 -- room for an entry of each line was reserved, and this line has none yet, so the push succeeds
 pub unwrap-requires : goal.unwrap-requires
 unwrap-requires g c =
-    let k = c.self.invariant in
+    let k = c.self.invariant.0 in
     let next = moved c.self.inside.cursors.items c.deref.ensures.value c.index-from.ensures
     c.self.inside.cursors.ok.0 c.len.ensures c.if-actor-len.false c.in-Some.ensures in
     c.push.ensures.succeeds (let less = kept_less _ _ _ _ _ _ _ _ _ _ _ _ k c.args.actor _
@@ -65,7 +69,7 @@ unwrap-requires g c =
 -- the line that was found is the actor's next one, and the line that it waits for has no entry
 pub returns-then-not-is_answered-clause-blocked : goal.returns-then-not-is_answered-clause-blocked
 returns-then-not-is_answered-clause-blocked g c =
-    let k = c.self.invariant in
+    let k = c.self.invariant.0 in
     let next = moved c.self.inside.cursors.items c.deref.ensures.value c.index-from.ensures
     c.self.inside.cursors.ok.0 c.len.ensures c.if-actor-len.false c.in-Some.ensures in (
       (λ _. rw (← c.self.view_is) (blocked_by c.self.inside.script.lines.items c.self.inside.journal.items c.args.actor c.index.result.now
@@ -80,21 +84,23 @@ returns-then-not-is_answered-clause-finished g c =
     ((λ e. cc), (λ done. absurd (done_free _ _ c.args.actor done ((returns-then-not-is_answered-clause-blocked g c).0 refl))))
 
 pub returns-then-not-is_answered-clause-few : goal.returns-then-not-is_answered-clause-few
-returns-then-not-is_answered-clause-few g c = kept_few _ _ _ _ _ _ _ _ _ _ _ _ c.self.invariant
+returns-then-not-is_answered-clause-few g c = kept_few _ _ _ _ _ _ _ _ _ _ _ _ c.self.invariant.0
 
 -- no line of the actor stands between its old cursor and this place, so moving the cursor there skips none
 pub invariant_of-self-then-not-is_answered : goal.invariant_of-self-then-not-is_answered
 invariant_of-self-then-not-is_answered g c =
-    let k = c.self.invariant in
+    let k = c.self.invariant.0 in
     let next = moved c.self.inside.cursors.items c.deref.ensures.value c.index-from.ensures
-    c.self.inside.cursors.ok.0 c.len.ensures c.if-actor-len.false c.in-Some.ensures in
-    kept_moved _ _ _ _ _ _ _ _ _ _ _ _ k c.args.actor _ (omega (arith, k.cursor_count, c.len.ensures, c.if-actor-len.false))
-    (omega (arith, next.within)) next.none
+    c.self.inside.cursors.ok.0 c.len.ensures c.if-actor-len.false c.in-Some.ensures in (
+      kept_moved _ _ _ _ _ _ _ _ _ _ _ _ k c.args.actor _ (omega (arith, k.cursor_count, c.len.ensures, c.if-actor-len.false))
+          (omega (arith, next.within)) next.none,
+      c.self.invariant.1,
+    )
 
 -- the line waits for none, or for one that is answered, so the actor is not blocked
 pub returns-clause-blocked : goal.returns-clause-blocked
 returns-clause-blocked g c =
-    let k = c.self.invariant in
+    let k = c.self.invariant.0 in
     let next = moved c.self.inside.cursors.items c.deref.ensures.value c.index-from.ensures
     c.self.inside.cursors.ok.0 c.len.ensures c.if-actor-len.false c.in-Some.ensures in
     let free : c.index-line.result.now.after ≢ 0 → is_answered c.self.inside.journal.items c.index-line.result.now.after ≡ true =
@@ -118,7 +124,7 @@ returns-clause-blocked g c =
 -- a line of the actor was left, so it is not done
 pub returns-clause-finished : goal.returns-clause-finished
 returns-clause-finished g c =
-    let k = c.self.invariant in
+    let k = c.self.invariant.0 in
     let next = moved c.self.inside.cursors.items c.deref.ensures.value c.index-from.ensures
     c.self.inside.cursors.ok.0 c.len.ensures c.if-actor-len.false c.in-Some.ensures in (
       (λ e. cc),
@@ -131,7 +137,7 @@ returns-clause-finished g c =
 -- a slice is done of a line that isn't blocked
 pub returns-in_default-section-clause-blocked : goal.returns-in_default-section-clause-blocked
 returns-in_default-section-clause-blocked g c =
-    let k = c.self.invariant in
+    let k = c.self.invariant.0 in
     let next = moved c.self.inside.cursors.items c.deref.ensures.value c.index-from.ensures
     c.self.inside.cursors.ok.0 c.len.ensures c.if-actor-len.false c.in-Some.ensures in
     let free : c.index-line.result.now.after ≢ 0 → is_answered c.self.inside.journal.items c.index-line.result.now.after ≡ true =
@@ -154,7 +160,7 @@ returns-in_default-section-clause-blocked g c =
 
 pub returns-in_default-section-clause-finished : goal.returns-in_default-section-clause-finished
 returns-in_default-section-clause-finished g c =
-    let k = c.self.invariant in
+    let k = c.self.invariant.0 in
     let next = moved c.self.inside.cursors.items c.deref.ensures.value c.index-from.ensures
     c.self.inside.cursors.ok.0 c.len.ensures c.if-actor-len.false c.in-Some.ensures in (
       (λ e. cc),
@@ -165,25 +171,45 @@ returns-in_default-section-clause-finished g c =
     )
 
 pub returns-in_default-section-clause-few : goal.returns-in_default-section-clause-few
-returns-in_default-section-clause-few g c = kept_few _ _ _ _ _ _ _ _ _ _ _ _ c.self.invariant
+returns-in_default-section-clause-few g c = kept_few _ _ _ _ _ _ _ _ _ _ _ _ c.self.invariant.0
 
 -- no line of the actor stands between its old cursor and this place, and a slice leaves the state
 pub invariant_of-self-in_default-section : goal.invariant_of-self-in_default-section
 invariant_of-self-in_default-section g c =
-    let k = c.self.invariant in
+    let k = c.self.invariant.0 in
     let next = moved c.self.inside.cursors.items c.deref.ensures.value c.index-from.ensures
     c.self.inside.cursors.ok.0 c.len.ensures c.if-actor-len.false c.in-Some.ensures in
-    kept_moved _ _ _ _ _ _ _ _ _ _ _ _
-    (kept_sliced _ _ _ _ _ _ _ _ _ _ _ _ k c.section.new.self.state c.section.new.self.faults
-    (λ told. c.in_default-section.ensures.same told refl) (c.in_default-section.ensures.still refl) c.section.ensures.grows.later)
-    c.args.actor _ (omega (arith, k.cursor_count, c.len.ensures, c.if-actor-len.false)) (omega (arith, next.within)) next.none
+    let searched = c.self.invariant.1 in (
+      kept_moved _ _ _ _ _ _ _ _ _ _ _ _
+          (kept_sliced _ _ _ _ _ _ _ _ _ _ _ _ k c.section.new.self.state c.section.new.self.faults
+          (λ told. c.in_default-section.ensures.same told refl) (c.in_default-section.ensures.still refl) c.section.ensures.grows.later)
+          c.args.actor _ (omega (arith, k.cursor_count, c.len.ensures, c.if-actor-len.false)) (omega (arith, next.within)) next.none,
+      keeps_same g.H.NodeHash.half g.Sh.B.Backend.tells c.self.inside.bench.state c.section.new.self.state c.self.inside.journal.items
+          c.self.inside.searches c.section.new.searches (c.in_default-section.ensures.unsearched refl)
+          (λ told. c.in_default-section.ensures.same told refl) searched,
+    )
 
 -- a slice of the actor's next line
 pub returns-in_default-section-clause-more : goal.returns-in_default-section-clause-more
 returns-in_default-section-clause-more g c _ =
-    let k = c.self.invariant in
+    let k = c.self.invariant.0 in
     let next = moved c.self.inside.cursors.items c.deref.ensures.value c.index-from.ensures
     c.self.inside.cursors.ok.0 c.len.ensures c.if-actor-len.false c.in-Some.ensures in
+    let seen : Marks → CoreView = λ (m : Marks). record {
+      records = c.self.inside.script.records.items;
+      lines = c.self.inside.script.lines.items;
+      interval = c.self.inside.interval;
+      opened = c.self.inside.opened;
+      faults = c.section.new.self.faults;
+      gets = c.section.new.self.gets;
+      slices = c.section.new.self.slices;
+      written = c.section.new.self.written;
+      archived = c.section.new.self.archived;
+      marks = m;
+      missed = c.self.inside.missed;
+      journal = c.self.inside.journal.items;
+      state = c.section.new.self.state;
+    } in
     let more = c.in_default-section.ensures.more refl in (
       more.cut,
       rw (← c.self.view_is) (record {
@@ -196,14 +222,14 @@ returns-in_default-section-clause-more g c _ =
         later = c.section.ensures.grows.later;
         state = λ told. c.in_default-section.ensures.same told refl;
         still = c.in_default-section.ensures.still refl;
-        rest = refl;
+        rest = ap seen (ap (λ (y : Searches). y.marks) (c.in_default-section.ensures.unsearched refl));
       }),
     )
 
 -- the entry is that of the next line, by a step of the machine from the state before, so the run goes on by it
 pub invariant_of-self-2 : goal.invariant_of-self-2
 invariant_of-self-2 g c =
-    let k = c.self.invariant in
+    let k = c.self.invariant.0 in
     let next = moved c.self.inside.cursors.items c.deref.ensures.value c.index-from.ensures
     c.self.inside.cursors.ok.0 c.len.ensures c.if-actor-len.false c.in-Some.ensures in
     let line = c.index-line.result.now in
@@ -218,18 +244,25 @@ invariant_of-self-2 g c =
       | else-after-ne0-via-else-after-ne0 w ↦ absurd (waits (ap (λ (l : Line). l.after) same ∙ w.if-after-ne0.false))
     ]) in
     let step = c.in-Some-section.ensures.step in
-    rw (pushed c.push.result _ _ _ _ c.push.ensures.items c.unwrap.ensures)
-    (kept_step _ _ _ _ _ _ _ _ _ _ _ _ k c.args.actor _ (omega (arith, k.cursor_count, c.len.ensures, c.if-actor-len.false)) next
-    c.index-line.result.now c.index-line.ensures _ _ _ _ refl refl free step
-    (λ t. step_sound _ c.known_half.ensures _ _ _ _ _ _ range (k.sound t) (step t))
-    c.section.ensures.told c.section.ensures.grows.few c.section.ensures.grows.ages
-    c.push.ensures.capacity c.section.ensures.grows.later
-    c.in-Some-section.ensures.fault)
+    let items = pushed c.push.result _ _ _ _ c.push.ensures.items c.unwrap.ensures in
+    let shares = c.in-Some-section.ensures.shares in (
+      rw (pushed c.push.result _ _ _ _ c.push.ensures.items c.unwrap.ensures)
+          (kept_step _ _ _ _ _ _ _ _ _ _ _ _ k c.args.actor _ (omega (arith, k.cursor_count, c.len.ensures, c.if-actor-len.false)) next
+          c.index-line.result.now c.index-line.ensures _ _ _ _ refl refl free step
+          (λ t. step_sound _ c.known_half.ensures _ _ _ _ _ _ range (k.sound t) (step t))
+          c.section.ensures.told c.section.ensures.grows.few c.section.ensures.grows.ages
+          c.push.ensures.capacity c.section.ensures.grows.later
+          c.in-Some-section.ensures.fault),
+      keeps_on g.H.NodeHash.half g.Sh.B.Backend.tells c.self.inside.bench.state c.section.new.self.state c.args.actor
+          c.index-line.result.now.command _ c.section.new.searches c.turn_behind.new.searches c.in-Some-section.reply
+          c.self.inside.journal.items _ c.self.inside.searches c.turn_behind.ensures step shares.kept shares.generation
+          c.self.invariant.1.young (omega (arith, ap length items, simp length-append at (ap length items))),
+    )
 
 -- one entry more: the actor's next line with the machine's reply, and a fault only where the store's count rose
 pub returns-clause-answered : goal.returns-clause-answered
 returns-clause-answered g c _ =
-    let k = c.self.invariant in
+    let k = c.self.invariant.0 in
     let next = moved c.self.inside.cursors.items c.deref.ensures.value c.index-from.ensures
     c.self.inside.cursors.ok.0 c.len.ensures c.if-actor-len.false c.in-Some.ensures in
     rw (← c.self.view_is) (record {
@@ -256,28 +289,34 @@ returns-clause-answered g c _ =
       step = λ t. answers g.H.NodeHash.half c.self.inside.script.lines.items c.self.inside.bench.state c.section.new.self.state
           c.index-line.result.now _ _ _ next c.index-line.ensures refl refl
           (c.in-Some-section.ensures.step t);
+      search = λ t. search_on g.H.NodeHash.half g.Sh.B.Backend.tells c.self.inside.bench.state c.section.new.self.state c.args.actor
+          c.index-line.result.now.command [] c.section.new.searches c.turn_behind.new.searches c.in-Some-section.reply
+          c.self.inside.searches.marks c.self.inside.bench.gets c.section.new.self.gets c.turn_behind.ensures
+          (c.in-Some-section.ensures.shares.search t);
     })
 
 pub returns-in_default-clause-few : goal.returns-in_default-clause-few
-returns-in_default-clause-few g c = kept_few _ _ _ _ _ _ _ _ _ _ _ _ c.self.invariant
+returns-in_default-clause-few g c = kept_few _ _ _ _ _ _ _ _ _ _ _ _ c.self.invariant.0
 
 -- the actor has no line from its cursor on, so moving the cursor to the end skips none
 pub invariant_of-self : goal.invariant_of-self
 invariant_of-self g c =
-    let k = c.self.invariant in
+    let k = c.self.invariant.0 in
     let lines = c.self.inside.script.lines.items in
     let none = moved_end c.self.inside.cursors.items c.deref.ensures.value c.index-from.ensures
     c.self.inside.cursors.ok.0 c.len.ensures c.if-actor-len.false c.in_default.ensures in
-    let end : c.len-in_default.result ≡ length lines = omega (arith, c.len-in_default.ensures, c.self.inside.script.lines.ok.0) in
-    kept_moved _ _ _ _ _ _ _ _ _ _ _ _ k c.args.actor _ (omega (arith, k.cursor_count, c.len.ensures, c.if-actor-len.false))
-    (omega (arith, end))
-    (ap (λ (n : ℕ). numbers_of c.args.actor (take n lines)) end
-    ∙ kept_end c.args.actor (slice_index c.self.inside.cursors.items c.args.actor) lines none)
+    let end : c.len-in_default.result ≡ length lines = omega (arith, c.len-in_default.ensures, c.self.inside.script.lines.ok.0) in (
+      kept_moved _ _ _ _ _ _ _ _ _ _ _ _ k c.args.actor _ (omega (arith, k.cursor_count, c.len.ensures, c.if-actor-len.false))
+          (omega (arith, end))
+          (ap (λ (n : ℕ). numbers_of c.args.actor (take n lines)) end
+          ∙ kept_end c.args.actor (slice_index c.self.inside.cursors.items c.args.actor) lines none),
+      c.self.invariant.1,
+    )
 
 -- the line had no entry before, so there were fewer entries than lines
 pub returns-clause-few : goal.returns-clause-few
 returns-clause-few g c =
-    let k = c.self.invariant in
+    let k = c.self.invariant.0 in
     let next = moved c.self.inside.cursors.items c.deref.ensures.value c.index-from.ensures
     c.self.inside.cursors.ok.0 c.len.ensures c.if-actor-len.false c.in-Some.ensures in
     let less = kept_less _ _ _ _ _ _ _ _ _ _ _ _ k c.args.actor _
@@ -294,8 +333,8 @@ returns-clause-few g c =
 pub returns-then-actor-len-clause-finished : goal.returns-then-actor-len-clause-finished
 returns-then-actor-len-clause-finished g c = (
   λ _. rw (← c.self.view_is)
-      (kept_past _ _ _ _ _ _ _ _ _ _ _ _ c.self.invariant c.args.actor
-      (omega (arith, c.self.invariant.cursor_count, c.len.ensures, c.if-actor-len.true))),
+      (kept_past _ _ _ _ _ _ _ _ _ _ _ _ c.self.invariant.0 c.args.actor
+      (omega (arith, c.self.invariant.0.cursor_count, c.len.ensures, c.if-actor-len.true))),
   λ _. refl,
 )
 
@@ -304,12 +343,12 @@ returns-then-actor-len-clause-blocked g c =
     ((λ e. cc), (λ blocked. absurd (done_free _ _ c.args.actor ((returns-then-actor-len-clause-finished g c).0 refl) blocked)))
 
 pub returns-then-actor-len-clause-few : goal.returns-then-actor-len-clause-few
-returns-then-actor-len-clause-few g c = rw (← c.self.view_is) (kept_few _ _ _ _ _ _ _ _ _ _ _ _ c.self.invariant)
+returns-then-actor-len-clause-few g c = rw (← c.self.view_is) (kept_few _ _ _ _ _ _ _ _ _ _ _ _ c.self.invariant.0)
 
 -- ---- what a section copies
 pub returns-in_default-section-clause-copies : goal.returns-in_default-section-clause-copies
 returns-in_default-section-clause-copies g c told part =
-    let k = c.self.invariant in
+    let k = c.self.invariant.0 in
     let next = moved c.self.inside.cursors.items c.deref.ensures.value c.index-from.ensures
     c.self.inside.cursors.ok.0 c.len.ensures c.if-actor-len.false c.in-Some.ensures in
     let is = kept_next _ _ _ _ _ _ _ _ _ _ _ _ k c.args.actor _
@@ -321,7 +360,7 @@ returns-in_default-section-clause-copies g c told part =
 
 pub returns-clause-copies : goal.returns-clause-copies
 returns-clause-copies g c told part =
-    let k = c.self.invariant in
+    let k = c.self.invariant.0 in
     let next = moved c.self.inside.cursors.items c.deref.ensures.value c.index-from.ensures
     c.self.inside.cursors.ok.0 c.len.ensures c.if-actor-len.false c.in-Some.ensures in
     let is = kept_next _ _ _ _ _ _ _ _ _ _ _ _ k c.args.actor _
@@ -339,3 +378,20 @@ returns-then-not-is_answered-clause-copies g c told part = core_same c.args.acto
 
 pub returns-then-actor-len-clause-copies : goal.returns-then-actor-len-clause-copies
 returns-then-actor-len-clause-copies g c told part = core_same c.args.actor c.args.self.now c.args.self.now refl
+
+-- ---- what searches share
+pub section-requires-clause-searches : goal.section-requires-clause-searches
+section-requires-clause-searches g c _ _ = c.self.invariant.1.kept
+
+pub turn_behind-requires-clause-paired : goal.turn_behind-requires-clause-paired
+turn_behind-requires-clause-paired g c = c.in-Some-section.ensures.shares.kept.paired
+
+-- no more generations have ended than there are entries
+pub turn_behind-requires-clause-room : goal.turn_behind-requires-clause-room
+turn_behind-requires-clause-room g c =
+    let k = c.self.invariant.0 in
+    let next = moved c.self.inside.cursors.items c.deref.ensures.value c.index-from.ensures
+    c.self.inside.cursors.ok.0 c.len.ensures c.if-actor-len.false c.in-Some.ensures in
+    let less = kept_less _ _ _ _ _ _ _ _ _ _ _ _ k c.args.actor _
+    (omega (arith, k.cursor_count, c.len.ensures, c.if-actor-len.false)) next c.index-line.result.now c.index-line.ensures in
+    omega (arith, c.in-Some-section.ensures.shares.generation, c.self.invariant.1.young, less, k.servable.few)

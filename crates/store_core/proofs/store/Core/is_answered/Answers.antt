@@ -14,14 +14,14 @@ pub returns-then-at-len : goal.returns-then-at-len
 returns-then-at-len g c =
     let P : List Line → Type 0 = λ w. AllBefore w c.first_from-at.result c.args.number in
     let below = subst P c.deref.ensures.value c.first_from-at.ensures.below in
-    rw (← c.self.view_is) (sym (kept_unknown _ _ _ _ _ _ _ _ _ _ _ _ c.self.invariant c.args.number
+    rw (← c.self.view_is) (sym (kept_unknown _ _ _ _ _ _ _ _ _ _ _ _ c.self.invariant.0 c.args.number
     (λ j d lt same. omega
     (arith, below j d (omega (arith, lt, c.len.ensures, c.if-at-len.true, c.self.inside.script.lines.ok.0)) lt, same))))
 
 -- a line has its entry exactly where its actor's cursor stands behind it
 pub returns-then-line-number : goal.returns-then-line-number
 returns-then-line-number g c =
-    let k = c.self.invariant in
+    let k = c.self.invariant.0 in
     let line = c.index-line.result.now in
     let lt : c.first_from-at.result < length c.self.inside.script.lines.items =
     grind (
@@ -43,7 +43,7 @@ returns-then-line-number g c =
 -- the first line that isn't lower has another number, and later ones are higher still, so no entry answers this number
 pub returns-else-line-number : goal.returns-else-line-number
 returns-else-line-number g c =
-    let k = c.self.invariant in
+    let k = c.self.invariant.0 in
     let P : List Line → Type 0 = λ w. AllBefore w c.first_from-at.result c.args.number in
     let Q : List Line → Type 0 = λ w. AllFrom w c.first_from-at.result c.args.number in
     let below = subst P c.deref.ensures.value c.first_from-at.ensures.below in

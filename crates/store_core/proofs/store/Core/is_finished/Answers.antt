@@ -17,15 +17,15 @@ told_by (Some at) false P D Q is found none some = ((λ t. absurd (false≢true 
 pub returns-then-actor-len : goal.returns-then-actor-len
 returns-then-actor-len g c = (
   (λ _. rw (← c.self.view_is)
-      (kept_past _ _ _ _ _ _ _ _ _ _ _ _ c.self.invariant c.args.actor
-      (omega (arith, c.self.invariant.cursor_count, c.len.ensures, c.if-actor-len.true)))),
+      (kept_past _ _ _ _ _ _ _ _ _ _ _ _ c.self.invariant.0 c.args.actor
+      (omega (arith, c.self.invariant.0.cursor_count, c.len.ensures, c.if-actor-len.true)))),
   (λ _. refl),
 )
 
 -- the actor has answered its lines before its cursor, so it is done exactly where none of its lines stands from there on
 pub returns : goal.returns
 returns g c =
-    let k = c.self.invariant in
+    let k = c.self.invariant.0 in
     let lt : c.args.actor < 64 = omega (arith, k.cursor_count, c.len.ensures, c.if-actor-len.false) in
     told_by c.next_of.result c.is_none.result _ _ _ c.is_none.ensures c.next_of.ensures
     (λ none. rw (← c.self.view_is)

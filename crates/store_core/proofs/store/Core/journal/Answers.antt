@@ -9,12 +9,12 @@ use Rattle.store_core.proofs.Journals.{kept_few, kept_projects, kept_ranges, kep
 use Rattle.store_core.proofs.store.Core.journal.Goals as goal
 
 pub returns-clause-few : goal.returns-clause-few
-returns-clause-few g c = rw (← c.self.view_is) (kept_few _ _ _ _ _ _ _ _ _ _ _ _ c.self.invariant)
+returns-clause-few g c = rw (← c.self.view_is) (kept_few _ _ _ _ _ _ _ _ _ _ _ _ c.self.invariant.0)
 
 -- each entry was a step of the machine, so its laws hold along the run and in the state that it led to
 pub returns-clause-kept : goal.returns-clause-kept
 returns-clause-kept g c =
-    let k = c.self.invariant in
+    let k = c.self.invariant.0 in
     rw (← c.self.view_is) (record {
       servable = k.servable;
       recorded = k.recorded;

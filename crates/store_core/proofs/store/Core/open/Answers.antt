@@ -7,6 +7,7 @@ use Rattle.ledger_machine.specs.Records.{with_records}
 use Rattle.ledger_machine.specs.State.{State}
 use Rattle.rotating_store.specs.Stores.{Store, nodes_of}
 use Rattle.store_core.specs.Dumping.{HoldsOf}
+use Rattle.store_core.proofs.Checks.{keeps_new}
 use Rattle.store_core.proofs.Journals.{kept_open}
 use Rattle.store_core.proofs.Tables.{over_open}
 use Rattle.store_core.proofs.store.Core.open.Goals as goal
@@ -15,7 +16,7 @@ use Rattle.store_core.proofs.store.Core.open.Goals as goal
 pub returns-clause-state : goal.returns-clause-state
 returns-clause-state g c told =
     let stored = c.in-Ok.ensures.stored told in
-    c.new.ensures.state
+    c.new-bench.ensures.state
     ∙ over_open c.put_records.new.store c.args.interval (with_records map.empty c.args.script.records.items)
     (stored.0 ∙ ap (with_records map.empty) c.deref.ensures.value) stored.1
     (c.put_records.ensures.later.past.0 ∙ c.in_ok-store.ensures.state.0)
@@ -33,12 +34,15 @@ at_start cursors a is low = ap (λ (xs : List ℕ). slice_index xs a) is ∙ get
 
 -- nothing was answered and every cursor stands before the first line, which fits the empty journal and the opening state
 pub invariant_of-result : goal.invariant_of-result
-invariant_of-result g c =
-    kept_open g.H.NodeHash.half c.args.script.records.items c.args.script.lines.items c.in-Ok-vec.cursors.items
-    c.in-Ok-with_capacity.journal.items _ c.args.interval g.Sh.B.Backend.tells _ _ c.new.result.state
-    c.in-Ok-with_capacity.ensures.items (search (rules, common_steps)) (λ a l. at_start c.in-Ok-vec.cursors.items a
-    (c.in-Ok-vec.ensures.items_if_clones_equal (λ y same. same)) l) c.requires.lines
-    c.requires.records (search (rules, common_steps)) (c.faults-opened.ensures ∙ sym c.new.ensures.faults)
-    (ap (λ (s : State). s.listed) c.new.ensures.state) (ap (λ (s : State). s.turning) c.new.ensures.state)
-    (ap (λ (s : State). s.epoch) c.new.ensures.state ∙ c.put_records.ensures.later.past.0 ∙ c.in_ok-store.ensures.state.0)
-    (λ told. returns-clause-state g c told)
+invariant_of-result g c = (
+  kept_open g.H.NodeHash.half c.args.script.records.items c.args.script.lines.items c.in-Ok-vec.cursors.items
+      c.in-Ok-with_capacity.journal.items _ c.args.interval g.Sh.B.Backend.tells _ _ c.new-bench.result.state
+      c.in-Ok-with_capacity.ensures.items (search (rules, common_steps)) (λ a l. at_start c.in-Ok-vec.cursors.items a
+      (c.in-Ok-vec.ensures.items_if_clones_equal (λ y same. same)) l) c.requires.lines
+      c.requires.records (search (rules, common_steps)) (c.faults-opened.ensures ∙ sym c.new-bench.ensures.faults)
+      (ap (λ (s : State). s.listed) c.new-bench.ensures.state) (ap (λ (s : State). s.turning) c.new-bench.ensures.state)
+      (ap (λ (s : State). s.epoch) c.new-bench.ensures.state ∙ c.put_records.ensures.later.past.0 ∙ c.in_ok-store.ensures.state.0)
+      (λ told. returns-clause-state g c told),
+  keeps_new g.H.NodeHash.half g.Sh.B.Backend.tells c.new-bench.result.state c.in-Ok-with_capacity.journal.items c.in-Ok-new.searches
+      c.in-Ok-new.ensures.paired c.in-Ok-new.ensures.empty c.in-Ok-new.ensures.generation,
+)

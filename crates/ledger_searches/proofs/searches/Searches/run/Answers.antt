@@ -1,0 +1,76 @@
+-- a slice goes on within its generation, and the last one ends the search
+use Rattle.std.proofs.Common.{◌≡◌, ◌≤◌, false, sym, ap, ◌∙◌, subst, arith}
+use Rattle.ledger_spec.specs.Bytes.{Hash}
+use Rattle.own_forms.proofs.Reading.{read_then}
+use Rattle.missing_walk.specs.declared.search.Search.{Search}
+use Rattle.missing_walk.specs.declared.search.Slice.{Slice}
+use Rattle.missing_walk.specs.Ends.{IsClean, AreRootsMarked}
+use Rattle.missing_walk.specs.Moves.{has_ended}
+use Rattle.missing_walk.specs.Passes.{HasMarkedRoots, IsDone}
+use Rattle.missing_walk.specs.Searching.{OnDone, OnMore}
+use Rattle.missing_walk.specs.Sees.{Finds}
+use Rattle.missing_walk.proofs.Seeing.{tells_after}
+use Rattle.ledger_searches.specs.declared.searches.Searches.{Searches}
+use Rattle.ledger_searches.proofs.Running.{rule_true, present_on, few_left, roots_marked}
+use Rattle.ledger_searches.proofs.searches.Searches.run.Goals as goal
+
+-- what marks and cache say stays true
+pub returns-in_err-found-clause-keeps : goal.returns-in_err-found-clause-keeps
+returns-in_err-found-clause-keeps g c nodes t all =
+    let half = g.H.NodeHash.half in
+    let now = tells_after g.Sh.B.Backend.tells half c.args.store.now c.loop-search.store nodes c.loop-search.invariant.read t in
+    rule_true half nodes c.slice.new.self (record { cache = c.slice.new.cache; marks = c.slice.new.marks })
+    (c.slice.ensures.rule nodes now (c.loop-search.invariant.rule nodes t all))
+
+pub returns-in-Done-clause-keeps : goal.returns-in-Done-clause-keeps
+returns-in-Done-clause-keeps g c nodes t all =
+    let half = g.H.NodeHash.half in
+    let now = tells_after g.Sh.B.Backend.tells half c.args.store.now c.loop-search.store nodes c.loop-search.invariant.read t in
+    rule_true half nodes c.slice.new.self (record { cache = c.slice.new.cache; marks = c.slice.new.marks })
+    (c.slice.ensures.rule nodes now (c.loop-search.invariant.rule nodes t all))
+
+-- what the last slice found
+pub returns-in-Done-clause-found : goal.returns-in-Done-clause-found
+returns-in-Done-clause-found g c nodes t all =
+    let half = g.H.NodeHash.half in
+    let now = tells_after g.Sh.B.Backend.tells half c.args.store.now c.loop-search.store nodes c.loop-search.invariant.read t in
+    subst (λ (h : Hash). Finds half nodes h c.in-Done.found) c.loop-search.invariant.target
+    (subst (λ (s : Slice). OnDone s (Finds half nodes c.loop-search.search.target)) c.in-Done.is
+    (c.in_ok-found.ensures.done nodes now (c.loop-search.invariant.rule nodes t all)))
+
+-- and the roots that it marked are those of the stored header
+pub returns-in-Done-clause-roots : goal.returns-in-Done-clause-roots
+returns-in-Done-clause-roots g c nodes t all clean =
+    let finds = returns-in-Done-clause-found g c nodes t all in
+    let marked = subst (λ (s : Slice). OnDone s (λ f. IsClean f → 2 ≤ c.slice.new.marks.entries.cap
+    → AreRootsMarked f.header c.slice.new.marks)) c.in-Done.is c.in_ok-found.ensures.roots in
+    roots_marked nodes c.args.search.target c.slice.new.marks c.in-Done.found.header finds.header
+    (marked clean (omega (arith, c.slice.ensures.room, c.loop-search.invariant.paired.room)))
+
+pub loop-search-preserved : goal.loop-search-preserved
+loop-search-preserved g c =
+    let half = g.H.NodeHash.half in
+    let k = c.loop-search.invariant in
+    record {
+      rule = λ nodes t all. c.slice.ensures.rule nodes
+          (tells_after g.Sh.B.Backend.tells half c.args.store.now c.loop-search.store nodes k.read t) (k.rule nodes t all);
+      first = λ nodes t marked.
+          let same = k.first nodes t marked in
+          let new = ap (λ (s : Search). s.generation) same.0 ∙ c.requires.new.generation in
+          let still : HasMarkedRoots nodes c.loop-search.search.target c.loop-search.self.marks =
+          subst (λ (x : Search × Searches). HasMarkedRoots nodes x.0.target x.1.marks) (λ i. (sym same.0 i, sym same.1 i)) marked in
+          let ends = c.in_ok-found.ensures.first nodes
+          (tells_after g.Sh.B.Backend.tells half c.args.store.now c.loop-search.store nodes k.read t) new still (omega arith) in
+          absurd (subst IsDone c.in-More.is ends.0);
+      present = present_on c.loop-search.search.generation c.slice.new.self.generation c.loop-search.self.marks.generation
+          c.slice.new.marks.generation k.present c.slice.ensures.generation c.slice.ensures.marks;
+      target = c.slice.ensures.target ∙ k.target;
+      few = few_left c.slice.new.self
+          (subst (λ (s : Slice). OnMore s (has_ended c.slice.new.self ≡ false)) c.in-More.is c.in_ok-found.ensures.more);
+      paired = record {
+        one = c.slice.ensures.cache ∙ k.paired.one ∙ sym c.slice.ensures.marks;
+        room = c.slice.ensures.room ∙ k.paired.room;
+      };
+      generation = c.slice.ensures.marks ∙ k.generation;
+      read = read_then _ _ _ _ _ k.read c.slice.ensures.read;
+    }
