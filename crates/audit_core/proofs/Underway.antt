@@ -30,11 +30,11 @@ module _ {A P R : Type 0} (Keeps : A → P → Type 0) (refuse : ℕ → Cause �
     on = λ answer says. subst (λ (w : Bytes). SaysOf refuse most after Comes 1 None (w ++ bytes) answer) none says;
   }
 
-  pub goes_on : (input mid new : Option Bytes) (waiting line behind : Bytes) (audit : Option A) (next : A) (n : ℕ)
+  pub goes_on : (input mid new : Option Bytes) (waiting line behind : Bytes) (audit next : Option A) (n : ℕ)
       → IfSome input (λ bytes. Underway bytes waiting mid audit n)
       → IfSome mid (λ left. TakesLine most (waiting ++ left) line behind new)
-      → ((s : Option P) → Both Keeps audit s → (t : P) × (after s line ≡ Ok t) × Keeps next t)
-      → IfSome input (λ bytes. Underway bytes behind new (Some next) (n + 1))
+      → ((s : Option P) → Both Keeps audit s → (t : P) × (after s line ≡ Ok t) × Both Keeps next (Some t))
+      → IfSome input (λ bytes. Underway bytes behind new next (n + 1))
   goes_on None mid new waiting line behind audit next n way takes told = tt
   goes_on (Some bytes) mid new waiting line behind audit next n way takes told =
       let t : TakesLine most (waiting ++ way.rest) line behind new =

@@ -5,7 +5,6 @@ ghost use Rattle.audit_core.specs.Said.{digits_of, keyed};
 
 use crate::Cause;
 use half_hash::{Hash32, Memory};
-use hex::FromHexError;
 use std::alloc::Global;
 
 /// The most bytes of an item's data.
@@ -15,11 +14,7 @@ const DATA_LIMIT: usize = 1_048_576;
 pub fn bytes_of(alloc: Global, text: &[u8]) -> Result<Option<Vec<u8>>, Memory>
     ensures { IfOk result (λ o. option_map (λ v. v.items) o ≡ digits_of text.now) }
 {
-    match hex::decode(alloc, text) {
-        Ok(bytes) => Ok(Some(bytes)),
-        Err(FromHexError::OutOfMemory) => Err(Memory),
-        Err(_) => Ok(None),
-    }
+    Ok(hex_digits::decode(alloc, text)?)
 }
 
 /// The key of 64 hexadecimal digits.
@@ -27,9 +22,11 @@ pub fn key_of(text: &[u8]) -> Option<Hash32>
     requires { length text.now ≡ 64 }
     ensures { result ≡ digits_of text.now }
 {
-    match Hash32::from_hex(text) {
-        Ok(key) => Some(key),
-        Err(_) => None,
+    let mut bytes = [0; 32];
+    if hex_digits::decode_to_slice(text, &mut bytes) {
+        Some(Hash32 { bytes })
+    } else {
+        None
     }
 }
 

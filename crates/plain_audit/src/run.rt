@@ -1,5 +1,5 @@
 //! The run over an input.
-ghost use Rattle.std.specs.Prelude.{◌≡◌, ◌≤◌, ℕ, Ok, Err, Option, length, IfOk, IfErr, IfSome};
+ghost use Rattle.std.specs.Prelude.{◌≡◌, ◌≤◌, ℕ, Ok, Err, Option, Some, length, IfOk, IfErr, IfSome, OnOk};
 ghost use Rattle.run_io.specs.Bytes.{Rose};
 ghost use Rattle.ledger_spec.specs.Bytes.{Half};
 ghost use Rattle.audit_core.specs.declared.cause.Cause.{Cause as AnyCause};
@@ -41,8 +41,8 @@ pub fn audit_plain<H: NodeHash, S: Source>(
             Fed::End => return Ok(ended::<H>(audit, n, &line, expect)),
             Fed::TooLong => return Ok(refused(n, Cause::TooLong)),
         }
-        match after_line::<H>(alloc, audit, &line) {
-            Ok(after) => audit = Some(after),
+        match take_line::<H>(&mut audit, alloc, &line) {
+            Ok(()) => {}
             Err(LineFault::Cause(cause)) => return Ok(refused(n, cause)),
             Err(LineFault::Memory) => return Err(AllFault::Memory),
         }
@@ -58,23 +58,23 @@ fn refused(line: u64, cause: Cause) -> Answer
     Answer::Refused { line, cause }
 }
 
-// The audit after one line more.
-fn after_line<H: NodeHash>(
+// One line more is taken.
+fn take_line<H: NodeHash>(
+    audit: &mut Option<Audit>,
     alloc: Global,
-    audit: Option<Audit>,
     line: &[u8],
-) -> Result<Audit, LineFault>
-    ensures ok { IfOk result (λ after. (s : Option Said) → Both (Keeps H.half) audit s
-        → (t : Said) × (said_after s line.now ≡ Ok t) × Keeps H.half after t) }
-    ensures cause { IfErr result (λ fault. (cause : AnyCause) (s : Option Said) → fault ≡ faults.Cause cause → Both (Keeps H.half) audit s
-        → said_after s line.now ≡ Err cause) }
+) -> Result<(), LineFault>
+    ensures ok { OnOk result ((s : Option Said) → Both (Keeps H.half) audit.old s
+        → (t : Said) × (said_after s line.now ≡ Ok t) × Both (Keeps H.half) audit.new (Some t)) }
+    ensures cause { IfErr result (λ fault. (cause : AnyCause) (s : Option Said) → fault ≡ faults.Cause cause
+        → Both (Keeps H.half) audit.old s → said_after s line.now ≡ Err cause) }
 {
     match audit {
-        None => first(alloc, line),
-        Some(mut audit) => match add::<H>(&mut audit, alloc, line) {
-            Ok(()) => Ok(audit),
-            Err(fault) => Err(fault),
-        },
+        Some(taken) => add::<H>(taken, alloc, line),
+        None => {
+            *audit = Some(first(alloc, line)?);
+            Ok(())
+        }
     }
 }
 

@@ -1,4 +1,4 @@
-use Rattle.std.proofs.Common.{◌≤◌, ◌++◌, sym, ap, ◌∙◌, subst, arith, length, IfSome}
+use Rattle.std.proofs.Common.{◌≤◌, ◌++◌, sym, ap, ◌∙◌, subst, arith, length, IfSome, Some}
 use Rattle.line_feed.specs.Feeding.{waiting, Feeds}
 use Rattle.line_feed.specs.declared.feed.Fed.{Fed}
 use Rattle.ledger_spec.specs.Bytes.{Bytes}
@@ -56,7 +56,7 @@ loop-n-preserved g c =
       way = goes_on (KeepsPages g.H.NodeHash.half) Refused page_most after_page (Comes g.H.NodeHash.half c.args.expect)
           (g.S.Source.left c.args.source.now) (g.S.Source.left c.loop-n.source)
           (g.S.Source.left c.next_line.new.source) (waiting c.loop-n.feed) c.next_line.new.line.items (waiting c.next_line.new.self)
-          c.loop-n.pages c.in-Ok-after_line.after c.loop-n.n c.loop-n.invariant.way takes
+          c.loop-n.pages (Some c.in-Ok-after_line.after) c.loop-n.n c.loop-n.invariant.way takes
           (λ s keeps. let told = c.in-Ok-after_line.ensures.ok s keeps in
           (told.0, ap (after_page s) (sym c.deref-in-loop-n.ensures.value) ∙ told.1, told.2));
       later = omega (arith, c.loop-n.invariant.later, c.in_ok-next_line.ensures.later);

@@ -1,4 +1,4 @@
-use Rattle.std.proofs.Common.{◌≤◌, ◌++◌, sym, ap, ◌∙◌, subst, arith, length, IfSome}
+use Rattle.std.proofs.Common.{◌≤◌, ◌++◌, sym, ap, ◌∙◌, subst, arith, length, IfSome, Some}
 use Rattle.line_feed.specs.Feeding.{waiting, Feeds}
 use Rattle.line_feed.specs.declared.feed.Fed.{Fed}
 use Rattle.ledger_spec.specs.Bytes.{Bytes}
@@ -60,7 +60,7 @@ loop-n-preserved g c =
       way = goes_on KeepsNodes Refused path_most (after_node g.H.NodeHash.half) (Comes g.H.NodeHash.half c.args.root.now c.args.key.now)
           (g.S.Source.left c.args.source.now) (g.S.Source.left c.loop-n.source)
           (g.S.Source.left c.next_line.new.source) (waiting c.loop-n.feed) c.next_line.new.line.items (waiting c.next_line.new.self)
-          c.loop-n.nodes c.in-Ok-after_line.after c.loop-n.n c.loop-n.invariant.way takes
+          c.loop-n.nodes (Some c.in-Ok-after_line.after) c.loop-n.n c.loop-n.invariant.way takes
           (λ s keeps. let told = c.in-Ok-after_line.ensures.ok s keeps in
           (told.0, ap (after_node g.H.NodeHash.half s) (sym c.deref-in-loop-n.ensures.value) ∙ told.1, told.2));
       later = omega (arith, c.loop-n.invariant.later, c.in_ok-next_line.ensures.later);

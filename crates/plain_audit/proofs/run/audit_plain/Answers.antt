@@ -57,8 +57,8 @@ loop-n-preserved g c =
       way = goes_on (Keeps g.H.NodeHash.half) Refused line_most after_line (Comes g.H.NodeHash.half c.args.expect)
           (g.S.Source.left c.args.source.now) (g.S.Source.left c.loop-n.source)
           (g.S.Source.left c.next_line.new.source) (waiting c.loop-n.feed) c.next_line.new.line.items (waiting c.next_line.new.self)
-          c.loop-n.audit c.in-Ok-after_line.after c.loop-n.n c.loop-n.invariant.way takes
-          (λ s keeps. let told = c.in-Ok-after_line.ensures.ok s keeps in
+          c.loop-n.audit c.take_line.new.audit c.loop-n.n c.loop-n.invariant.way takes
+          (λ s keeps. let told = c.in-Ok-take_line.ensures.ok s keeps in
           (told.0, ap (after_line s) (sym c.deref-in-loop-n.ensures.value) ∙ told.1, told.2));
       later = omega (arith, c.loop-n.invariant.later, c.in_ok-next_line.ensures.later);
     }
