@@ -1,19 +1,19 @@
 -- Two maps of a kind with one root are one, or their forms break the half.
-use Rattle.std.proofs.Common.{◌≡◌, ◌≢◌, ◌⊎◌, inl, inr, ⊎_elim, ◌≤◌, ◌<◌, ◌+◌, ℕ, zero, suc, Bool, true, false, List, [], ◌∷◌, ◌++◌}
-use Rattle.std.proofs.Common.{length, map, Option, None, Some, refl, sym, ap, ◌∙◌, subst, arith, length-append, flat_map, bytes_eq}
+use Rattle.std.proofs.Common.{◌≡◌, ◌⊎◌, inl, inr, ⊎_elim, ◌≤◌, ◌<◌, ◌+◌, ℕ, zero, suc, Bool, true, false, List, [], ◌∷◌, ◌++◌}
+use Rattle.std.proofs.Common.{length, map, Some, refl, sym, ap, ◌∙◌, subst, arith, length-append, flat_map, bytes_eq}
 use Rattle.std.proofs.lemmas.Bool.{false≢true}
 use Rattle.std.proofs.lemmas.Slice.Eq.{bytes_eq-Decides}
 use Rattle.std.proofs.lemmas.List.Elements.{Contains-append_left, Contains-append_right, Contains-append_cases}
 use Rattle.std.specs.Ordering.{is_eq}
-use Rattle.std.specs.List.{slice_index_or, range_with_len, Contains, AllByRecursion}
+use Rattle.std.specs.List.{range_with_len, Contains, AllByRecursion}
 use Rattle.std.specs.List.Sorted.{IsStrictlySortedBy}
 use Rattle.nib_path.specs.Paths.{lies_under}
 use Rattle.ledger_spec.specs.declared.Kind.{Kind}
 use Rattle.ledger_spec.specs.Maps.{hash_cmp, IsMap}
-use Rattle.ledger_spec.specs.Bytes.{Bytes, Hash, Half, Items, zero_hash, branches}
+use Rattle.ledger_spec.specs.Bytes.{Bytes, Hash, Half, Items, branches}
 use Rattle.ledger_spec.specs.Forms.{leaf, IsHeld, inner_prefix, leaf_form, hash_or_zero}
 use Rattle.ledger_spec.specs.Findings.{held_of}
-use Rattle.ledger_spec.specs.Tree.{Entry, AreItems, part, is_alone, form_of_part, forms_of_part, form_at, forms_of, root_of}
+use Rattle.ledger_spec.specs.Tree.{Entry, AreItems, part, is_alone, form_of_part, forms_of_part, forms_of, root_of}
 use Rattle.ledger_spec.proofs.Readings.{sees}
 use Rattle.tree_laws.proofs.Trees.{Sized, at_itself, under_whole, each_in_part, alone_nil, leaf_no_inner, size_or_zero, concat_map}
 use Rattle.tree_laws.proofs.Trees.{sizes_map, hashes_are, hash_at_branch}

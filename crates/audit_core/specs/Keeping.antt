@@ -1,5 +1,5 @@
 -- What an audit under way keeps of what was said.
-use Rattle.std.specs.Prelude.{◌≡◌, is_some, Option, None, Some}
+use Rattle.std.specs.Prelude.{◌≡◌, is_some}
 use Rattle.ledger_spec.specs.declared.Kind.{Kind}
 use Rattle.ledger_spec.specs.declared.Kind.TheVariants.{State, Tx}
 use Rattle.ledger_spec.specs.Bytes.{Half, Items}

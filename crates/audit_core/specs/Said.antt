@@ -1,6 +1,6 @@
 -- What is said of a ledger, piece by piece: its header, then the items of its state in the order of their keys, then perhaps those of its
 -- transactions.
-use Rattle.std.specs.Prelude.{ℕ, ◌==◌, nat_lt, Bool, true, false, is_some, if◌then◌else◌, [], ◌∷◌, ◌++◌, length}
+use Rattle.std.specs.Prelude.{◌==◌, nat_lt, Bool, true, false, is_some, if◌then◌else◌, [], ◌∷◌, ◌++◌, length}
 use Rattle.std.specs.Prelude.{Option, None, Some, Result, Ok, Err}
 use Rattle.std.specs.List.{list_all}
 use Rattle.std.specs.declared.cmp.Ordering.{Ordering}

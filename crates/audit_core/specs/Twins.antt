@@ -1,5 +1,5 @@
 -- Two ledgers with one hash.
-use Rattle.std.specs.Prelude.{◌≡◌, ◌≢◌, ◌⊎◌, List, ◌∷◌, ◌++◌, Option, None, Some}
+use Rattle.std.specs.Prelude.{◌≡◌, ◌≢◌, ◌⊎◌, List, ◌∷◌, ◌++◌, Option, Some}
 use Rattle.std.specs.List.{Contains}
 use Rattle.ledger_spec.specs.declared.Kind.TheVariants.{State, Tx}
 use Rattle.ledger_spec.specs.Bytes.{Bytes, Half, Items, IsHalf, zero_hash}

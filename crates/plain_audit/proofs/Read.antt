@@ -1,30 +1,24 @@
 -- The lines of a ledger's text are taken one by one.
-use Rattle.std.proofs.Common.{◌≡◌, ℕ, suc, ◌+◌, ◌<◌, ◌≤◌, ◌==◌, ◌&&◌, Bool, true, false, List, [], ◌∷◌, ◌++◌, length, take, drop}
+use Rattle.std.proofs.Common.{◌≡◌, ℕ, ◌+◌, ◌<◌, ◌≤◌, ◌==◌, ◌&&◌, Bool, true, false, List, [], ◌∷◌, ◌++◌, length, take, drop}
 use Rattle.std.proofs.Common.{nat_lt, nat_eq, is_some, slice_index, Option, None, Some, Result, Ok, refl, sym, ap, ◌∙◌, subst, arith}
 use Rattle.std.proofs.Common.{length-append, append_assoc}
-use Rattle.std.specs.Prelude.{not}
 use Rattle.std.proofs.lemmas.Bool.{and_from, cond-true, cond-false, lt-ltb, le-ltb, eq-eqb, false≢true}
 use Rattle.std.proofs.lemmas.List.{append-nil, take_at, drop_at}
 use Rattle.std.proofs.lemmas.Slice.Eq.{bytes_eq-Decides}
 use Rattle.std.proofs.Math.Seq.{get_or-append_seam}
-use Rattle.std.specs.List.{starts_with, AllByRecursion, AllPass}
-use Rattle.std.specs.List.Sorted.{IsStrictlySortedBy}
-use Rattle.std.specs.Map.{keys_of}
-use Rattle.std.specs.declared.cmp.Ordering.TheVariants.{Less}
-use Rattle.hex.specs.Hex.{decode_of, is_hex_digit}
+use Rattle.std.specs.List.{starts_with, AllPass}
+use Rattle.hex.specs.Hex.{is_hex_digit}
 use Rattle.hex.proofs.HexLemmas.{decode_of-ok}
 use Rattle.line_feed.specs.Lines.{cut, IsOneLine}
-use Rattle.half_hash.specs.Zero.{is_zero}
 use Rattle.ledger_spec.specs.Bytes.{Bytes, Hash, Half, Items}
-use Rattle.ledger_spec.specs.Forms.{data_limit}
 use Rattle.ledger_spec.specs.Maps.{hash_cmp, IsMap}
 use Rattle.ledger_spec.specs.Tree.{Entry}
 use Rattle.root_pass.specs.Rows.{IsBehind}
 use Rattle.audit_core.specs.declared.cause.Cause.{Cause}
 use Rattle.audit_core.specs.declared.answer.Answer.{Answer}
-use Rattle.audit_core.specs.Said.{Said, checked, digits_of, got, headed, is_behind, items_or_none, keyed, with_state, with_tx}
+use Rattle.audit_core.specs.Said.{Said, digits_of, headed, is_behind, items_or_none, keyed, with_state, with_tx}
 use Rattle.audit_core.specs.Verdicts.{IsVerdict}
-use Rattle.audit_core.specs.Runs.{Goes, Says, step, joined}
+use Rattle.audit_core.specs.Runs.{Goes, Says, step}
 use Rattle.plain_audit.specs.Lines.{after_line, first_of, header_word, item_of, line_most, tx_word}
 use Rattle.plain_audit.specs.Answers.{Comes}
 use Rattle.plain_audit.specs.Ledgers.{IsItemText, IsTxLine, IsHeaderLine, AreEach, Tells, LedgerIsAnswered}

@@ -1,21 +1,17 @@
 -- What single lines say.
-use Rattle.std.proofs.Common.{◌≡◌, ℕ, suc, ◌*◌, ◌<◌, ◌≤◌, ◌==◌, ◌&&◌, Bool, true, false, List, [], ◌∷◌, ◌++◌, length, take, drop}
-use Rattle.std.proofs.Common.{nat_lt, nat_eq, slice_index, IsTrue, Option, None, Some, Result, Ok, Err, refl, sym, ap, ◌∙◌, subst, arith}
-use Rattle.std.proofs.lemmas.Bool.{and_parts, and_from, eqb-true, ltb-true, ltb-false, lt-ltb}
+use Rattle.std.proofs.Common.{◌≡◌, ◌<◌, ◌==◌, ◌&&◌, Bool, true, false, ◌∷◌, ◌++◌, length, take, drop}
+use Rattle.std.proofs.Common.{nat_lt, nat_eq, slice_index, Option, None, Some, Ok, Err, refl, sym, ap, ◌∙◌, subst, arith}
+use Rattle.std.proofs.lemmas.Bool.{and_parts, eqb-true, ltb-true}
 use Rattle.std.proofs.lemmas.List.{length-take-le, take-append-drop}
 use Rattle.std.proofs.lemmas.Slice.Eq.{bytes_eq-Decides}
 use Rattle.std.proofs.Math.Seq.{split_at}
 use Rattle.std.specs.List.{starts_with}
-use Rattle.hex.specs.Hex.{decode_of, IsBytes}
-use Rattle.hex.specs.declared.error.FromHexError.{FromHexError}
-use Rattle.hex.proofs.HexLemmas.{decode_of-ok}
-use Rattle.half_hash.specs.Half.{are_bytes}
-use Rattle.half_hash.specs.Zero.{is_zero, is_nonzero}
+use Rattle.hex.specs.Hex.{decode_of}
 use Rattle.ledger_spec.specs.Bytes.{Bytes}
-use Rattle.ledger_spec.specs.Forms.{IsItem, data_limit}
+use Rattle.ledger_spec.specs.Forms.{IsItem}
 use Rattle.ledger_spec.specs.Tree.{Entry, IsByteEntry}
 use Rattle.audit_core.specs.declared.cause.Cause.TheVariants as causes
-use Rattle.audit_core.specs.Said.{checked, digits_of, got, keyed}
+use Rattle.audit_core.specs.Said.{digits_of, keyed}
 use Rattle.plain_audit.specs.Lines.{item_of}
 use Rattle.audit_core.proofs.Decoded.{digits_some, decoded_bytes, decoded_size, checked_is}
 use Rattle.plain_audit.specs.Ledgers.{IsItemText}

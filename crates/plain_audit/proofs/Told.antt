@@ -5,16 +5,11 @@ use Rattle.std.specs.Prelude.{if◌then◌else◌}
 use Rattle.std.proofs.lemmas.Bool.{lt-ltb, eqb-true}
 use Rattle.std.proofs.lemmas.List.{append-nil}
 use Rattle.std.specs.List.{starts_with, AllByRecursion}
-use Rattle.std.specs.List.Sorted.{IsStrictlySortedBy}
-use Rattle.std.specs.declared.cmp.Ordering.TheVariants.{Less}
-use Rattle.line_feed.specs.Lines.{cut, onto}
+use Rattle.line_feed.specs.Lines.{cut}
 use Rattle.ledger_spec.specs.declared.Kind.TheVariants.{State, Tx}
 use Rattle.ledger_spec.specs.Bytes.{Bytes, Hash, Half, Items}
 use Rattle.ledger_spec.specs.Forms.{IsHeld, leaf}
-use Rattle.ledger_spec.specs.Maps.{hash_cmp, IsMap}
 use Rattle.ledger_spec.specs.Tree.{Entry, IsByteEntry}
-use Rattle.root_pass.specs.Rows.{IsBehind}
-use Rattle.tree_laws.proofs.Orders.{map_append, all_weaker}
 use Rattle.audit_core.specs.declared.cause.Cause.{Cause}
 use Rattle.audit_core.specs.declared.cause.Cause.TheVariants as causes
 use Rattle.audit_core.specs.declared.answer.Answer.{Answer}
@@ -26,7 +21,7 @@ use Rattle.plain_audit.specs.Lines.{after_line, first_of, header_word, item_of, 
 use Rattle.plain_audit.specs.Answers.{Comes}
 use Rattle.plain_audit.specs.Ledgers.{IsItemText, IsTxLine, AreEach, Tells, AcceptedIsLedger, TextHasItems}
 use Rattle.audit_core.proofs.Behind.{behind_from, rises_push, none_rises}
-use Rattle.audit_core.proofs.Cuts.{all_of, cut_all}
+use Rattle.audit_core.proofs.Cuts.{cut_all}
 use Rattle.audit_core.proofs.Decoded.{digits_some}
 use Rattle.plain_audit.proofs.Texts.{item_text, item_bytes, begins_is}
 

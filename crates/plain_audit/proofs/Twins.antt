@@ -1,5 +1,5 @@
 -- The ledgers of two runs that answer whole for one hash are whole ledgers of that hash.
-use Rattle.std.proofs.Common.{◌≡◌, Option, sym, ◌∙◌}
+use Rattle.std.proofs.Common.{Option, sym, ◌∙◌}
 use Rattle.ledger_spec.specs.Bytes.{Bytes, Hash, Half}
 use Rattle.audit_core.specs.declared.answer.Answer.TheVariants.{Whole}
 use Rattle.audit_core.specs.declared.answer.Sum.{Sum}

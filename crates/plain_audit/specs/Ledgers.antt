@@ -1,6 +1,5 @@
 -- A ledger's plain text, as what it is and not as it is read.
 use Rattle.std.specs.Prelude.{◌≡◌, ◌++◌, ◌∷◌, nat_lt, is_some, List, [], length, Option, Ok}
-use Rattle.std.specs.List.{flat_map}
 use Rattle.hex.specs.Hex.{decode_of}
 use Rattle.half_hash.specs.Hex.{IsHexOf}
 use Rattle.ledger_spec.specs.declared.Kind.TheVariants.{State, Tx}
@@ -9,7 +8,6 @@ use Rattle.ledger_spec.specs.Forms.{IsItem}
 use Rattle.ledger_spec.specs.Maps.{hash_cmp, IsMap}
 use Rattle.ledger_spec.specs.Tree.{Entry, AreItems}
 use Rattle.audit_core.specs.declared.answer.Answer.{Answer}
-use Rattle.audit_core.specs.declared.answer.Answer.TheVariants.{Whole, OtherHash, OtherState, OtherTx, Refused}
 use Rattle.audit_core.specs.Said.{Said, items_or_none}
 use Rattle.audit_core.specs.Verdicts.{IsVerdict, IsAccepted}
 use Rattle.audit_core.specs.Runs.{joined}

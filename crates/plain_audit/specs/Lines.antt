@@ -1,5 +1,5 @@
 -- A ledger in plain lines: its header, then the items of its state in the order of their keys, then perhaps those of its transactions.
-use Rattle.std.specs.Prelude.{ℕ, ◌==◌, ◌&&◌, nat_eq, nat_lt, if◌then◌else◌, ◌∷◌, [], length}
+use Rattle.std.specs.Prelude.{ℕ, ◌==◌, ◌&&◌, nat_eq, nat_lt, if◌then◌else◌, length}
 use Rattle.std.specs.Prelude.{take, drop, slice_index, codes, Option, None, Some, Result, Err}
 use Rattle.std.specs.List.{starts_with}
 use Rattle.ledger_spec.specs.Bytes.{Bytes}

@@ -1,4 +1,4 @@
-use Rattle.std.proofs.Common.{◌≡◌, ◌*◌, ◌∙◌, arith}
+use Rattle.std.proofs.Common.{◌*◌, ◌∙◌, arith}
 use Rattle.hex.proofs.Pairs.{decode_start, decode_step, decode_done}
 use Rattle.hex.proofs.HexLemmas.{decode_of-even}
 use Rattle.hex_digits.proofs.decode_digits.Goals as goal
