@@ -5,15 +5,57 @@ use half_hash::Half512;
 use node_backend::MemShelf;
 use run_io::{MemSink, MemSource};
 use std::alloc::Global;
+use std::process::Abort;
+use std::sync::Wait;
 use std::sync::atomic::{AtomicU64, Ordering};
 use std::test::Fail;
+use std::thread;
+use std::thread::Threads;
 use top_call::ledger_run;
 
 /// How long an actor is held at most.
 const MOST_TURNS: u32 = 100_000_000;
 
+/// How many pairs of accounts the first actor's session sets.
+const PAIRS: u16 = 265;
+
+/// How many answers the first actor has once its rotation has begun: to three lines of the beginning, the puts, and six more.
+const BEGUN: u64 = 539;
+
 /// How many lines the second actor has.
 const OTHERS: u64 = 7;
+
+/// What a session makes, and where its rotation is held.
+#[derive(Clone, Copy)]
+struct Case {
+    /// Whether the keys of a pair differ in their last digit, so that some sixty nodes stand over the two alone, or in their fifth one.
+    deep: bool,
+    /// The ledger that the first actor closes, and the one that the other closes over it, as `Ledger` of tools/store_rules.py makes them.
+    closed: &'static str,
+    next: &'static str,
+    /// How many slices the rotation does, and behind how many of them the other actor writes.
+    slices: u64,
+    held_after: u64,
+}
+
+/// A ledger of 1,326 hashes, whose copy ends with its slices.
+const FEW: Case = Case {
+    deep: false,
+    closed: "10129BFD83F8A30E0C55FA8AE7F44E0C484DEB4862458FFD7C841EA459938C94",
+    next: "2E8F507A3EBC12BC2750B88382F4887DD54C84B975E3AEC730E62B79D89A9D1A",
+    slices: 5,
+    held_after: 1,
+};
+
+/// A ledger of 16,961 hashes, more than 65 slices take. A rotation does 64, and its swap copies what is left in one section. `rt try`
+/// takes some 40 processor seconds for it: beside other work give it `--seconds 300`.
+const MANY: Case = Case {
+    deep: true,
+    closed: "891FB5B4FB5E103C500E369A8AB187B629570AEFC9044F4E51138428C8627CA9",
+    next: "258D420B6E1E9A1D9485333FC35332240174F69CCF5AE957FD70FB729240072A",
+    slices: 64,
+    held_after: 64,
+};
 
 /// A ledger of one account, which is stored from the beginning, and a session over it.
 const BEGINNING: &str =
@@ -24,7 +66,7 @@ const BEGINNING: &str =
       0 check 8FD3CF3398C4E5250787DA9BB64CE8F92FA1DA06DFF9B8C748214BA02AA4C205\n\
       0 edit 1 8FD3CF3398C4E5250787DA9BB64CE8F92FA1DA06DFF9B8C748214BA02AA4C205\n";
 
-/// The close of a session that has set 400 accounts; a ledger whose second account is still missing; a rotation; and what is there
+/// The close of the session that set the pairs; a ledger whose second account is still missing; a rotation; and what is there
 /// behind it.
 const ROTATION: &str = "0 close 1 100000000000000000 2 10 0\n\
       0 want B1FF3F2E046B52F9E6EDEDD226518C0A17C43FD49CA26CD7393FD6DB5CC857FE 4\n\
@@ -34,56 +76,70 @@ const ROTATION: &str = "0 close 1 100000000000000000 2 10 0\n\
       0 begin\n\
       0 swap\n\
       0 check B1FF3F2E046B52F9E6EDEDD226518C0A17C43FD49CA26CD7393FD6DB5CC857FE\n\
-      0 view 1 E5D914E962BAB22C5222A6A5701EF1B1C280C4E80ACFD9B4836C697A3037E0ED\n\
+      0 view 1 %\n\
       0 get 1 state 0100000000000000000000000000000000000000000000000000000000000001\n\
       0 get 1 state 0200000000000000000000000000000000000000000000000000000000000000\n";
 
 /// What the other actor does between two slices: a node under a copied one, a ledger over a copied one, a root that comes and two that go.
 const MEANWHILE: &str =
     "1 node 5 B1FF3F2E046B52F9E6EDEDD226518C0A17C43FD49CA26CD7393FD6DB5CC857FE state 2_1 0304202020202020202020202020202020202020202020202020202020202020202001\n\
-      1 edit 2 43CD95320D9ED9AB52DED88B742A1B5683CCADC6CD001DEE173464A6C3C4F17F\n\
+      1 edit 2 $\n\
       1 put 2 0100000000000000000000000000000000000000000000000000000000000001 06\n\
       1 close 2 100000000000000000 3 10 0\n\
       1 want 1111111111111111111111111111111111111111111111111111111111111111 9\n\
-      1 view 3 43CD95320D9ED9AB52DED88B742A1B5683CCADC6CD001DEE173464A6C3C4F17F\n\
+      1 view 3 $\n\
       1 unview 3\n";
 
 /// What the lines from the close on are answered, and the end.
-const ANSWERS: &str =
-    "407 0 close closed 43CD95320D9ED9AB52DED88B742A1B5683CCADC6CD001DEE173464A6C3C4F17F\n\
-      408 0 want opened\n\
-      409 0 peer added\n\
-      410 0 base good / good\n\
-      411 0 node good\n\
-      412 0 begin begun 2 2\n\
-      418 1 node good\n\
-      419 1 edit ok\n\
-      420 1 put ok\n\
-      421 1 close closed E5D914E962BAB22C5222A6A5701EF1B1C280C4E80ACFD9B4836C697A3037E0ED\n\
-      422 1 want opened\n\
-      423 1 view ok\n\
-      424 1 unview ok\n\
-      413 0 swap swapped 1\n\
-      414 0 check complete\n\
-      415 0 view ok\n\
-      416 0 get value 06\n\
-      417 0 get value 05\n\
+const ANSWERS: &str = "537 0 close closed $\n\
+      538 0 want opened\n\
+      539 0 peer added\n\
+      540 0 base good / good\n\
+      541 0 node good\n\
+      542 0 begin begun 2 2\n\
+      548 1 node good\n\
+      549 1 edit ok\n\
+      550 1 put ok\n\
+      551 1 close closed %\n\
+      552 1 want opened\n\
+      553 1 view ok\n\
+      554 1 unview ok\n\
+      543 0 swap swapped 1\n\
+      544 0 check complete\n\
+      545 0 view ok\n\
+      546 0 get value 06\n\
+      547 0 get value 05\n\
       end complete 2 closed 2 listed 3 floor 2 last 2 epoch 1\n";
 
-/// Holds the second actor until the first has come between two slices, and the first there until the second has had its lines answered.
+/// Holds the second actor until the first has done so many slices of its swap, and the first behind them until the second has had its
+/// lines answered.
 #[derive(Drop)]
 struct Between {
+    held_after: u64,
+    answers: AtomicU64,
     slices: AtomicU64,
     others: AtomicU64,
     gave_up: AtomicU64,
 }
 
 impl Between {
-    fn new() -> Between {
+    fn new(held_after: u64) -> Between {
         Between {
+            held_after,
+            answers: AtomicU64::new(0),
             slices: AtomicU64::new(0),
             others: AtomicU64::new(0),
             gave_up: AtomicU64::new(0),
+        }
+    }
+
+    fn slice(&self) {
+        if self.answers.load(Ordering::SeqCst) != BEGUN {
+            return;
+        }
+        self.slices.fetch_add(1, Ordering::SeqCst);
+        if self.slices.load(Ordering::SeqCst) == self.held_after {
+            self.wait(&self.others, OTHERS);
         }
     }
 
@@ -92,6 +148,7 @@ impl Between {
             if count.load(Ordering::SeqCst) >= least {
                 return;
             }
+            thread::yield_now();
         }
         self.gave_up.store(1, Ordering::SeqCst);
     }
@@ -100,11 +157,11 @@ impl Between {
 impl Gate for Between {
     fn pass(&self, actor: u8, point: Point) {
         match (actor, point) {
-            (0, Point::BetweenSlices) => {
-                self.slices.fetch_add(1, Ordering::SeqCst);
-                self.wait(&self.others, OTHERS);
+            (0, Point::Answered) => {
+                self.answers.fetch_add(1, Ordering::SeqCst);
             }
-            (1, Point::BeforeCommit) => self.wait(&self.slices, 1),
+            (0, Point::BetweenSlices) => self.slice(),
+            (1, Point::BeforeCommit) => self.wait(&self.slices, self.held_after),
             (1, Point::Answered) => {
                 self.others.fetch_add(1, Ordering::SeqCst);
             }
@@ -113,37 +170,72 @@ impl Gate for Between {
     }
 }
 
-/// So many lines that set accounts, whose keys differ in their first two bytes.
-fn add_puts(text: &mut Vec<u8>, alloc: Global, count: u16) -> Result<(), Fail> {
-    for number in 1..=count {
-        let [high, low] = number.to_be_bytes();
-        text.extend_from_slice(b"0 put 1 ")?;
-        text.extend_from_slice(hex::encode_upper(alloc, &[low, high])?.as_bytes())?;
-        text.extend_from_slice(&[b'0'; 60])?;
-        text.extend_from_slice(b" 05\n")?;
+/// A line that sets the account of this number with this one of its pair's two digits.
+fn add_put(
+    text: &mut Vec<u8>,
+    alloc: Global,
+    deep: bool,
+    number: u16,
+    digit: u8,
+) -> Result<(), Fail> {
+    let [high, low] = number.to_be_bytes();
+    let zeros = [b'0'; 59];
+    text.extend_from_slice(b"0 put 1 ")?;
+    text.extend_from_slice(hex::encode_upper(alloc, &[low, high])?.as_bytes())?;
+    if deep {
+        text.extend_from_slice(&zeros)?;
+        text.push(digit)?;
+    } else {
+        text.push(digit)?;
+        text.extend_from_slice(&zeros)?;
+    }
+    text.extend_from_slice(b" 05\n")?;
+    Ok(())
+}
+
+/// Lines that set so many pairs of accounts.
+fn add_puts(text: &mut Vec<u8>, alloc: Global, deep: bool, pairs: u16) -> Result<(), Fail> {
+    for number in 1..=pairs {
+        add_put(text, alloc, deep, number, b'0')?;
+        add_put(text, alloc, deep, number, b'1')?;
     }
     Ok(())
 }
 
-/// The beginning, a session of so many puts, and the rest of each actor.
-fn script(alloc: Global, puts: u16, first: &str, second: &str) -> Result<MemSource, Fail> {
+/// Adds the text that is written in short, where `$` and `%` stand for the ledger that is closed and the next one.
+fn add_filled(text: &mut Vec<u8>, alloc: Global, case: &Case, short: &str) -> Result<(), Fail> {
+    for byte in expand(alloc, short)? {
+        match byte {
+            b'$' => text.extend_from_slice(case.closed.as_bytes())?,
+            b'%' => text.extend_from_slice(case.next.as_bytes())?,
+            other => text.push(other)?,
+        }
+    }
+    Ok(())
+}
+
+/// The beginning, the session, and the rest of each actor.
+fn script(alloc: Global, case: &Case) -> Result<MemSource, Fail> {
     let mut text = expand(alloc, BEGINNING)?;
-    add_puts(&mut text, alloc, puts)?;
-    text.extend_from_slice(&expand(alloc, first)?)?;
-    text.extend_from_slice(&expand(alloc, second)?)?;
+    add_puts(&mut text, alloc, case.deep, PAIRS)?;
+    add_filled(&mut text, alloc, case, ROTATION)?;
+    add_filled(&mut text, alloc, case, MEANWHILE)?;
     Ok(MemSource::new(text, 100_000, Vec::new(alloc)))
 }
 
-#[test]
-fn another_actor_writes_between_slices(rt: HostRuntime) -> Result<(), Fail> {
-    let alloc = rt.alloc();
-    let mut source = script(alloc, 400, ROTATION, MEANWHILE)?;
+/// Runs the case's session and rotation, with the other actor's lines between two slices.
+fn replay<R: Abort + Threads + Wait + Sync>(
+    rt: &R,
+    alloc: Global,
+    case: &Case,
+) -> Result<(), Fail> {
+    let mut source = script(alloc, case)?;
     let mut sink = MemSink::new(alloc, 1_000_000, Vec::new(alloc))?;
     let shelf = MemShelf::new(alloc, Vec::new(alloc), Vec::new(alloc));
-    let gate = Between::new();
+    let gate = Between::new(case.held_after);
     let words = ["replay", "--interval", "1"];
     let ended = ledger_run(
-        &rt,
+        rt,
         alloc,
         &words,
         Half512,
@@ -152,8 +244,21 @@ fn another_actor_writes_between_slices(rt: HostRuntime) -> Result<(), Fail> {
         shelf,
         &gate,
     );
+    let mut answers = Vec::new(alloc);
+    add_filled(&mut answers, alloc, case, ANSWERS)?;
     assert_eq!(rt; ended.status, 0);
     assert_eq!(rt; gate.gave_up.load(Ordering::SeqCst), 0);
-    assert!(rt; sink.held().ends_with(ANSWERS.as_bytes()));
+    assert_eq!(rt; gate.slices.load(Ordering::SeqCst), case.slices);
+    assert!(rt; sink.held().ends_with(&answers));
     Ok(())
+}
+
+#[test]
+fn another_actor_writes_between_slices(rt: HostRuntime) -> Result<(), Fail> {
+    replay(&rt, rt.alloc(), &FEW)
+}
+
+#[test]
+fn another_actor_writes_behind_64_slices(rt: HostRuntime) -> Result<(), Fail> {
+    replay(&rt, rt.alloc(), &MANY)
 }
