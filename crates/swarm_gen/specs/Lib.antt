@@ -11,3 +11,4 @@ pub mod Trees
 pub mod Listed
 pub mod Tracking
 pub mod Serving
+pub mod Changed

@@ -12,6 +12,7 @@ ghost use Rattle.swarm_gen.specs.Ledgers.{key as key_of, eight, owners_of, state
 ghost use Rattle.swarm_gen.specs.Ledgers.{are_nonzero, is_made, hash_of_ledger};
 ghost use Rattle.swarm_gen.specs.Swarm.{nodes_before, ledger_of, read_keys as keys_read, swarm};
 ghost use Rattle.swarm_gen.specs.Adding.{ledger_from};
+ghost use Rattle.swarm_gen.specs.Changed.{IsChange};
 ghost use Rattle.swarm_gen.specs.Given.{sent as sent_as, below};
 ghost use Rattle.swarm_gen.specs.Standing.{IsAdded, IsShown};
 ghost use Rattle.swarm_gen.specs.Tracking.{leaves_in, items_in, shown_in};
@@ -20,7 +21,7 @@ ghost use Rattle.ledger_machine.specs.Scripts.{IsLedgerMap};
 ghost use Rattle.script_form.specs.Servable.{AreServable};
 
 use crate::lines::{Head, Sent};
-use crate::{Lines, PlacedNode, Plan, TrackedMap};
+use crate::{Lines, PlacedNode, Plan, Root, TrackedMap};
 use half_hash::{Blob, Hash32, Memory, NodeHash};
 use ledger_header::Header;
 use ledger_machine::Script;
@@ -153,6 +154,69 @@ fn sent(alloc: Global, kind: Kind, nodes: Vec<PlacedNode>) -> Result<Vec<Sent>, 
     Ok(sent)
 }
 
+/// A ledger with this head and the nodes below its roots, as it is sent.
+fn next_of(
+    alloc: Global,
+    head: Head,
+    state_nodes: Vec<PlacedNode>,
+    tx_nodes: Vec<PlacedNode>,
+) -> Result<Next, Memory>
+    ensures head { IfOk result (λ n. n.head ≡ head) }
+    ensures state { IfOk result (λ n. n.state_nodes.items ≡ map (sent_as State) (below state_nodes.items)) }
+    ensures tx { IfOk result (λ n. n.tx_nodes.items ≡ map (sent_as Tx) (below tx_nodes.items)) }
+    ensures maps { IfOk result (λ n. All IsOfLedger n.state_nodes.items × All IsOfLedger n.tx_nodes.items) }
+{
+    let state_nodes = sent(alloc, Kind::State, state_nodes)?;
+    let tx_nodes = sent(alloc, Kind::Tx, tx_nodes)?;
+    Ok(Next {
+        head,
+        state_nodes,
+        tx_nodes,
+    })
+}
+
+/// What a ledger changes, and its roots.
+#[derive(Drop)]
+struct Changes {
+    state_root: Root,
+    tx_root: Root,
+    state_nodes: Vec<PlacedNode>,
+    tx_nodes: Vec<PlacedNode>,
+}
+
+/// What the ledger of a sequence changes, or none where one of its maps is empty.
+fn take_all<H: NodeHash>(
+    alloc: Global,
+    plan: &Plan,
+    state: &mut TrackedMap<H>,
+    seq: u32,
+) -> Result<Option<Changes>, Memory>
+    requires leaves { leaves_in state.old ≡ State }
+    requires items { items_in state.old ≡ state_of H.half plan.now seq }
+    requires shown { shown_in H.half state.old ≡ nodes_before H.half plan.now seq }
+    ensures made { IfOk result (λ changes. MatchOption changes (is_made H.half plan.now seq ≡ false)
+        (λ c. IsChange H.half plan.now seq c.state_root c.tx_root c.state_nodes.items c.tx_nodes.items)) }
+    ensures leaves { OnOk result (leaves_in state.new ≡ State) }
+    ensures items { OnOk result (items_in state.new ≡ state_of H.half plan.now seq) }
+    ensures shown { OnOk result (shown_in H.half state.new ≡ state_nodes H.half plan.now seq) }
+{
+    let mut txs = txs::<H>(alloc, plan, seq)?;
+    let state_nodes = state.take_changes(alloc)?;
+    let tx_nodes = txs.take_changes(alloc)?;
+    let Some(state_root) = state.root(alloc)? else {
+        return Ok(None);
+    };
+    let Some(tx_root) = txs.root(alloc)? else {
+        return Ok(None);
+    };
+    Ok(Some(Changes {
+        state_root,
+        tx_root,
+        state_nodes,
+        tx_nodes,
+    }))
+}
+
 /// The ledger of a sequence, as it is sent, or none where it isn't made.
 fn next_ledger<H: NodeHash>(
     alloc: Global,
@@ -178,15 +242,15 @@ fn next_ledger<H: NodeHash>(
     ensures ranges { IfOk result (λ next. IfSome next (λ n. IsTrue (is_nonzero n.head.hash)
         × All IsOfLedger n.state_nodes.items × All IsOfLedger n.tx_nodes.items)) }
 {
-    let mut txs = txs::<H>(alloc, plan, seq)?;
-    let state_nodes = state.take_changes(alloc)?;
-    let tx_nodes = txs.take_changes(alloc)?;
-    let Some(state_root) = state.root(alloc)? else {
+    let Some(changes) = take_all::<H>(alloc, plan, state, seq)? else {
         return Ok(None);
     };
-    let Some(tx_root) = txs.root(alloc)? else {
-        return Ok(None);
-    };
+    let Changes {
+        state_root,
+        tx_root,
+        state_nodes,
+        tx_nodes,
+    } = changes;
     let header = Header {
         seq,
         drops: DROPS,
@@ -209,13 +273,7 @@ fn next_ledger<H: NodeHash>(
         state_root: state_root.blob,
         tx_root: tx_root.blob,
     };
-    let state_nodes = sent(alloc, Kind::State, state_nodes)?;
-    let tx_nodes = sent(alloc, Kind::Tx, tx_nodes)?;
-    Ok(Some(Next {
-        head,
-        state_nodes,
-        tx_nodes,
-    }))
+    Ok(Some(next_of(alloc, head, state_nodes, tx_nodes)?))
 }
 
 /// Where a script stands behind a ledger.
