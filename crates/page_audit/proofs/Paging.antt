@@ -4,8 +4,8 @@ use Rattle.std.specs.Prelude.{codes, if◌then◌else◌}
 use Rattle.std.specs.Option.{option_map}
 use Rattle.std.proofs.lemmas.Bool.{cond-true, cond-false}
 use Rattle.std.proofs.lemmas.Slice.Eq.{bytes_eq-Decides}
-use Rattle.serde_json.specs.Data.{Data, Items as Elements}
-use Rattle.serde_json.specs.Find.{get}
+use Rattle.json.specs.Json.{Json, Items as Elements}
+use Rattle.json.specs.Find.{get}
 use Rattle.ledger_spec.specs.Bytes.{Bytes, Hash, same_bytes}
 use Rattle.ledger_spec.specs.Header.{seq_of}
 use Rattle.audit_core.specs.declared.cause.Cause.{Cause}
@@ -18,7 +18,7 @@ pub is_some_map : {X Y : Type 0} (f : X → Y) (o : Option X) → is_some (optio
 is_some_map f None = refl
 is_some_map f (Some x) = refl
 
-module _ (p : Paged) (d : Data) where
+module _ (p : Paged) (d : Json) where
   -- a page, whose list was found
   pub page_taken : (ds : Elements) (s : Said) (more : Bool) → Some ds ≡ list_in d → with_items p.said ds ≡ Ok s
       → more ≡ is_some (get (codes "marker") d) → with_page p d ≡ Ok (record { said = s; hash = p.hash; more = more })
@@ -58,11 +58,11 @@ module _ (p : Paged) (d : Data) where
       ∙ cond-false (is_some (get (codes "state") d)) _ _ none
 
   -- a line behind the first one
-  pub next_line : (line : Bytes) (w : Data) → Some w ≡ document line → d ≡ inside w → after_page (Some p) line ≡ next_page p d
+  pub next_line : (line : Bytes) (w : Json) → Some w ≡ document line → d ≡ inside w → after_page (Some p) line ≡ next_page p d
   next_line line w read is = ap (taken (Some p)) (sym read) ∙ ap (next_page p) (sym is)
 
 -- the ledger's number decides, where hash and header were found
-pub opened_on : (d : Data) (hash : Hash) (text bytes : Bytes) (s : Said) → Some hash ≡ hash_in d → Some text ≡ header_in d
+pub opened_on : (d : Json) (hash : Hash) (text bytes : Bytes) (s : Said) → Some hash ≡ hash_in d → Some text ≡ header_in d
     → Some bytes ≡ digits_of text → headed (Some bytes) ≡ Ok s
     → opened d ≡ numbered (record { said = s; hash = hash; more = true }) (number_in (seq_of s.header) d)
 opened_on d hash text bytes s hash_is text_is bytes_are is =

@@ -10,8 +10,8 @@ use Rattle.std.specs.List.Sorted.{IsStrictlySortedBy}
 use Rattle.std.specs.Map.{keys_of}
 use Rattle.std.specs.Option.{option_and_then}
 use Rattle.std.specs.declared.cmp.Ordering.TheVariants.{Less}
-use Rattle.serde_json.specs.Data.{Data, Items as Elements, no_items, item}
-use Rattle.serde_json.specs.Find.{get, as_array}
+use Rattle.json.specs.Json.{Json, Items as Elements, no_items, item}
+use Rattle.json.specs.Find.{get, as_array}
 use Rattle.line_feed.specs.Lines.{cut}
 use Rattle.ledger_spec.specs.Bytes.{Bytes, Hash, Half, Items, same_bytes}
 use Rattle.ledger_spec.specs.Header.{seq_of}
@@ -33,7 +33,7 @@ use Rattle.audit_core.specs.declared.answer.Answer.TheVariants.{Refused}
 use Rattle.audit_core.proofs.Decoded.{digits_is, checked_read}
 
 -- an item's element is taken
-element_read : (d : Data) (e : Entry) → IsElement d e → item_in d ≡ Ok e
+element_read : (d : Json) (e : Entry) → IsElement d e → item_in d ≡ Ok e
 element_read d e is =
     ap (λ (k : Option Bytes). item_of_texts k (text_at (codes "data") d)) is.key_is ∙ ap (item_of_texts (Some is.key_text)) is.data_is
     ∙ ap (λ (k : Option Bytes). keyed k (digits_of is.data_text)) key ∙ ap (keyed (Some e.0)) (digits_is is.data_text e.1 is.bytes)
@@ -78,7 +78,7 @@ front [] ys rising = tt
 front (x ∷ xs) ys rising = (keys_front (λ k. hash_cmp x.0 k ≡ Less) xs ys rising.0, front xs ys rising.1)
 
 -- a page is taken
-page_read : (p : Paged) (d : Data) (seq : ℕ) (items : Items) (more : Bool) → IsPage d p.hash seq items more → p.said.txs ≡ None
+page_read : (p : Paged) (d : Json) (seq : ℕ) (items : Items) (more : Bool) → IsPage d p.hash seq items more → p.said.txs ≡ None
     → IsMap hash_cmp (p.said.items ++ items)
     → with_page p d ≡ Ok (record { said = more_items p.said items; hash = p.hash; more = more })
 page_read p d seq items more page none rising =
@@ -87,13 +87,13 @@ page_read p d seq items more page none rising =
     ∙ λ i. Ok (record { said = more_items p.said items; hash = p.hash; more = page.marker i })
 
 -- a document that names the ledger is known
-names_read : (p : Paged) (d : Data) → Names d p.hash (seq_of p.said.header) → same_ledger p d (hash_in d) ≡ Ok p
+names_read : (p : Paged) (d : Json) → Names d p.hash (seq_of p.said.header) → same_ledger p d (hash_in d) ≡ Ok p
 names_read p d names =
     ap (same_ledger p d) names.hash_is ∙ cond-true (same_bytes p.hash p.hash) _ _ ((bytes_eq-Decides p.hash p.hash).1 refl)
     ∙ ap (numbered p) names.number_is
 
 -- a page behind the first document is taken
-next_read : (p : Paged) (d : Data) (items : Items) (more : Bool) → p.more ≡ true → IsPage d p.hash (seq_of p.said.header) items more
+next_read : (p : Paged) (d : Json) (items : Items) (more : Bool) → p.more ≡ true → IsPage d p.hash (seq_of p.said.header) items more
     → p.said.txs ≡ None → IsMap hash_cmp (p.said.items ++ items)
     → next_page p d ≡ Ok (record { said = more_items p.said items; hash = p.hash; more = more })
 next_read p d items more is page none rising =
@@ -101,8 +101,8 @@ next_read p d items more is page none rising =
     ∙ page_read p d (seq_of p.said.header) items more page none rising
 
 -- a line with a document
-line_read : (o : Option Paged) (line : Bytes) (d : Data) (q : Paged) → IsDocument line d
-    → ((w : Data) → inside w ≡ d → taken o (Some w) ≡ Ok q) → step page_most after_page o line ≡ Ok q
+line_read : (o : Option Paged) (line : Bytes) (d : Json) (q : Paged) → IsDocument line d
+    → ((w : Json) → inside w ≡ d → taken o (Some w) ≡ Ok q) → step page_most after_page o line ≡ Ok q
 line_read o line d q is takes =
     cond-false (nat_lt page_most (length line)) _ _ (le-ltb page_most (length line) is.short) ∙ ap (taken o) is.read
     ∙ takes is.whole is.inside_is
@@ -119,7 +119,7 @@ module _ (half : Half) (expect : Option Hash) (answer : Answer) where
       (λ t. Says Refused page_most after_page (Comes half expect) (n + 1) (Some t) lines [] answer)) (sym is) (reads (n + 1))
 
   -- the pages behind a document
-  pages_read : (p : Paged) (lines : List Bytes) (docs : List Data) (items : Items) → AreDocuments lines docs → p.more ≡ true
+  pages_read : (p : Paged) (lines : List Bytes) (docs : List Json) (items : Items) → AreDocuments lines docs → p.more ≡ true
       → p.said.txs ≡ None → ArePages p.hash (seq_of p.said.header) docs items → IsMap hash_cmp (p.said.items ++ items)
       → IsPagesVerdict half expect p.hash (more_items p.said items) answer → Reads (Some p) lines
   pages_read p lines [] items each more none pages rising verdict = absurd pages
@@ -152,7 +152,7 @@ module _ (half : Half) (expect : Option Hash) (answer : Answer) where
   abbrev fresh : Hash → Bytes → Paged
   fresh hash header = record { said = record { header = header; items = []; txs = None }; hash = hash; more = true }
 
-  opened_read : (d : Data) (hash : Hash) (header : Bytes) → IsFirst d hash header → opened d ≡ Ok (fresh hash header)
+  opened_read : (d : Json) (hash : Hash) (header : Bytes) → IsFirst d hash header → opened d ≡ Ok (fresh hash header)
   opened_read d hash header first =
       ap (λ (h : Option Hash). opened_by d h (header_in d)) first.names.hash_is ∙ ap (opened_by d (Some hash)) first.text_is
       ∙ ap (λ (r : Result Said Cause). onward r
@@ -162,19 +162,19 @@ module _ (half : Half) (expect : Option Hash) (answer : Answer) where
       ∙ ap (numbered (fresh hash header)) first.names.number_is
 
   -- a list stands there
-  has_list : (o : Option Data) (list : Elements) → option_and_then as_array o ≡ Some list → is_some o ≡ true
+  has_list : (o : Option Json) (list : Elements) → option_and_then as_array o ≡ Some list → is_some o ≡ true
   has_list None list is = let e : None ≡ Some list = is in cc
   has_list (Some d) list is = refl
 
   -- the first document is taken, as it has a list or none
-  first_alone : (d : Data) (hash : Hash) (header : Bytes) → IsFirst d hash header → get (codes "state") d ≡ None
+  first_alone : (d : Json) (hash : Hash) (header : Bytes) → IsFirst d hash header → get (codes "state") d ≡ None
       → first_page d ≡ Ok (fresh hash header)
   first_alone d hash header first none =
       ap (λ (r : Result Paged Cause). onward r (λ p. if is_some (get (codes "state") d) then with_page p d else Ok p))
       (opened_read d hash header first)
       ∙ cond-false (is_some (get (codes "state") d)) _ _ (ap is_some none)
 
-  first_listed : (d : Data) (hash : Hash) (header : Bytes) (items : Items) (more : Bool) → IsFirst d hash header
+  first_listed : (d : Json) (hash : Hash) (header : Bytes) (items : Items) (more : Bool) → IsFirst d hash header
       → IsPage d hash (seq_of header) items more → IsMap hash_cmp items
       → first_page d ≡ Ok (record { said = record { header = header; items = items; txs = None }; hash = hash; more = more })
   first_listed d hash header items more first page rising =
@@ -184,11 +184,11 @@ module _ (half : Half) (expect : Option Hash) (answer : Answer) where
       ∙ page_read (fresh hash header) d (seq_of header) items more page refl rising
 
   -- all documents
-  tell_read : (lines : List Bytes) (docs : List Data) (hash : Hash) (s : Said) → AreDocuments lines docs → Tell docs hash s
+  tell_read : (lines : List Bytes) (docs : List Json) (hash : Hash) (s : Said) → AreDocuments lines docs → Tell docs hash s
       → IsPagesVerdict half expect hash s answer → Reads None lines
   tell_read lines docs hash s each tell verdict =
-      by lines tell.head tell.behind (subst (λ (ds : List Data). AreDocuments lines ds) tell.docs_are each) tell.first
-      (subst (λ (ds : List Data). ArePages hash (seq_of s.header) ds s.items
+      by lines tell.head tell.behind (subst (λ (ds : List Json). AreDocuments lines ds) tell.docs_are each) tell.first
+      (subst (λ (ds : List Json). ArePages hash (seq_of s.header) ds s.items
       ⊎ ((get (codes "state") tell.head ≡ None) × ArePages hash (seq_of s.header) tell.behind s.items)) tell.docs_are tell.pages)
     where
       own : IsPagesVerdict half expect hash (record { header = s.header; items = s.items; txs = None }) answer
@@ -201,7 +201,7 @@ module _ (half : Half) (expect : Option Hash) (answer : Answer) where
       ended [] each n = own
       ended (line ∷ lines) each n = absurd each
 
-      by_pages : (line : Bytes) (lines : List Bytes) (d : Data) (behind : List Data) → IsDocument line d → AreDocuments lines behind
+      by_pages : (line : Bytes) (lines : List Bytes) (d : Json) (behind : List Json) → IsDocument line d → AreDocuments lines behind
           → IsFirst d hash s.header → ArePages hash (seq_of s.header) (d ∷ behind) s.items → Reads None (line ∷ lines)
       by_pages line lines d [] document each first pages =
           let last : Paged = record { said = record { header = s.header; items = s.items; txs = None }; hash = hash; more = false } in
@@ -218,7 +218,7 @@ module _ (half : Half) (expect : Option Hash) (answer : Answer) where
           (subst (λ (es : Items). IsPagesVerdict half expect hash
           (record { header = s.header; items = es; txs = None }) answer) pages.2 own))
 
-      by : (lines : List Bytes) (d : Data) (behind : List Data) → AreDocuments lines (d ∷ behind) → IsFirst d hash s.header
+      by : (lines : List Bytes) (d : Json) (behind : List Json) → AreDocuments lines (d ∷ behind) → IsFirst d hash s.header
           → ArePages hash (seq_of s.header) (d ∷ behind) s.items
           ⊎ ((get (codes "state") d ≡ None) × ArePages hash (seq_of s.header) behind s.items) → Reads None lines
       by [] d behind each first pages = absurd each
@@ -228,7 +228,7 @@ module _ (half : Half) (expect : Option Hash) (answer : Answer) where
           one_read None line lines p (line_read None line d p each.0 (λ w is. ap first_page is ∙ first_alone d hash s.header first alone.0))
           (pages_read p lines behind s.items each.1 refl refl alone.1 tell.rising own)) pages
 
-documents_one : (lines : List Bytes) (docs : List Data) → AreDocuments lines docs → AreOne lines
+documents_one : (lines : List Bytes) (docs : List Json) → AreDocuments lines docs → AreOne lines
 documents_one [] docs each = tt
 documents_one (line ∷ lines) [] each = absurd each
 documents_one (line ∷ lines) (d ∷ docs) each = (each.0.one, documents_one lines docs each.1)

@@ -5,8 +5,8 @@ use Rattle.std.specs.Prelude.{if◌then◌else◌, codes}
 use Rattle.std.proofs.lemmas.Bool.{ltb-false, eqb-true}
 use Rattle.std.proofs.lemmas.List.{append-nil}
 use Rattle.hex.specs.Hex.{decode_of}
-use Rattle.serde_json.specs.Data.{Data, Items as Elements, no_items, item}
-use Rattle.serde_json.specs.Find.{get}
+use Rattle.json.specs.Json.{Json, Items as Elements, no_items, item}
+use Rattle.json.specs.Find.{get}
 use Rattle.line_feed.specs.Lines.{cut, IsOneLine}
 use Rattle.ledger_spec.specs.Bytes.{Bytes, Hash, Half, Items, same_bytes}
 use Rattle.ledger_spec.specs.Header.{seq_of}
@@ -35,7 +35,7 @@ onward_is : {X Y : Type 0} (r : Result X Cause) (on : X → Result Y Cause) (y :
 onward_is (Ok x) on y is = (x, refl, is)
 onward_is (Err cause) on y is = let e : Err cause ≡ Ok y = is in cc
 
-no_value : (o : Option Data) → is_some o ≡ false → o ≡ None
+no_value : (o : Option Json) → is_some o ≡ false → o ≡ None
 no_value None is = refl
 no_value (Some d) is = cc
 
@@ -49,7 +49,7 @@ hash_text text hash is = by (length text == 64) refl is
     by false size is = let e : None ≡ Some hash = is in cc
 
 -- an element that is taken is an item's
-element_told : (d : Data) (e : Entry) → item_in d ≡ Ok e → IsElement d e
+element_told : (d : Json) (e : Entry) → item_in d ≡ Ok e → IsElement d e
 element_told d e is = by (text_at (codes "index") d) (text_at (codes "data") d) refl refl is
   where
     by_keys : (key text : Bytes) (k b : Option Bytes) → hash_of_text key ≡ k → digits_of text ≡ b → text_at (codes "index") d ≡ Some key
@@ -131,7 +131,7 @@ numbered_is p q (Some false) is = let e : Err causes.OtherLedger ≡ Ok q = is i
 numbered_is p q (Some true) is = (refl, (let e : Ok p ≡ Ok q = is in cc))
 
 -- a page that is taken
-record Takes (p : Paged) (d : Data) (q : Paged) : Type 0 where
+record Takes (p : Paged) (d : Json) (q : Paged) : Type 0 where
   list : Elements
   list_is : list_in d ≡ Some list
   items : Items
@@ -140,13 +140,13 @@ record Takes (p : Paged) (d : Data) (q : Paged) : Type 0 where
   rising : IsMap hash_cmp (p.said.items ++ items)
 
 -- a page with what is said behind it
-abbrev page_with : Paged → Said → Data → Paged
+abbrev page_with : Paged → Said → Json → Paged
 page_with p s d = record { said = s; hash = p.hash; more = is_some (get (codes "marker") d) }
 
 same_ok : (a b : Paged) (r : Result Paged Cause) → r ≡ Ok a → r ≡ Ok b → a ≡ b
 same_ok a b r first second = let e : Ok a ≡ Ok b = sym first ∙ second in cc
 
-page_told : (p q : Paged) (d : Data) → p.said.txs ≡ None → IsMap hash_cmp p.said.items → with_page p d ≡ Ok q → Takes p d q
+page_told : (p q : Paged) (d : Json) → p.said.txs ≡ None → IsMap hash_cmp p.said.items → with_page p d ≡ Ok q → Takes p d q
 page_told p q d none rising is =
     let on = onward_is {X = Said} {Y = Paged} (with_list p.said (list_in d)) (λ s. Ok (page_with p s d)) q is in
     by (list_in d) on.0 refl on.1 (same_ok (page_with p on.0 d) q (Ok (page_with p on.0 d)) refl on.2)
@@ -168,7 +168,7 @@ same_is : (a b : Bytes) → same_bytes a b ≡ true → a ≡ b
 same_is a b is = (Rattle.std.proofs.lemmas.Slice.Eq.bytes_eq-Decides a b).0 is
 
 -- a document of the same ledger
-same_told : (p q : Paged) (d : Data) → same_ledger p d (hash_in d) ≡ Ok q → Names d p.hash (seq_of p.said.header) × (p ≡ q)
+same_told : (p q : Paged) (d : Json) → same_ledger p d (hash_in d) ≡ Ok q → Names d p.hash (seq_of p.said.header) × (p ≡ q)
 same_told p q d is = by (hash_in d) refl is
   where
     by_hash : (hash : Hash) (b : Bool) → hash_in d ≡ Some hash → same_bytes hash p.hash ≡ b
@@ -184,7 +184,7 @@ same_told p q d is = by (hash_in d) refl is
     by (Some hash) hash_is is = by_hash hash (same_bytes hash p.hash) hash_is refl is
 
 -- a page behind the first document
-next_told : (p q : Paged) (d : Data) → p.said.txs ≡ None → IsMap hash_cmp p.said.items → next_page p d ≡ Ok q
+next_told : (p q : Paged) (d : Json) → p.said.txs ≡ None → IsMap hash_cmp p.said.items → next_page p d ≡ Ok q
     → (p.more ≡ true) × Names d p.hash (seq_of p.said.header) × Takes p d q
 next_told p q d none rising is = by p.more refl is
   where
@@ -198,11 +198,11 @@ next_told p q d none rising is = by p.more refl is
 
 -- the document of a line that is taken
 line_told : (o : Option Paged) (line : Bytes) (q : Paged) → IsOneLine line → step page_most after_page o line ≡ Ok q
-    → (w : Data) × IsDocument line (inside w) × (taken o (Some w) ≡ Ok q)
+    → (w : Json) × IsDocument line (inside w) × (taken o (Some w) ≡ Ok q)
 line_told o line q one is = by (nat_lt page_most (length line)) refl is
   where
-    by_document : (w : Option Data) → document line ≡ w → length line ≤ page_most → taken o w ≡ Ok q
-        → (w : Data) × IsDocument line (inside w) × (taken o (Some w) ≡ Ok q)
+    by_document : (w : Option Json) → document line ≡ w → length line ≤ page_most → taken o w ≡ Ok q
+        → (w : Json) × IsDocument line (inside w) × (taken o (Some w) ≡ Ok q)
     by_document None read short is = let e : Err causes.NoJson ≡ Ok q = none_taken o ∙ is in cc
       where
         none_taken : (o : Option Paged) → Err causes.NoJson ≡ taken o None
@@ -211,21 +211,21 @@ line_told o line q one is = by (nat_lt page_most (length line)) refl is
     by_document (Some w) read short is = (w, record { whole = w; read = read; inside_is = refl; one = one; short = short }, is)
 
     by : (b : Bool) → nat_lt page_most (length line) ≡ b → (if b then Err causes.TooLong else after_page o line) ≡ Ok q
-        → (w : Data) × IsDocument line (inside w) × (taken o (Some w) ≡ Ok q)
+        → (w : Json) × IsDocument line (inside w) × (taken o (Some w) ≡ Ok q)
     by true long is = let e : Err causes.TooLong ≡ Ok q = is in cc
     by false long is = by_document (document line) refl (ltb-false page_most (length line) long) is
 
 -- the pages that are to come have these items, and none are where none is to come
-abbrev RestAre : Bool → Hash → ℕ → List Data → Items → Type 0
+abbrev RestAre : Bool → Hash → ℕ → List Json → Items → Type 0
 RestAre true hash seq docs items = ArePages hash seq docs items
 RestAre false hash seq docs items = (docs ≡ []) × (items ≡ [])
 
 -- one page more
-pages_more : (more : Bool) (hash : Hash) (seq : ℕ) (d : Data) (docs : List Data) (here items : Items) → IsPage d hash seq here more
+pages_more : (more : Bool) (hash : Hash) (seq : ℕ) (d : Json) (docs : List Json) (here items : Items) → IsPage d hash seq here more
     → RestAre more hash seq docs items → ArePages hash seq (d ∷ docs) (here ++ items)
 pages_more false hash seq d docs here items page rest =
     let none : here ≡ here ++ items = sym (append-nil here) ∙ ap (λ (es : Items). here ++ es) (sym rest.1) in
-    subst (λ (ds : List Data). ArePages hash seq (d ∷ ds) (here ++ items)) (sym rest.0)
+    subst (λ (ds : List Json). ArePages hash seq (d ∷ ds) (here ++ items)) (sym rest.0)
     (subst (λ (es : Items). IsPage d hash seq es false) none page)
 pages_more true hash seq d [] here items page rest = absurd rest
 pages_more true hash seq d (e ∷ docs) here items page rest = (here, items, refl, page, rest)
@@ -237,7 +237,7 @@ module _ (half : Half) (expect : Option Hash) (answer : Answer) (accepted : IsAc
   -- what the lines behind a page come to
   record Rest (p : Paged) (lines : List Bytes) (rest : Bytes) : Type 0 where
     items : Items
-    docs : List Data
+    docs : List Json
     each : AreDocuments lines docs
     rest_is : rest ≡ []
     rising : IsMap hash_cmp (p.said.items ++ items)
@@ -266,9 +266,9 @@ module _ (half : Half) (expect : Option Hash) (answer : Answer) (accepted : IsAc
       }
 
   -- a page, and what the lines behind it come to
-  page_on : (p q : Paged) (line : Bytes) (lines : List Bytes) (rest : Bytes) (d : Data) → IsDocument line d
+  page_on : (p q : Paged) (line : Bytes) (lines : List Bytes) (rest : Bytes) (d : Json) → IsDocument line d
       → Names d p.hash (seq_of p.said.header) → Takes p d q → Rest q lines rest
-      → (items : Items) × (docs : List Data) × AreDocuments (line ∷ lines) (d ∷ docs) × (rest ≡ [])
+      → (items : Items) × (docs : List Json) × AreDocuments (line ∷ lines) (d ∷ docs) × (rest ≡ [])
       × IsMap hash_cmp (p.said.items ++ items) × ArePages p.hash (seq_of p.said.header) (d ∷ docs) items
       × IsPagesVerdict half expect p.hash (more_items p.said items) answer
   page_on p q line lines rest d document names takes on =
@@ -287,10 +287,10 @@ module _ (half : Half) (expect : Option Hash) (answer : Answer) (accepted : IsAc
             (λ i. record { header = p.said.header; items = split i; txs = p.said.txs }) r.verdict,
       )
 
-  none_after : (p q : Paged) (d : Data) → p.said.txs ≡ None → Takes p d q → q.said.txs ≡ None
+  none_after : (p q : Paged) (d : Json) → p.said.txs ≡ None → Takes p d q → q.said.txs ≡ None
   none_after p q d none takes = ap (λ (u : Paged). u.said.txs) takes.after ∙ none
 
-  rising_after : (p q : Paged) (d : Data) → Takes p d q → IsMap hash_cmp q.said.items
+  rising_after : (p q : Paged) (d : Json) → Takes p d q → IsMap hash_cmp q.said.items
   rising_after p q d takes = subst (λ (u : Paged). IsMap hash_cmp u.said.items) (sym takes.after) takes.rising
 
   rest_told : (n : ℕ) (p : Paged) (lines : List Bytes) (rest : Bytes) → AreOne lines → p.said.txs ≡ None → IsMap hash_cmp p.said.items
@@ -323,13 +323,13 @@ module _ (half : Half) (expect : Option Hash) (answer : Answer) (accepted : IsAc
           }
 
   -- the first document
-  record Opens (d : Data) (p : Paged) : Type 0 where
+  record Opens (d : Json) (p : Paged) : Type 0 where
     first : IsFirst d p.hash p.said.header
     empty : p.said.items ≡ []
     none : p.said.txs ≡ None
     more : p.more ≡ true
 
-  opened_told : (d : Data) (p : Paged) → opened d ≡ Ok p → Opens d p
+  opened_told : (d : Json) (p : Paged) → opened d ≡ Ok p → Opens d p
   opened_told d p is = by (hash_in d) (header_in d) refl refl is
     where
       by_size : (hash : Hash) (text bytes : Bytes) (b : Bool) → hash_in d ≡ Some hash → header_in d ≡ Some text
@@ -370,7 +370,7 @@ module _ (half : Half) (expect : Option Hash) (answer : Answer) (accepted : IsAc
   record All (lines : List Bytes) (rest : Bytes) : Type 0 where
     hash : Hash
     said : Said
-    docs : List Data
+    docs : List Json
     each : AreDocuments lines docs
     rest_is : rest ≡ []
     tell : Tell docs hash said
@@ -385,7 +385,7 @@ module _ (half : Half) (expect : Option Hash) (answer : Answer) (accepted : IsAc
   all_told [] [] one says = absurd (not_refused 1 causes.NoHeader says)
   all_told (line ∷ lines) rest one says = by (step page_most after_page None line) refl says
     where
-      finish : (p : Paged) (items : Items) (d : Data) (docs : List Data) → Opens d p → AreDocuments (line ∷ lines) (d ∷ docs) → rest ≡ []
+      finish : (p : Paged) (items : Items) (d : Json) (docs : List Json) → Opens d p → AreDocuments (line ∷ lines) (d ∷ docs) → rest ≡ []
           → IsMap hash_cmp (p.said.items ++ items)
           → ArePages p.hash (seq_of p.said.header) (d ∷ docs) items
           ⊎ ((get (codes "state") d ≡ None) × ArePages p.hash (seq_of p.said.header) docs items)
@@ -412,7 +412,7 @@ module _ (half : Half) (expect : Option Hash) (answer : Answer) (accepted : IsAc
             verdict = verdict;
           }
 
-      by_state : (w : Data) (p q : Paged) (b : Bool) → IsDocument line (inside w) → Opens (inside w) p
+      by_state : (w : Json) (p q : Paged) (b : Bool) → IsDocument line (inside w) → Opens (inside w) p
           → is_some (get (codes "state") (inside w)) ≡ b → (if b then with_page p (inside w) else Ok p) ≡ Ok q
           → Says Refused page_most after_page (Comes half expect) 2 (Some q) lines rest answer → All (line ∷ lines) rest
       by_state w p q false document opens state is says =

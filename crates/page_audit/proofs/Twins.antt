@@ -1,7 +1,7 @@
 -- The ledgers of two runs that answer whole for one hash, each in its form, are whole ledgers of that hash.
 use Rattle.std.proofs.Common.{◌≡◌, inl, inr, ⊎_elim, ℕ, List, [], ◌∷◌, ◌++◌, Option, None, sym, ◌∙◌, subst}
 use Rattle.std.specs.List.{AllByRecursion}
-use Rattle.serde_json.specs.Data.{Data, Items as Elements, no_items, item}
+use Rattle.json.specs.Json.{Json, Items as Elements, no_items, item}
 use Rattle.ledger_spec.specs.declared.Kind.TheVariants.{State, Tx}
 use Rattle.ledger_spec.specs.Bytes.{Bytes, Hash, Half, Items}
 use Rattle.ledger_spec.specs.Forms.{IsHeld, leaf}
@@ -43,7 +43,7 @@ module _ (half : Half) where
       let own : IsByteEntry e = (decoded_bytes each.0.key_text e.0 each.0.key.value, decoded_bytes each.0.data_text e.1 each.0.bytes) in
       ((each.0.item, rest.0), (own, rest.1))
 
-  pages_good : (hash : Hash) (seq : ℕ) (docs : List Data) (items : Items) → ArePages hash seq docs items → AreGood items
+  pages_good : (hash : Hash) (seq : ℕ) (docs : List Json) (items : Items) → ArePages hash seq docs items → AreGood items
   pages_good hash seq [] items pages = absurd pages
   pages_good hash seq (d ∷ []) items pages = elements_good pages.list items pages.each
   pages_good hash seq (d ∷ e ∷ docs) items pages =

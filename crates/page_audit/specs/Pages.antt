@@ -1,7 +1,7 @@
 -- What is said page by page.
 use Rattle.std.specs.Prelude.{◌≡◌, ℕ, Bool, true, false, is_some, if◌then◌else◌, codes, Option, None, Some, Result, Ok, Err}
-use Rattle.serde_json.specs.Data.{Data, Items as Elements, no_items, item}
-use Rattle.serde_json.specs.Find.{get}
+use Rattle.json.specs.Json.{Json, Items as Elements, no_items, item}
+use Rattle.json.specs.Find.{get}
 use Rattle.ledger_spec.specs.Bytes.{Bytes, Hash, Half, same_bytes}
 use Rattle.ledger_spec.specs.Header.{seq_of}
 use Rattle.audit_core.specs.declared.cause.Cause.{Cause}
@@ -39,7 +39,7 @@ with_list s None = Err causes.State
 with_list s (Some ds) = with_items s ds
 
 -- a page's items are taken, and a marker says that more pages are to come
-abbrev pub with_page : Paged → Data → Result Paged Cause
+abbrev pub with_page : Paged → Json → Result Paged Cause
 with_page p d =
     onward (with_list p.said (list_in d)) (λ s. Ok (record { said = s; hash = p.hash; more = is_some (get (codes "marker") d) }))
 
@@ -50,31 +50,31 @@ numbered p (Some true) = Ok p
 numbered p (Some false) = Err causes.OtherLedger
 
 -- the first document's hash, header and number; no item is taken
-abbrev pub opened_by : Data → Option Hash → Option Bytes → Result Paged Cause
+abbrev pub opened_by : Json → Option Hash → Option Bytes → Result Paged Cause
 opened_by d None text = Err causes.Hash
 opened_by d (Some hash) None = Err causes.NoHeader
 opened_by d (Some hash) (Some text) =
     onward (headed (digits_of text)) (λ s. numbered (record { said = s; hash = hash; more = true }) (number_in (seq_of s.header) d))
 
-abbrev pub opened : Data → Result Paged Cause
+abbrev pub opened : Json → Result Paged Cause
 opened d = opened_by d (hash_in d) (header_in d)
 
 -- the first document, which may have the header alone
-abbrev pub first_page : Data → Result Paged Cause
+abbrev pub first_page : Json → Result Paged Cause
 first_page d = onward (opened d) (λ p. if is_some (get (codes "state") d) then with_page p d else Ok p)
 
 -- a document behind it is of the same ledger
-abbrev pub same_ledger : Paged → Data → Option Hash → Result Paged Cause
+abbrev pub same_ledger : Paged → Json → Option Hash → Result Paged Cause
 same_ledger p d None = Err causes.Hash
 same_ledger p d (Some hash) =
     if same_bytes hash p.hash then numbered p (number_in (seq_of p.said.header) d) else Err causes.OtherLedger
 
 -- a page behind the first document, where one is to come
-abbrev pub next_page : Paged → Data → Result Paged Cause
+abbrev pub next_page : Paged → Json → Result Paged Cause
 next_page p d = if p.more then onward (same_ledger p d (hash_in d)) (λ q. with_page q d) else Err causes.Extra
 
 -- a line's document is the first one or another one
-abbrev pub taken : Option Paged → Option Data → Result Paged Cause
+abbrev pub taken : Option Paged → Option Json → Result Paged Cause
 taken p None = Err causes.NoJson
 taken None (Some d) = first_page (inside d)
 taken (Some p) (Some d) = next_page p (inside d)

@@ -2,8 +2,8 @@
 use Rattle.std.specs.Prelude.{◌≡◌, ◌⊎◌, ◌≤◌, ℕ, Bool, true, false, is_some, List, [], ◌∷◌, ◌++◌, length, codes, Option, None, Some, Ok}
 use Rattle.hex.specs.Hex.{decode_of}
 use Rattle.half_hash.specs.Hex.{IsHexOf}
-use Rattle.serde_json.specs.Data.{Data, Items as Elements, no_items, item}
-use Rattle.serde_json.specs.Find.{get}
+use Rattle.json.specs.Json.{Json, Items as Elements, no_items, item}
+use Rattle.json.specs.Find.{get}
 use Rattle.line_feed.specs.Lines.{IsOneLine}
 use Rattle.ledger_spec.specs.Bytes.{Bytes, Hash, Half, Items}
 use Rattle.ledger_spec.specs.Forms.{IsItem}
@@ -18,7 +18,7 @@ use Rattle.page_audit.specs.Documents.{document, inside, text_at, hash_in, heade
 use Rattle.page_audit.specs.Pages.{page_most, wanted, IsPagesAnswer}
 
 -- the element has the key's 64 digits and the data's digits
-pub record IsElement (d : Data) (e : Entry) : Type 0 where
+pub record IsElement (d : Json) (e : Entry) : Type 0 where
   pub key_text : Bytes
   pub data_text : Bytes
   pub key_is : text_at (codes "index") d ≡ Some key_text
@@ -35,12 +35,12 @@ AreElements (item d ds) [] = ⊥
 AreElements (item d ds) (e ∷ items) = IsElement d e × AreElements ds items
 
 -- the document names the ledger's hash and number
-pub record Names (d : Data) (hash : Hash) (seq : ℕ) : Type 0 where
+pub record Names (d : Json) (hash : Hash) (seq : ℕ) : Type 0 where
   pub hash_is : hash_in d ≡ Some hash
   pub number_is : number_in seq d ≡ Some true
 
 -- a page has these items, and says whether more are to come
-pub record IsPage (d : Data) (hash : Hash) (seq : ℕ) (items : Items) (more : Bool) : Type 0 where
+pub record IsPage (d : Json) (hash : Hash) (seq : ℕ) (items : Items) (more : Bool) : Type 0 where
   pub names : Names d hash seq
   pub list : Elements
   pub list_is : list_in d ≡ Some list
@@ -48,14 +48,14 @@ pub record IsPage (d : Data) (hash : Hash) (seq : ℕ) (items : Items) (more : B
   pub marker : is_some (get (codes "marker") d) ≡ more
 
 -- pages up to the last one have these items, page by page
-abbrev pub ArePages : Hash → ℕ → List Data → Items → Type 0
+abbrev pub ArePages : Hash → ℕ → List Json → Items → Type 0
 ArePages hash seq [] items = ⊥
 ArePages hash seq (d ∷ []) items = IsPage d hash seq items false
 ArePages hash seq (d ∷ e ∷ docs) items =
     (here : Items) × (behind : Items) × (items ≡ here ++ behind) × IsPage d hash seq here true × ArePages hash seq (e ∷ docs) behind
 
 -- the first document names the ledger, and has its header
-pub record IsFirst (d : Data) (hash : Hash) (header : Bytes) : Type 0 where
+pub record IsFirst (d : Json) (hash : Hash) (header : Bytes) : Type 0 where
   pub names : Names d hash (seq_of header)
   pub text : Bytes
   pub text_is : header_in d ≡ Some text
@@ -64,9 +64,9 @@ pub record IsFirst (d : Data) (hash : Hash) (header : Bytes) : Type 0 where
 
 -- the documents are those of the ledger: the first has the header, and is the first page or has no list of items; keys rise through all of
 -- them
-pub record Tell (docs : List Data) (hash : Hash) (s : Said) : Type 0 where
-  pub head : Data
-  pub behind : List Data
+pub record Tell (docs : List Json) (hash : Hash) (s : Said) : Type 0 where
+  pub head : Json
+  pub behind : List Json
   pub docs_are : docs ≡ head ∷ behind
   pub first : IsFirst head hash s.header
   pub pages : ArePages hash (seq_of s.header) docs s.items
@@ -75,15 +75,15 @@ pub record Tell (docs : List Data) (hash : Hash) (s : Said) : Type 0 where
   pub txs : s.txs ≡ None
 
 -- a line has the document, which may be the result inside
-pub record IsDocument (line : Bytes) (d : Data) : Type 0 where
-  pub whole : Data
+pub record IsDocument (line : Bytes) (d : Json) : Type 0 where
+  pub whole : Json
   pub read : document line ≡ Some whole
   pub inside_is : inside whole ≡ d
   pub one : IsOneLine line
   pub short : length line ≤ page_most
 
 -- each line has the document at its place
-abbrev pub AreDocuments : List Bytes → List Data → Type 0
+abbrev pub AreDocuments : List Bytes → List Json → Type 0
 AreDocuments [] [] = Unit {0}
 AreDocuments [] (d ∷ docs) = ⊥
 AreDocuments (line ∷ lines) [] = ⊥
@@ -92,7 +92,7 @@ AreDocuments (line ∷ lines) (d ∷ docs) = IsDocument line d × AreDocuments l
 -- the bytes are documents that tell this ledger, a line each
 pub record IsPagesText (bytes : Bytes) (hash : Hash) (s : Said) : Type 0 where
   pub lines : List Bytes
-  pub docs : List Data
+  pub docs : List Json
   pub bytes_are : bytes ≡ joined lines
   pub each : AreDocuments lines docs
   pub tell : Tell docs hash s

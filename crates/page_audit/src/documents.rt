@@ -1,47 +1,44 @@
 //! What a document says.
-ghost use Rattle.std.specs.Prelude.{◌≡◌, Ok, Err, IfOk, IfErr, Option, option_and_then};
+ghost use Rattle.std.specs.Prelude.{◌≡◌, Ok, Err, IfOk, IfErr};
 ghost use Rattle.std.specs.List.{list_all};
 ghost use Rattle.std.specs.Option.{option_map};
-ghost use Rattle.serde_json.specs.View.{view, items_view};
+ghost use Rattle.json.specs.Value.{value_view as view, items_view};
 ghost use Rattle.audit_core.specs.declared.cause.Cause.{Cause as AnyCause};
 ghost use Rattle.audit_core.specs.declared.cause.LineFault.TheVariants as faults;
 ghost use Rattle.page_audit.specs.Documents.{document, inside, text_at as text_said, hash_of_text as hash_said, hash_in, header_in};
-ghost use Rattle.page_audit.specs.Documents.{list_in, number_in, item_in, is_number as number_said, is_digit, is_decimal as decimal_said};
-ghost use Rattle.serde_json.specs.Find.{as_number, as_str, as_u64};
+ghost use Rattle.page_audit.specs.Documents.{list_in, number_in, item_in, is_number as number_said, is_digits_of as digits_said};
+ghost use Rattle.page_audit.specs.Documents.{is_digit, is_decimal as decimal_said};
+ghost use Rattle.json.specs.Find.{as_number, as_str, as_array};
 
 use audit_core::{Cause, LineFault, bytes_of, checked, key_of};
 use half_hash::{Hash32, Memory};
-use serde_json::Value;
+use json::{Error, Scratch, Value};
 use std::alloc::{AllocError, Global};
 
-/// The document of a line, where it is one.
-pub(crate) fn document_of(alloc: Global, line: &[u8]) -> Result<Option<Value>, Memory>
+/// The document of a line, where it is one. Its texts are the line's, or stand in the room where they have escapes.
+pub(crate) fn document_of<'a>(
+    alloc: Global,
+    room: &'a mut Scratch,
+    line: &'a [u8],
+) -> Result<Option<Value<'a>>, Memory>
     ensures { IfOk result (λ o. option_map view o ≡ document line.now) }
 {
-    match Value::from_slice(alloc, line) {
+    match Value::from_slice(alloc, line, room) {
         Ok(value) => Ok(Some(value)),
-        Err(fault) => {
-            if fault.is_memory() {
-                Err(Memory)
-            } else {
-                Ok(None)
-            }
-        }
+        Err(Error::Invalid) => Ok(None),
+        Err(_) => Err(Memory),
     }
 }
 
 /// The answer's result, or the document itself where it is bare.
-pub(crate) fn result_of(document: &Value) -> &Value
+pub(crate) fn result_of<'v, 'a>(document: &'v Value<'a>) -> &'v Value<'a>
     ensures { view result.now ≡ inside (view document.now) }
 {
-    match document.get("result") {
-        Some(result_inside) => result_inside,
-        None => document,
-    }
+    document.get("result").unwrap_or(document)
 }
 
 /// The text under a name.
-fn text_at<'v>(object: &'v Value, name: &str) -> Option<&'v str>
+fn text_at<'a>(object: &Value<'a>, name: &str) -> Option<&'a str>
     ensures { option_map (λ t. t.now) result ≡ text_said name.now (view object.now) }
 {
     match object.get(name) {
@@ -61,7 +58,7 @@ fn hash_of_text(text: &[u8]) -> Option<Hash32>
 }
 
 /// The hash that a document names.
-pub(crate) fn hash_of(object: &Value) -> Option<Hash32>
+pub(crate) fn hash_of(object: &Value<'_>) -> Option<Hash32>
     ensures { result ≡ hash_in (view object.now) }
 {
     match text_at(object, "ledger_hash") {
@@ -71,7 +68,7 @@ pub(crate) fn hash_of(object: &Value) -> Option<Hash32>
 }
 
 /// The header's digits.
-pub(crate) fn header_of(object: &Value) -> Option<&str>
+pub(crate) fn header_of<'a>(object: &Value<'a>) -> Option<&'a str>
     ensures { option_map (λ t. t.now) result ≡ header_in (view object.now) }
 {
     match object.get("ledger") {
@@ -83,7 +80,7 @@ pub(crate) fn header_of(object: &Value) -> Option<&str>
 /// Whether the document names this ledger's number, as a number or in digits; nothing where it names none.
 pub(crate) fn has_number(
     alloc: Global,
-    object: &Value,
+    object: &Value<'_>,
     seq: u32,
 ) -> Result<Option<bool>, AllocError>
     ensures { IfOk result (λ o. o ≡ number_in seq (view object.now)) }
@@ -95,17 +92,28 @@ pub(crate) fn has_number(
 }
 
 /// The list of items.
-pub(crate) fn list_of(object: &Value) -> Option<&Vec<Value>>
+pub(crate) fn list_of<'v, 'a>(object: &'v Value<'a>) -> Option<&'v Vec<Value<'a>>>
     ensures { option_map (λ v. items_view v.now.items) result ≡ list_in (view object.now) }
 {
     match object.get("state") {
-        Some(value) => value.as_array(),
+        Some(value) => array_of(value),
         None => None,
     }
 }
 
+// The list that a value is.
+fn array_of<'v, 'a>(value: &'v Value<'a>) -> Option<&'v Vec<Value<'a>>>
+    ensures { option_map (λ v. items_view v.now.items) result ≡ as_array (view value.now) }
+{
+    if let Value::Array(list) = value {
+        Some(list)
+    } else {
+        None
+    }
+}
+
 /// The item that an element of the list says.
-pub(crate) fn item_of(alloc: Global, element: &Value) -> Result<(Hash32, Vec<u8>), LineFault>
+pub(crate) fn item_of(alloc: Global, element: &Value<'_>) -> Result<(Hash32, Vec<u8>), LineFault>
     ensures ok { IfOk result (λ item. item_in (view element.now) ≡ Ok (item.0, item.1.items)) }
     ensures cause { IfErr result (λ fault. (cause : AnyCause) → fault ≡ faults.Cause cause → item_in (view element.now) ≡ Err cause) }
 {
@@ -124,11 +132,11 @@ pub(crate) fn item_of(alloc: Global, element: &Value) -> Result<(Hash32, Vec<u8>
 }
 
 // Whether the value is this number, or its digits; nothing where it is neither a number nor digits.
-fn is_number(alloc: Global, value: &Value, seq: u32) -> Result<Option<bool>, AllocError>
-    ensures { IfOk result (λ o. o ≡ number_said seq (option_and_then as_u64 (as_number (view value.now))) (as_str (view value.now))) }
+fn is_number(alloc: Global, value: &Value<'_>, seq: u32) -> Result<Option<bool>, AllocError>
+    ensures { IfOk result (λ o. o ≡ number_said seq (as_number (view value.now)) (as_str (view value.now))) }
 {
-    if let Some(number) = value.as_u64() {
-        return Ok(Some(number == u64::from(seq)));
+    if let Some(digits) = value.as_number() {
+        return is_digits_of(alloc, digits, seq);
     }
     match value.as_str() {
         Some(text) => is_digits_of(alloc, text, seq),
@@ -138,7 +146,7 @@ fn is_number(alloc: Global, value: &Value, seq: u32) -> Result<Option<bool>, All
 
 // Whether the digits are this number's; nothing where they are none.
 fn is_digits_of(alloc: Global, text: &str, seq: u32) -> Result<Option<bool>, AllocError>
-    ensures { IfOk result (λ o. o ≡ number_said seq Option.None (Option.Some text.now)) }
+    ensures { IfOk result (λ o. o ≡ digits_said seq text.now) }
 {
     if !is_decimal(text.as_bytes()) {
         return Ok(None);

@@ -1,7 +1,7 @@
 //! The pages so far.
 ghost use Rattle.std.specs.Prelude.{◌≡◌, ◌≢◌, Ok, Err, Option, IfOk, IfErr, OnOk, MatchBool};
 ghost use Rattle.ledger_spec.specs.Bytes.{Half};
-ghost use Rattle.serde_json.specs.View.{view, items_view};
+ghost use Rattle.json.specs.Value.{value_view as view, items_view};
 ghost use Rattle.audit_core.specs.declared.cause.Cause.{Cause as AnyCause};
 ghost use Rattle.audit_core.specs.declared.cause.LineFault.TheVariants as faults;
 ghost use Rattle.audit_core.specs.Said.{Said, with_state};
@@ -14,7 +14,7 @@ ghost use Rattle.audit_core.specs.Verdicts.{IsVerdict};
 use crate::documents::{has_number, hash_of, header_of, item_of, list_of};
 use audit_core::{Answer, Audit, Cause, LineFault, bytes_of, fault_of};
 use half_hash::{Hash32, NodeHash};
-use serde_json::Value;
+use json::Value;
 use std::alloc::Global;
 
 /// The audit of the pages so far, the hash that they name, and whether more of them are to come.
@@ -29,7 +29,10 @@ impl PageAudit {
     ghost use Rattle.page_audit.specs.Keeping.{KeepsPages};
 
     /// The first document is taken, which may have the header alone.
-    pub(crate) fn first<H: NodeHash>(alloc: Global, object: &Value) -> Result<PageAudit, LineFault>
+    pub(crate) fn first<H: NodeHash>(
+        alloc: Global,
+        object: &Value<'_>,
+    ) -> Result<PageAudit, LineFault>
         ensures ok { IfOk result (λ pages. (p : Paged) × (first_page (view object.now) ≡ Ok p) × KeepsPages H.half pages p) }
         ensures cause { IfErr result (λ fault. (cause : AnyCause) → fault ≡ faults.Cause cause → first_page (view object.now) ≡ Err cause) }
     {
@@ -44,7 +47,7 @@ impl PageAudit {
     pub(crate) fn next<H: NodeHash>(
         self,
         alloc: Global,
-        object: &Value,
+        object: &Value<'_>,
     ) -> Result<PageAudit, LineFault>
         ensures ok { IfOk result (λ pages. (p : Paged) → KeepsPages H.half self p
             → (q : Paged) × (next_page p (view object.now) ≡ Ok q) × KeepsPages H.half pages q) }
@@ -83,7 +86,7 @@ impl PageAudit {
     }
 
     // A ledger with the header and the hash of its first document.
-    fn opened(alloc: Global, object: &Value) -> Result<PageAudit, LineFault>
+    fn opened(alloc: Global, object: &Value<'_>) -> Result<PageAudit, LineFault>
         ensures ok { IfOk result (λ pages. (p : Paged) × (opened_said (view object.now) ≡ Ok p)
             × ((half : Half) → KeepsPages half pages p)) }
         ensures cause { IfErr result (λ fault. (cause : AnyCause) → fault ≡ faults.Cause cause
@@ -108,7 +111,7 @@ impl PageAudit {
     }
 
     // The document is of this ledger.
-    fn known(&self, alloc: Global, object: &Value) -> Result<(), LineFault>
+    fn known(&self, alloc: Global, object: &Value<'_>) -> Result<(), LineFault>
         ensures ok { OnOk result ((half : Half) (p : Paged) → KeepsPages half self.now p
             → same_ledger p (view object.now) (hash_in (view object.now)) ≡ Ok p) }
         ensures cause { IfErr result (λ fault. (cause : AnyCause) (half : Half) (p : Paged) → fault ≡ faults.Cause cause
@@ -124,7 +127,11 @@ impl PageAudit {
     }
 
     // The items of a page are taken.
-    fn with_page<H: NodeHash>(self, alloc: Global, object: &Value) -> Result<PageAudit, LineFault>
+    fn with_page<H: NodeHash>(
+        self,
+        alloc: Global,
+        object: &Value<'_>,
+    ) -> Result<PageAudit, LineFault>
         ensures ok { IfOk result (λ pages. (p : Paged) → KeepsPages H.half self p
             → (q : Paged) × (page_said p (view object.now) ≡ Ok q) × KeepsPages H.half pages q) }
         ensures cause { IfErr result (λ fault. (cause : AnyCause) (p : Paged) → fault ≡ faults.Cause cause → KeepsPages H.half self p
@@ -148,7 +155,11 @@ impl PageAudit {
 }
 
 // The items of a list are taken, one after the other.
-fn add_items<H: NodeHash>(audit: &mut Audit, alloc: Global, list: &[Value]) -> Result<(), LineFault>
+fn add_items<H: NodeHash>(
+    audit: &mut Audit,
+    alloc: Global,
+    list: &[Value<'_>],
+) -> Result<(), LineFault>
     ensures ok { OnOk result ((s : Said) → Keeps H.half audit.old s
         → (t : Said) × (with_items s (items_view list.now) ≡ Ok t) × Keeps H.half audit.new t) }
     ensures cause { IfErr result (λ fault. (cause : AnyCause) (s : Said) → fault ≡ faults.Cause cause → Keeps H.half audit.old s
@@ -161,7 +172,11 @@ fn add_items<H: NodeHash>(audit: &mut Audit, alloc: Global, list: &[Value]) -> R
 }
 
 // The item of an element is taken.
-fn add_item<H: NodeHash>(audit: &mut Audit, alloc: Global, element: &Value) -> Result<(), LineFault>
+fn add_item<H: NodeHash>(
+    audit: &mut Audit,
+    alloc: Global,
+    element: &Value<'_>,
+) -> Result<(), LineFault>
     ensures ok { OnOk result ((s : Said) → Keeps H.half audit.old s
         → (t : Said) × (with_state s (item_in (view element.now)) ≡ Ok t) × Keeps H.half audit.new t) }
     ensures cause { IfErr result (λ fault. (cause : AnyCause) (s : Said) → fault ≡ faults.Cause cause → Keeps H.half audit.old s
@@ -172,7 +187,7 @@ fn add_item<H: NodeHash>(audit: &mut Audit, alloc: Global, element: &Value) -> R
 }
 
 // The document names this number.
-fn named(alloc: Global, object: &Value, seq: u32) -> Result<(), LineFault>
+fn named(alloc: Global, object: &Value<'_>, seq: u32) -> Result<(), LineFault>
     ensures ok { OnOk result ((p : Paged) → numbered p (number_in seq (view object.now)) ≡ Ok p) }
     ensures cause { IfErr result (λ fault. (cause : AnyCause) (p : Paged) → fault ≡ faults.Cause cause
         → numbered p (number_in seq (view object.now)) ≡ Err cause) }

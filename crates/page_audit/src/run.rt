@@ -11,6 +11,7 @@ use crate::documents::{document_of, result_of};
 use crate::pages::PageAudit;
 use audit_core::{Answer, Cause, LineFault};
 use half_hash::{Hash32, NodeHash};
+use json::Scratch;
 use line_feed::{Fed, Feed};
 use run_io::{AllFault, Source};
 use std::alloc::Global;
@@ -32,6 +33,7 @@ pub fn audit_pages<H: NodeHash, S: Source>(
         return Err(AllFault::Memory);
     };
     let mut line = Vec::new(alloc);
+    let mut room = Scratch::new(alloc);
     let mut pages = None;
     for n in 1..u64::MAX {
         match feed.next_line(source, PAGE_MOST, &mut line)? {
@@ -39,7 +41,7 @@ pub fn audit_pages<H: NodeHash, S: Source>(
             Fed::End => return Ok(ended::<H>(pages, n, &line, expect)),
             Fed::TooLong => return Ok(refused(n, Cause::TooLong)),
         }
-        match after_line::<H>(alloc, pages, &line) {
+        match after_line::<H>(alloc, &mut room, pages, &line) {
             Ok(after) => pages = Some(after),
             Err(LineFault::Cause(cause)) => return Ok(refused(n, cause)),
             Err(LineFault::Memory) => return Err(AllFault::Memory),
@@ -59,6 +61,7 @@ fn refused(line: u64, cause: Cause) -> Answer
 // The pages after one line more.
 fn after_line<H: NodeHash>(
     alloc: Global,
+    room: &mut Scratch,
     pages: Option<PageAudit>,
     line: &[u8],
 ) -> Result<PageAudit, LineFault>
@@ -67,7 +70,7 @@ fn after_line<H: NodeHash>(
     ensures cause { IfErr result (λ fault. (cause : AnyCause) (p : Option Paged) → fault ≡ faults.Cause cause
         → Both (KeepsPages H.half) pages p → said_after p line.now ≡ Err cause) }
 {
-    let Some(document) = document_of(alloc, line)? else {
+    let Some(document) = document_of(alloc, room, line)? else {
         return Err(LineFault::Cause(Cause::NoJson));
     };
     let object = result_of(&document);

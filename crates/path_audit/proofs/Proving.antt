@@ -1,6 +1,6 @@
 -- What a path's answer proves.
-use Rattle.std.proofs.Common.{◌≡◌, ◌⊎◌, ⊎_elim, ℕ, ◌+◌, Bool, true, false, List, [], ◌∷◌, ◌++◌, length, nat_lt}
-use Rattle.std.proofs.Common.{Option, None, Some, Result, Ok, Err, refl, sym, ap, ◌∙◌, subst, Contains, append_assoc}
+use Rattle.std.proofs.Common.{◌≡◌, ⊎_elim, ℕ, ◌+◌, Bool, true, false, List, [], ◌∷◌, ◌++◌, length, nat_lt}
+use Rattle.std.proofs.Common.{Option, None, Some, Result, Ok, Err, refl, sym, ap, ◌∙◌, subst, append_assoc}
 use Rattle.std.specs.Prelude.{if◌then◌else◌}
 use Rattle.std.proofs.lemmas.List.{append-nil}
 use Rattle.std.proofs.lemmas.List.Elements.{Contains-append_cases}
@@ -21,7 +21,7 @@ use Rattle.audit_core.specs.Runs.{unended, step, Goes, Says, joined}
 use Rattle.audit_core.proofs.Cuts.{cut_all}
 use Rattle.audit_core.proofs.Decoded.{digits_some}
 use Rattle.path_audit.specs.declared.answer.PathAnswer.{PathAnswer}
-use Rattle.path_audit.specs.declared.answer.PathAnswer.TheVariants.{Value, Nothing, NoPath, Refused}
+use Rattle.path_audit.specs.declared.answer.PathAnswer.TheVariants.{Refused}
 use Rattle.path_audit.specs.Paths.{path_most, node_held, node_of, behind, with_node, nodes_in, after_node, PathSays, Comes, Told}
 use Rattle.path_audit.specs.Paths.{AreForms, Proves, PathProves}
 

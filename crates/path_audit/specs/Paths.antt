@@ -80,8 +80,8 @@ pub record IsPathText (bytes : Bytes) (used : List Held) : Type 0 where
   pub bytes_are : bytes ≡ joined lines
   pub each : AreForms lines used
 
--- the nodes of the input lead from the root to the outcome, which is the answer of each map with the root, or they show two forms with one
--- hash
+-- the nodes of the input lead from the root to the outcome, which is the answer of each map with the root, or they show two nodes with one
+-- hash, where the empty node has the zero hash
 pub record Proves (half : Half) (root key : Hash) (bytes : Bytes) (outcome : Outcome) : Type 0 where
   pub used : List Held
   pub text : IsPathText bytes used

@@ -1,5 +1,5 @@
 use Rattle.std.proofs.Common.{◌≡◌, drop}
-use Rattle.serde_json.specs.View.{items_view}
+use Rattle.json.specs.Value.{items_view}
 use Rattle.audit_core.specs.Keeping.{Keeps}
 use Rattle.audit_core.specs.Said.{Said}
 use Rattle.page_audit.specs.Pages.{with_items}

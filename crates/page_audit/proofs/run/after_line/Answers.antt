@@ -1,7 +1,7 @@
 use Rattle.std.proofs.Common.{◌≡◌, Option, Some, Ok, Err, sym, ap, ◌∙◌}
 use Rattle.std.specs.Option.{option_map}
 use Rattle.std.proofs.lemmas.Result.{IfOk-weaker, IfErr-weaker}
-use Rattle.serde_json.specs.View.{view}
+use Rattle.json.specs.Value.{value_view as view}
 use Rattle.audit_core.proofs.Underway.{kept_some}
 use Rattle.page_audit.specs.Documents.{document}
 use Rattle.page_audit.specs.Pages.{Paged, after_page}

@@ -1,4 +1,4 @@
-use Rattle.std.proofs.Common.{◌≡◌, ◌∷◌, [], ◌∙◌, Option, Some, sym, ap}
+use Rattle.std.proofs.Common.{◌∷◌, [], ◌∙◌, sym, ap}
 use Rattle.std.specs.Prelude.{option_copied}
 use Rattle.std.proofs.lemmas.Result.{IfOk-weaker}
 use Rattle.shamap_node.specs.declared.Node.{Node}

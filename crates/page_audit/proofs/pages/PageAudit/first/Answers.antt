@@ -1,8 +1,8 @@
 use Rattle.std.proofs.Common.{◌≡◌, true, false, is_some, sym, ap, ◌∙◌}
 use Rattle.std.specs.Prelude.{codes, not}
 use Rattle.std.proofs.lemmas.Result.{IfOk-weaker, IfErr-weaker}
-use Rattle.serde_json.specs.Find.{get}
-use Rattle.serde_json.specs.View.{view}
+use Rattle.json.specs.Find.{get}
+use Rattle.json.specs.Value.{value_view as view}
 use Rattle.page_audit.proofs.Paging.{is_some_map, first_by, first_alone}
 use Rattle.page_audit.proofs.pages.PageAudit.first.Goals as goal
 

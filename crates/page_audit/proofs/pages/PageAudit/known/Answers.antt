@@ -1,6 +1,6 @@
 use Rattle.std.proofs.Common.{◌≡◌, ℕ, Ok, Err, ◌∙◌, subst}
 use Rattle.std.proofs.lemmas.Result.{on_ok_weaker, IfErr-weaker}
-use Rattle.serde_json.specs.View.{view}
+use Rattle.json.specs.Value.{value_view as view}
 use Rattle.page_audit.specs.Documents.{number_in}
 use Rattle.page_audit.specs.Pages.{numbered}
 use Rattle.page_audit.proofs.Paging.{known_by}

@@ -3,7 +3,7 @@ use Rattle.std.specs.Option.{option_map}
 use Rattle.std.specs.declared.vec.Vec.{Vec}
 use Rattle.std.specs.declared.alloc.Global.{Global}
 use Rattle.std.proofs.lemmas.Result.{err_from_is_err_and}
-use Rattle.serde_json.specs.View.{view}
+use Rattle.json.specs.Value.{value_view as view}
 use Rattle.ledger_spec.specs.Bytes.{Bytes}
 use Rattle.audit_core.specs.Said.{digits_of, headed}
 use Rattle.page_audit.specs.Documents.{number_in}
