@@ -16,7 +16,7 @@ const MOST_TURNS: u32 = 100_000_000;
 const OTHERS: u64 = 7;
 
 /// A ledger of one account, which is stored from the beginning, and a session over it.
-const BEGINNING: &str =
+pub(crate) const BEGINNING: &str =
     "store 8FD3CF3398C4E5250787DA9BB64CE8F92FA1DA06DFF9B8C748214BA02AA4C205 4C57520000000001016345785D8A__000082D52A1F905412CD1B46085D3D25579068DD2BFE7FD246A3D69CED11C6A0AE0A00000000000000000A00\n\
       store 3E1D42A4EF35E0DCB7D86F9F83CF8C65D45BE5BF42520284D68FD7FBA4D2765E 4D4C4E0005FFFFFFFFFFFFFFFFFFFFFFFFFFFFFFFFFFFFFFFFFFFFFFFFFFFFFFFFFFFFFFFF\n\
       store 82D52A1F905412CD1B46085D3D25579068DD2BFE7FD246A3D69CED11C6A0AE0A 4D494E_______________003E1D42A4EF35E0DCB7D86F9F83CF8C65D45BE5BF42520284D68FD7FBA4D2765E\n\
@@ -114,7 +114,7 @@ impl Gate for Between {
 }
 
 /// So many lines that set accounts, whose keys differ in their first two bytes.
-fn add_puts(text: &mut Vec<u8>, alloc: Global, count: u16) -> Result<(), Fail> {
+pub(crate) fn add_puts(text: &mut Vec<u8>, alloc: Global, count: u16) -> Result<(), Fail> {
     for number in 1..=count {
         let [high, low] = number.to_be_bytes();
         text.extend_from_slice(b"0 put 1 ")?;
