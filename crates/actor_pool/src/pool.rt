@@ -20,8 +20,8 @@ use store_core::{Core, Stepped};
 /// How many actors there are, numbered from 0.
 const ACTORS: u8 = 64;
 
-/// The most sections of a swap: 64 slices, and the one that answers.
-const SECTIONS: u32 = 65;
+/// The most sections of a line that is done in slices, more than a store can make needful.
+const SECTIONS: u32 = u32::MAX;
 
 /// How often a worker tries a line that waits before it leaves it to the next round.
 const TRIES: u32 = 64;
@@ -147,7 +147,7 @@ fn answer<R: Wait, H: NodeHash, Sh: Shelf, G: Gate, J: Pinned>(
     false
 }
 
-/// Does sections of the actor's next line as long as each is a slice of a swap, of which a rotation has few.
+/// Does sections of the actor's next line as long as each is a slice of a swap or of a check.
 fn try_line<R: Wait, H: NodeHash, Sh: Shelf, G: Gate, J: Pinned>(
     rt: &R,
     alloc: Global,

@@ -1,5 +1,6 @@
 -- A search that is run to its end, and what it leaves.
-use Rattle.std.proofs.Common.{◌≡◌, ℕ, ◌≤◌, ◌==◌, true, false, is_some, if◌then◌else◌, length, Contains}
+use Rattle.std.specs.Prelude.{slice_index_or, slice_set}
+use Rattle.std.proofs.Common.{[], ◌∷◌, zero, suc, ◌≡◌, ℕ, ◌≤◌, ◌==◌, true, false, is_some, if◌then◌else◌, length, Contains, List}
 use Rattle.std.proofs.Common.{Option, None, Some, IfSome, sym, ap, ◌∙◌, subst, arith}
 use Rattle.std.proofs.lemmas.Bool.Decides.{nat_tests}
 use Rattle.lru.proofs.Splits.{Contains-nil}
@@ -11,7 +12,10 @@ use Rattle.ledger_header.specs.declared.Header.{Header}
 use Rattle.ledger_header.specs.Fields.{fields}
 use Rattle.shamap_node.specs.Nodes.{held}
 use Rattle.full_below.specs.declared.marks.Marks.{Marks}
-use Rattle.full_below.specs.Marking.{is_marked}
+use Rattle.full_below.specs.Marking.{AreMarked, is_marked}
+use Rattle.tree_cache.specs.declared.cache.TreeCache.{TreeCache}
+use Rattle.tree_cache.specs.Caching.{AreCached}
+use Rattle.missing_walk.specs.Pending.{IsFull, IsCachedTrue}
 use Rattle.missing_walk.specs.declared.search.Search.{Search}
 use Rattle.missing_walk.specs.Ends.{AreRootsMarked, root_key}
 use Rattle.missing_walk.specs.Moves.{has_ended}
@@ -19,22 +23,94 @@ use Rattle.missing_walk.specs.Passes.{HasMarkedRoots}
 use Rattle.missing_walk.specs.Searching.{IsNew, Rule, stale_in, generation_after}
 use Rattle.missing_walk.specs.Sees.{IsHeaderOf}
 use Rattle.missing_walk.proofs.Places.{full_grows, held_grows}
+use Rattle.missing_walk.proofs.Growing.{rule_grows, rule_turns}
 use Rattle.missing_walk.proofs.Heeding.{goes_on}
+use Rattle.ledger_searches.specs.declared.hunt.Hunt.{Hunt}
 use Rattle.ledger_searches.specs.declared.searches.Searches.{Searches}
-use Rattle.ledger_searches.specs.Sharing.{AreTrueOf, IsEmpty}
+use Rattle.ledger_searches.specs.Hunting.{hunt_of}
+use Rattle.ledger_searches.specs.Sharing.{AreTrueOf, Forgets, IsEmpty, IsTurned}
+
+-- what holds of a value holds of it by what follows
+pub if_some : {X : Type 0} (o : Option X) (P Q : X → Type 0) → ((x : X) → P x → Q x) → IfSome o P → IfSome o Q
+if_some None P Q on is = tt
+if_some (Some x) P Q on is = on x is
+
+-- what holds of each entry of a list, and of one that is put there, holds of each behind that
+pub kept_at : {X : Type 0} (P : X → Type 0) (hs : List (Option X)) (a b : ℕ) (o : Option X) → IfSome o P
+    → IfSome (slice_index_or hs b None) P → IfSome (slice_index_or (slice_set hs a o) b None) P
+kept_at P [] a b o there is = is
+kept_at P (h ∷ hs) zero zero o there is = there
+kept_at P (h ∷ hs) zero (suc b) o there is = is
+kept_at P (h ∷ hs) (suc a) zero o there is = is
+kept_at P (h ∷ hs) (suc a) (suc b) o there is = kept_at P hs a b o there is
 
 -- ---- the rule
+-- marks and cached nodes beside begun searches, as a store grows
 pub true_on : (half : Half) (m n : Lookup) (x : Searches) → Grows m n → AreTrueOf half m x → AreTrueOf half n x
 true_on half m n x up t = record {
   marks = λ e there. full_grows half m n e.0 up (t.marks e there);
   cache = λ e there. held_grows half m n e.0 (held (e.1).value) up (t.cache e there);
+  hunts = λ a. if_some (hunt_of x.hunts.items a) (λ h. Rule half m h.search x.cache x.marks) (λ h. Rule half n h.search x.cache x.marks)
+      (λ h rule. rule_grows half m n up h.search x.cache x.marks rule) (t.hunts a);
 }
 
+-- nothing at all is true of any store
 pub true_of_nothing : (half : Half) (nodes : Lookup) (x : Searches) → IsEmpty x → AreTrueOf half nodes x
 true_of_nothing half nodes x none = record {
   marks = λ e there. absurd (Contains-nil e (subst (λ l. Contains l e) none.marks there));
   cache = λ e there. absurd (Contains-nil e (subst (λ l. Contains l e) none.cache there));
+  hunts = λ a. subst (λ (o : Option Hunt). IfSome o (λ h. Rule half nodes h.search x.cache x.marks)) (sym (none.hunts a)) tt;
 }
+
+-- behind a turn
+pub true_turned : (half : Half) (m n : Lookup) (x x' : Searches) → IsTurned x x' → AreTrueOf half m x → AreTrueOf half n x'
+true_turned half m n x x' turned t = record {
+  marks = λ e there. absurd (Contains-nil e (subst (λ l. Contains l e) turned.marks there));
+  cache = λ e there. absurd (Contains-nil e (subst (λ l. Contains l e) turned.cache there));
+  hunts = λ a. subst (λ (hs : List (Option Hunt)). IfSome (hunt_of hs a) (λ h. Rule half n h.search x'.cache x'.marks)) (sym turned.hunts)
+      (if_some (hunt_of x.hunts.items a) (λ h. Rule half m h.search x.cache x.marks) (λ h. Rule half n h.search x'.cache x'.marks)
+      (λ h rule. rule_turns half m n h.search x.cache x'.cache x.marks x'.marks rule turned.cache turned.marks turned.generation) (t.hunts a));
+}
+
+-- other marks and cached nodes of the same generation
+pub rule_beside : (half : Half) (nodes : Lookup) (s : Search) (c c' : TreeCache) (m m' : Marks) → AreMarked (IsFull half nodes) m'
+    → AreCached (IsCachedTrue half nodes) c' → m'.generation ≡ m.generation → Rule half nodes s c m → Rule half nodes s c' m'
+rule_beside half nodes s c c' m m' marks cache same rule = record {
+  marks = marks;
+  cache = cache;
+  past = subst (λ (n : ℕ). IfSome s.generation (λ g. g ≤ n)) (sym same) rule.past;
+  unbroken = rule.unbroken;
+  search = λ generation there. rule.search (generation ∙ ap (λ (n : ℕ). Some n) same) there;
+}
+
+-- begun searches beside what one of them leaves
+pub true_beside : (half : Half) (nodes : Lookup) (x x' : Searches) (s : Search) → AreTrueOf half nodes x
+    → Rule half nodes s x'.cache x'.marks → x'.marks.generation ≡ x.marks.generation → x'.hunts.items ≡ x.hunts.items
+    → AreTrueOf half nodes x'
+true_beside half nodes x x' s t rule same hunts = record {
+  marks = rule.marks;
+  cache = rule.cache;
+  hunts = λ a. subst (λ (hs : List (Option Hunt)). IfSome (hunt_of hs a) (λ h. Rule half nodes h.search x'.cache x'.marks)) (sym hunts)
+      (if_some (hunt_of x.hunts.items a) (λ h. Rule half nodes h.search x.cache x.marks) (λ h. Rule half nodes h.search x'.cache x'.marks)
+      (λ h. rule_beside half nodes h.search x.cache x'.cache x.marks x'.marks rule.marks rule.cache same) (t.hunts a));
+}
+
+-- where one actor's search is another one, or none
+pub true_set : (half : Half) (nodes : Lookup) (a : ℕ) (o : Option Hunt) (x x' : Searches)
+    → x'.hunts.items ≡ slice_set x.hunts.items a o → x'.marks ≡ x.marks → x'.cache ≡ x.cache
+    → IfSome o (λ h. Rule half nodes h.search x.cache x.marks) → AreTrueOf half nodes x → AreTrueOf half nodes x'
+true_set half nodes a o x x' hunts marks cache put t = record {
+  marks = subst (AreMarked (IsFull half nodes)) (sym marks) t.marks;
+  cache = subst (AreCached (IsCachedTrue half nodes)) (sym cache) t.cache;
+  hunts = λ b. subst (λ (hs : List (Option Hunt)). IfSome (hunt_of hs b) (λ h. Rule half nodes h.search x'.cache x'.marks)) (sym hunts)
+      (subst (λ (c : TreeCache). IfSome (hunt_of (slice_set x.hunts.items a o) b) (λ h. Rule half nodes h.search c x'.marks)) (sym cache)
+      (subst (λ (m : Marks). IfSome (hunt_of (slice_set x.hunts.items a o) b) (λ h. Rule half nodes h.search x.cache m)) (sym marks)
+      (kept_at (λ h. Rule half nodes h.search x.cache x.marks) x.hunts.items a b o put (t.hunts b))));
+}
+
+pub true_forgot : (half : Half) (nodes : Lookup) (a : ℕ) (x x' : Searches) → Forgets a x x' → AreTrueOf half nodes x
+    → AreTrueOf half nodes x'
+true_forgot half nodes a x x' forgets t = true_set half nodes a None x x' forgets.hunts forgets.marks forgets.cache tt t
 
 -- a search that nobody has begun is true
 none_some : (n : ℕ) → None ≡ Some n → ⊥
@@ -48,9 +124,6 @@ new_rule half nodes x s new t = record {
   unbroken = new.broken;
   search = λ generation there. absurd (none_some x.marks.generation (sym new.generation ∙ generation));
 }
-
-pub rule_true : (half : Half) (nodes : Lookup) (s : Search) (x : Searches) → Rule half nodes s x.cache x.marks → AreTrueOf half nodes x
-rule_true half nodes s x rule = record { marks = rule.marks; cache = rule.cache }
 
 -- ---- in the generation of the first slice
 test_own : (n : ℕ) → (n == n) ≡ true

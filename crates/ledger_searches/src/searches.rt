@@ -1,5 +1,5 @@
-//! The marks and the cache that searches share.
-ghost use Rattle.std.specs.Prelude.{◌≡◌, ◌+◌, ◌<◌, ◌≤◌, ◌^◌, IfOk, IfErr};
+//! The marks, the cache and the begun searches that checks share.
+ghost use Rattle.std.specs.Prelude.{◌≡◌, ◌⊎◌, ◌+◌, ◌<◌, ◌≤◌, ◌^◌, IfOk, IfErr, IfSome, IsSome, IsNone, ℕ, length, None, slice_set, vec_len};
 ghost use Rattle.run_io.specs.Bytes.{Rose};
 ghost use Rattle.ledger_spec.specs.Bytes.{Lookup};
 ghost use Rattle.own_forms.specs.Reading.{WasRead};
@@ -9,8 +9,11 @@ ghost use Rattle.missing_walk.specs.Passes.{HasMarkedRoots};
 ghost use Rattle.missing_walk.specs.Searching.{IsNew as IsNewSearch};
 ghost use Rattle.missing_walk.specs.Sees.{Finds};
 ghost use Rattle.missing_walk.specs.Views.{Tells};
-ghost use Rattle.ledger_searches.specs.Sharing.{IsPaired, AreTrueOf, IsEmpty, IsTurned};
+ghost use Rattle.ledger_searches.specs.Hunting.{GoesOn, IsRunWhole, IsTakenUp, IsUnbegun, hunt_of, most_actors, most_asked};
+ghost use Rattle.ledger_searches.specs.Sharing.{IsPaired, AreTrueOf, IsEmpty, IsTurned, LeavesOthers, Forgets};
 
+use crate::hunt::Hunt;
+use crate::hunting::MOST_STALES;
 use full_below::Marks;
 use half_hash::{Hash32, Memory, NodeHash};
 use missing_walk::{Found, Search, SearchFault, Slice};
@@ -25,15 +28,23 @@ const MOST_MARKS: usize = 65_536;
 /// The most nodes that are kept.
 const MOST_CACHED: usize = 16_384;
 
-/// The marks of what was found whole and the nodes that were read before, of one generation.
+/// How many actors there are, numbered from 0.
+const ACTORS: usize = 64;
+
+/// How many places a slice looks at.
+const SLICE: usize = 256;
+
+/// The marks of what was found whole and the nodes that were read before, of one generation, and of each actor the search that its check
+/// has begun.
 #[derive(Drop)]
 pub struct Searches {
     cache: TreeCache,
     marks: Marks,
+    hunts: Vec<Option<Hunt>>,
 }
 
 impl Searches {
-    /// Nothing is marked or cached, and the generation is 0.
+    /// Nothing is marked or cached, no search was begun, and the generation is 0.
     pub fn new(alloc: Global) -> Result<Searches, Memory>
         ensures paired { IfOk result IsPaired }
         ensures empty { IfOk result IsEmpty }
@@ -41,7 +52,101 @@ impl Searches {
     {
         let cache = TreeCache::new(alloc, MOST_CACHED)?;
         let marks = Marks::new(alloc, MOST_MARKS)?;
-        Ok(Searches { cache, marks })
+        let hunts = none_begun(alloc)?;
+        Ok(Searches {
+            cache,
+            marks,
+            hunts,
+        })
+    }
+
+    /// Goes on with the search that the actor's check of the ledger has begun, or begins one, as far as 256 places; none where something is
+    /// left, for which the search is kept. One that was begun before the generation turned begins anew, at most twice: the third time it is
+    /// run to its end. What is found is as `look` finds it. `Fault` and `Memory` leave marks, cached nodes and begun searches true.
+    pub fn slice<H: NodeHash, Sh: Shelf>(
+        &mut self,
+        alloc: Global,
+        store: &mut RotStore<Sh>,
+        actor: u8,
+        target: &Hash32,
+    ) -> Result<Option<Found>, SearchFault>
+        requires paired { IsPaired self.old }
+        requires known_actor { actor < most_actors }
+        ensures found { (nodes : Lookup) → Tells Sh.B.tells H.half store.old nodes → AreTrueOf H.half nodes self.old
+            → IfOk result (λ o. IfSome o (Finds H.half nodes target.now)) }
+        ensures known { IfOk result (λ o. IfSome o IsFound) }
+        ensures keeps { (nodes : Lookup) → Tells Sh.B.tells H.half store.old nodes → AreTrueOf H.half nodes self.old
+            → AreTrueOf H.half nodes self.new }
+        ensures roots { (nodes : Lookup) → Tells Sh.B.tells H.half store.old nodes → AreTrueOf H.half nodes self.old
+            → IfOk result (λ o. IfSome o (λ f. IsClean f → HasMarkedRoots nodes target.now self.new.marks)) }
+        ensures first { (nodes : Lookup) → Tells Sh.B.tells H.half store.old nodes
+            → IsUnbegun (hunt_of self.old.hunts.items actor) target.now → HasMarkedRoots nodes target.now self.old.marks
+            → IfOk result IsSome × (store.new.gets ≤ store.old.gets + 2) }
+        ensures more { (nodes : Lookup) → Tells Sh.B.tells H.half store.old nodes → AreTrueOf H.half nodes self.old
+            → IfOk result (λ o. IsNone o → GoesOn H.half nodes self.old.marks.generation target.now (hunt_of self.old.hunts.items actor)
+            (hunt_of self.new.hunts.items actor)) }
+        ensures few { IsRunWhole self.old.marks.generation (hunt_of self.old.hunts.items actor) target.now
+            ⊎ (store.new.gets ≤ store.old.gets + most_asked) }
+        ensures others { LeavesOthers actor self.old self.new }
+        ensures paired { IsPaired self.new }
+        ensures generation { self.new.marks.generation ≡ self.old.marks.generation }
+        ensures read { WasRead Sh.B.tells H.half store.old store.new }
+        ensures fault { IfErr result (λ e. e ≡ SearchFault.Fault → Rose store.old.faults store.new.faults) }
+    {
+        let mut hunt = self.take_up(alloc, actor, target)?;
+        if hunt.stales >= MOST_STALES {
+            return Ok(Some(self.look::<H, Sh>(alloc, store, target)?));
+        }
+        let (cache, marks) = (&mut self.cache, &mut self.marks);
+        match hunt
+            .search
+            .slice::<H, Sh>(alloc, store, cache, marks, SLICE)?
+        {
+            Slice::Done(found) => Ok(Some(found)),
+            Slice::More => {
+                self.keep(actor, hunt);
+                Ok(None)
+            }
+            Slice::Stale { .. } => {
+                hunt.stales += 1;
+                if hunt.stales >= MOST_STALES {
+                    return Ok(Some(self.look::<H, Sh>(alloc, store, target)?));
+                }
+                self.keep(actor, hunt);
+                Ok(None)
+            }
+        }
+    }
+
+    // The search of this ledger that the actor's check has begun, or a new one. None of the actor is kept meanwhile.
+    fn take_up(&mut self, alloc: Global, actor: u8, target: &Hash32) -> Result<Hunt, Memory>
+        requires known { actor < vec_len self.old.hunts }
+        ensures taken { IfOk result (IsTakenUp (hunt_of self.old.hunts.items actor) target.now) }
+        ensures forgets { Forgets actor self.old self.new }
+    {
+        let kept = self.hunts[actor as usize].take();
+        match kept {
+            Some(hunt) if hunt.is_of(target) => Ok(hunt),
+            _ => Hunt::start(alloc, target),
+        }
+    }
+
+    // Keeps the actor's search for another slice.
+    fn keep(&mut self, actor: u8, hunt: Hunt)
+        requires known { actor < vec_len self.old.hunts }
+        ensures hunts { self.new.hunts.items ≡ slice_set self.old.hunts.items actor (Some hunt) }
+        ensures marks { self.new.marks ≡ self.old.marks }
+        ensures cache { self.new.cache ≡ self.old.cache }
+    {
+        self.hunts[actor as usize] = Some(hunt);
+    }
+
+    /// The actor's check has its answer, so that no search of it is kept.
+    pub fn forget(&mut self, actor: u8)
+        requires known { actor < vec_len self.old.hunts }
+        ensures { Forgets actor self.old self.new }
+    {
+        self.hunts[actor as usize] = None;
     }
 
     /// Searches for what is missing or broken of the ledger under the target, from its header to the end of the search. A subtree that was
@@ -64,6 +169,7 @@ impl Searches {
             → IfOk result (λ f. IsClean f → HasMarkedRoots nodes target.now self.new.marks) }
         ensures few { (nodes : Lookup) → Tells Sh.B.tells H.half store.old nodes → HasMarkedRoots nodes target.now self.old.marks
             → store.new.gets ≤ store.old.gets + 2 }
+        ensures hunts { self.new.hunts.items ≡ self.old.hunts.items }
         ensures paired { IsPaired self.new }
         ensures generation { self.new.marks.generation ≡ self.old.marks.generation }
         ensures read { WasRead Sh.B.tells H.half store.old store.new }
@@ -91,6 +197,7 @@ impl Searches {
             → IfOk result (λ f. IsClean f → HasMarkedRoots nodes search.target self.new.marks) }
         ensures few { (nodes : Lookup) → Tells Sh.B.tells H.half store.old nodes → HasMarkedRoots nodes search.target self.old.marks
             → store.new.gets ≤ store.old.gets + 2 }
+        ensures hunts { self.new.hunts.items ≡ self.old.hunts.items }
         ensures paired { IsPaired self.new }
         ensures generation { self.new.marks.generation ≡ self.old.marks.generation }
         ensures read { WasRead Sh.B.tells H.half store.old store.new }
@@ -114,7 +221,7 @@ impl Searches {
         self.marks.generation()
     }
 
-    /// The next generation begins, and nothing is marked or cached. It takes no memory.
+    /// The next generation begins, and nothing is marked or cached. Begun searches stay, and begin anew. It takes no memory.
     pub fn turn(&mut self)
         requires paired { IsPaired self.old }
         requires room { self.old.marks.generation + 1 < 2 ^ 64 }
@@ -123,4 +230,16 @@ impl Searches {
         self.cache.turn();
         self.marks.turn();
     }
+}
+
+// No actor's check has begun a search.
+fn none_begun(alloc: Global) -> Result<Vec<Option<Hunt>>, Memory>
+    ensures slots { IfOk result (λ hunts. length hunts.items ≡ most_actors) }
+    ensures none { IfOk result (λ hunts. (a : ℕ) → hunt_of hunts.items a ≡ None) }
+{
+    let mut hunts = Vec::with_capacity(alloc, ACTORS)?;
+    for _actor in 0..ACTORS {
+        hunts.push(None)?;
+    }
+    Ok(hunts)
 }

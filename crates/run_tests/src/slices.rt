@@ -58,7 +58,7 @@ const MANY: Case = Case {
 };
 
 /// A ledger of one account, which is stored from the beginning, and a session over it.
-const BEGINNING: &str =
+pub(crate) const BEGINNING: &str =
     "store 8FD3CF3398C4E5250787DA9BB64CE8F92FA1DA06DFF9B8C748214BA02AA4C205 4C57520000000001016345785D8A__000082D52A1F905412CD1B46085D3D25579068DD2BFE7FD246A3D69CED11C6A0AE0A00000000000000000A00\n\
       store 3E1D42A4EF35E0DCB7D86F9F83CF8C65D45BE5BF42520284D68FD7FBA4D2765E 4D4C4E0005FFFFFFFFFFFFFFFFFFFFFFFFFFFFFFFFFFFFFFFFFFFFFFFFFFFFFFFFFFFFFFFF\n\
       store 82D52A1F905412CD1B46085D3D25579068DD2BFE7FD246A3D69CED11C6A0AE0A 4D494E_______________003E1D42A4EF35E0DCB7D86F9F83CF8C65D45BE5BF42520284D68FD7FBA4D2765E\n\
@@ -194,7 +194,12 @@ fn add_put(
 }
 
 /// Lines that set so many pairs of accounts.
-fn add_puts(text: &mut Vec<u8>, alloc: Global, deep: bool, pairs: u16) -> Result<(), Fail> {
+pub(crate) fn add_puts(
+    text: &mut Vec<u8>,
+    alloc: Global,
+    deep: bool,
+    pairs: u16,
+) -> Result<(), Fail> {
     for number in 1..=pairs {
         add_put(text, alloc, deep, number, b'0')?;
         add_put(text, alloc, deep, number, b'1')?;

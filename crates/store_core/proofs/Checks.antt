@@ -1,11 +1,13 @@
 -- A check searches by what searches share, and other commands leave that.
-use Rattle.std.proofs.Common.{◌≡◌, ◌⊎◌, inl, inr, ⊎_elim, ℕ, suc, ◌+◌, ◌<◌, ◌≤◌, Bool, true, false, IsTrue, List, [], ◌∷◌, ◌++◌, length, Option}
-use Rattle.std.proofs.Common.{None, Some, Result, Ok, Err, OnOk, refl, sym, ap, ◌∙◌, subst, arith}
+use Rattle.std.proofs.Common.{◌≡◌, ◌⊎◌, inr, ⊎_elim, ℕ, suc, ◌+◌, ◌≤◌, Bool, true, IsTrue, List, [], length, Option}
+use Rattle.std.proofs.Common.{None, Some, IfSome, IsNone, IsSome, IsSomeAnd, refl, sym, ap, ◌∙◌, subst, arith}
+use Rattle.std.specs.Prelude.{slice_set}
+use Rattle.std.proofs.lemmas.List.{length-set, set-get_or, set-set}
 use Rattle.std.specs.FinMap as finite
 use Rattle.std.specs.List.{filter_map}
 use Rattle.ledger_spec.specs.Bytes.{Bytes, Hash, Half, Lookup, Nodes}
 use Rattle.ledger_spec.specs.Findings.{Finding, findings, missing_of, first_broken, up_to}
-use Rattle.ledger_spec.specs.Own.{AreStored, own_forms}
+use Rattle.ledger_spec.specs.Own.{AreStored}
 use Rattle.ledger_spec.specs.Forms.{Held}
 use Rattle.ledger_spec.proofs.Owning.{all_own}
 use Rattle.ledger_spec.proofs.ReachLaws.{Grows}
@@ -15,19 +17,20 @@ use Rattle.full_below.specs.declared.marks.Marks.{Marks}
 use Rattle.missing_walk.specs.declared.Found.{Found}
 use Rattle.missing_walk.specs.declared.fault.SearchFault.{SearchFault}
 use Rattle.missing_walk.specs.declared.fault.SearchFault.TheVariants as search
+use Rattle.tree_cache.specs.declared.cache.TreeCache.{TreeCache}
 use Rattle.missing_walk.specs.Ends.{IsClean}
+use Rattle.missing_walk.specs.Founds.{IsFound}
 use Rattle.missing_walk.specs.Passes.{HasMarkedRoots}
 use Rattle.missing_walk.specs.Sees.{Finds}
 use Rattle.missing_walk.specs.Views.{Tells}
 use Rattle.ledger_searches.specs.declared.searches.Searches.{Searches}
-use Rattle.ledger_searches.specs.Sharing.{IsPaired, AreTrueOf, IsEmpty, IsTurned}
-use Rattle.ledger_searches.proofs.Running.{true_on, true_of_nothing}
+use Rattle.ledger_searches.specs.declared.hunt.Hunt.{Hunt}
+use Rattle.ledger_searches.specs.Hunting.{GoesOn, IsRunWhole, IsUnbegun, hunt_of, most_asked}
+use Rattle.ledger_searches.specs.Sharing.{IsPaired, AreTrueOf, Forgets, IsEmpty, LeavesOthers}
+use Rattle.ledger_searches.proofs.Running.{true_forgot, true_of_nothing, true_on, true_turned}
 use Rattle.ledger_machine.specs.declared.commands.Command.{Command}
 use Rattle.ledger_machine.specs.declared.commands.Command.TheVariants as command
 use Rattle.ledger_machine.specs.declared.journal.Entry.{Entry}
-use Rattle.ledger_machine.specs.declared.replies.CheckReply.{CheckReply}
-use Rattle.ledger_machine.specs.declared.replies.CheckReply.TheVariants as check
-use Rattle.ledger_machine.specs.declared.replies.SwapReply.{SwapReply}
 use Rattle.ledger_machine.specs.declared.replies.SwapReply.TheVariants as swaps
 use Rattle.ledger_machine.specs.declared.replies.Reply.{Reply}
 use Rattle.ledger_machine.specs.declared.replies.Reply.TheVariants as says
@@ -38,8 +41,13 @@ use Rattle.ledger_laws.proofs.SoundForms.{with_forms_grow, in_nothing}
 use Rattle.ledger_laws.proofs.SoundSteps.{outcome_cases}
 use Rattle.store_core.specs.Benches.{IsOfSessions}
 use Rattle.store_core.specs.Desks.{Desk}
-use Rattle.store_core.specs.Refusals.{search_reply, search_refusal}
-use Rattle.store_core.specs.Checking.{HasSearched, SearchesBy, AreKept, Shares, TurnsBy, KeepsSearches}
+use Rattle.store_core.specs.Refusals.{IsRefusal, search_refusal}
+use Rattle.store_core.specs.Telling.{IsSlice}
+use Rattle.store_core.specs.declared.acquiring.Sought.TheVariants as sought
+use Rattle.store_core.specs.declared.rotating.Part.{Part}
+use Rattle.store_core.specs.declared.rotating.Part.TheVariants as parts
+use Rattle.store_core.specs.Checking.{AreKept, AsksFew, AsksNothing, ChecksByMarks, HasFound, IsNoCheck, IsOpen, IsSliced, IsSought}
+use Rattle.store_core.specs.Checking.{KeepsSearches, LeavesSearch, SearchesBy, Shares, TurnsBy, sought_by}
 use Rattle.store_core.proofs.Tables.{IsOver, filed_over}
 
 -- what a state's store tells
@@ -57,58 +65,71 @@ clean half nodes t f finds none = record {
   broken = finds.broken ∙ ap (λ (fs : List Finding). first_broken (up_to 256 fs)) none;
 }
 
-unsearched : (r : Result CheckReply SearchFault) → OnOk r ⊥ → HasSearched (search_reply r) → ⊥
-unsearched (Ok r) none is = absurd none
-unsearched (Err search.Fault) none is = is
-unsearched (Err search.Memory) none is = is
-
 -- without an answer nothing has changed but what a rotation was told
 unfound : (half : Half) (s s' : State) (actor : ℕ) (t : Hash) → IsAfter s s' → Refused half s actor (command.Check t) s'
 unfound half s s' actor t after = record { forms = []; own = λ form i. absurd (in_nothing i); same = after }
+
+pub does_unchecked : (half : Half) (s s' : State) (actor : ℕ) (t : Hash) → IsAfter s s' → Does half s actor (command.Check t) says.Memory [] s'
+does_unchecked half s s' actor t after = record { outcome = (tt, unfound half s s' actor t after); uses = refl }
 
 pub does_unfound : (half : Half) (s s' : State) (actor : ℕ) (t : Hash) (e : SearchFault) → IsAfter s s'
     → Does half s actor (command.Check t) (search_refusal e) [] s'
 does_unfound half s s' actor t search.Fault after = record { outcome = (tt, unfound half s s' actor t after); uses = refl }
 does_unfound half s s' actor t search.Memory after = record { outcome = (tt, unfound half s s' actor t after); uses = refl }
 
--- a command leaves what it doesn't touch
-pub untouched : (half : Half) (told : Bool) (s : State) (x x' : Searches) → x' ≡ x → AreKept half told s x → AreKept half told s x'
-untouched half told s x x' same k = subst (AreKept half told s) (sym same) k
+-- where the searches of all actors are as they were
+pub others_same : (a : ℕ) (x x' : Searches) → x'.hunts.items ≡ x.hunts.items → LeavesOthers a x x'
+others_same a x x' same =
+    same ∙ sym (set-get_or x.hunts.items a None)
+    ∙ ap (λ (hs : List (Option Hunt)). slice_set x.hunts.items a (hunt_of hs a)) (sym same)
 
-module _ (half : Half) (told : Bool) (s : State) (t : Hash) (x : Searches) (gets : ℕ) where
-  -- a ledger that isn't wanted is not searched
-  pub unopened_shares : (x' : Searches) (gets' : ℕ) → x' ≡ x → gets' ≡ gets → AreKept half told s x
-      → Shares half told s (command.Check t) (says.Check check.NotOpen) x gets x' gets'
-  unopened_shares x' gets' same unasked k = record {
-    kept = untouched half told s x x' same k;
-    generation = ap (λ (y : Searches). y.marks.generation) same;
-    search = λ tells. record { roots = λ searched none. absurd searched; few = λ marked. omega (arith, unasked) };
+-- what a slice of the search leaves, and what one that is run to its end
+module _ (half : Half) (told : Bool) (s : State) (a : ℕ) (t : Hash) (part : Part) (x : Searches) (gets0 gets : ℕ) (x' : Searches) (gets' : ℕ)
+    (same : gets0 ≡ gets) (paired : IsPaired x') (generation : x'.marks.generation ≡ x.marks.generation)
+    (rule : IsTrue told → AreTrueOf half (form_in s) x') where
+  pub slice_shares : LeavesOthers a x x' → IsRunWhole x.marks.generation (hunt_of x.hunts.items a) t ⊎ (gets' ≤ gets0 + most_asked)
+      → Shares half told s a (command.Check t) part x gets x' gets'
+  slice_shares others few = record {
+    kept = record { paired = paired; rule = rule };
+    generation = generation;
+    others = others;
+    few = λ cut. subst (λ (n : ℕ). IsRunWhole x.marks.generation (hunt_of x.hunts.items a) t ⊎ (gets' ≤ n + most_asked)) same few;
   }
 
-  module _ (x' : Searches) (gets' : ℕ) (paired : IsPaired x') (generation : x'.marks.generation ≡ x.marks.generation)
-      (rule : IsTrue told → AreTrueOf half (form_in s) x')
-      (few : IsTrue told → HasMarkedRoots (form_in s) t x.marks → gets' ≤ gets + 2) where
-    -- a search that was refused
-    pub refused_shares : (r : Result CheckReply SearchFault) → OnOk r ⊥
-        → Shares half told s (command.Check t) (search_reply r) x gets x' gets'
-    refused_shares r none = record {
-      kept = record { paired = paired; rule = rule };
-      generation = generation;
-      search = λ tells. record { roots = λ searched found. absurd (unsearched r none searched); few = few tells };
-    }
+  pub look_shares : part ≡ parts.Whole → x'.hunts.items ≡ x.hunts.items → Shares half told s a (command.Check t) part x gets x' gets'
+  look_shares whole hunts = record {
+    kept = record { paired = paired; rule = rule };
+    generation = generation;
+    others = others_same a x x' hunts;
+    few = λ cut. cc (whole, cut);
+  }
 
-    -- and one that has ended
-    pub found_shares : (f : Found) → (IsTrue told → Finds half (form_in s) t f)
-        → (IsTrue told → IsClean f → HasMarkedRoots (form_in s) t x'.marks)
-        → (r : CheckReply) → Shares half told s (command.Check t) (says.Check r) x gets x' gets'
-    found_shares f finds marked r = record {
-      kept = record { paired = paired; rule = rule };
-      generation = generation;
-      search = λ tells. record {
-        roots = λ searched none. marked tells (clean half (form_in s) t f (finds tells) none);
-        few = few tells;
-      };
-    }
+-- ---- what was found before a check is answered
+module _ (half : Half) (told : Bool) (s s' : State) (t : Hash) (same : IsTrue told → form_in s' ≡ form_in s) where
+  pub found_on : (f : Found) → IsFound f → (IsTrue told → Finds half (form_in s) t f)
+      → HasFound half told s' (command.Check t) (Some f)
+  found_on f known finds = λ opened.
+      (known, λ tells. subst (λ (n : Lookup). Finds half n t f) (sym (same tells)) (finds tells))
+
+  pub sought_on : (part : Part) (o : Option Found) → part ≡ parts.Slice → IfSome o IsFound
+      → (IsTrue told → IfSome o (Finds half (form_in s) t)) → IsSought half told s' t part (sought_by o)
+  sought_on part None cut known finds = cut
+  sought_on part (Some f) cut known finds = found_on f known finds
+
+-- what is found of a ledger whose acquisition is open
+pub found_here : (half : Half) (told : Bool) (s : State) (t : Hash) (o : Option Found) (f : Found) → HasFound half told s (command.Check t) o
+    → IsOpen s t → o ≡ Some f → IsFound f × (IsTrue told → Finds half (form_in s) t f)
+found_here half told s t o f has opened is =
+    subst (λ (p : Option Found). IsSomeAnd p (λ g. IsFound g × (IsTrue told → Finds half (form_in s) t g))) is (has opened)
+
+-- what a slice of the search leaves
+pub leaves_on : (half : Half) (s : State) (t : Hash) (h : Option Hunt) (m : Marks) (h' : Option Hunt) (m' : Marks) (o : Option Found)
+    → IsOpen s t → IfSome o (λ f. IsClean f → HasMarkedRoots (form_in s) t m')
+    → (IsNone o → GoesOn half (form_in s) m.generation t h h') → (IsUnbegun h t → HasMarkedRoots (form_in s) t m → IsSome o)
+    → LeavesSearch half s t h m h' m' (sought_by o)
+leaves_on half s t h m h' m' (Some f) opened marked goes first = marked
+leaves_on half s t h m h' m' None opened marked goes first =
+    record { open_still = opened; goes = goes refl; unmarked = λ unbegun roots. cc (first unbegun roots) }
 
 -- ---- over another state that holds the same
 module _ (half : Half) (told : Bool) (s s' : State) where
@@ -118,66 +139,18 @@ module _ (half : Half) (told : Bool) (s s' : State) where
     rule = λ tells. subst (λ (n : Lookup). AreTrueOf half n x) (sym (same tells)) (k.rule tells);
   }
 
-  search_as : (c : Command) (reply : Reply) (m : Marks) (gets : ℕ) (m' : Marks) (gets' : ℕ) → form_in s' ≡ form_in s
-      → SearchesBy half s c reply m gets m' gets' → SearchesBy half s' c reply m gets m' gets'
-  search_as (command.Check t) reply m gets m' gets' same by = record {
-    roots = λ searched none. subst (λ (n : Lookup). HasMarkedRoots n t m') (sym same)
-        (by.roots searched (ap (λ (n : Lookup). findings half n t) (sym same) ∙ none));
-    few = λ marked. by.few (subst (λ (n : Lookup). HasMarkedRoots n t m) same marked);
-  }
-  search_as c reply m gets m' gets' same by = tt
-
-  pub shares_as : (c : Command) (reply : Reply) (x : Searches) (gets : ℕ) (x' : Searches) (gets' : ℕ)
-      → (IsTrue told → form_in s' ≡ form_in s)
-      → Shares half told s c reply x gets x' gets' → Shares half told s' c reply x gets x' gets'
-  shares_as c reply x gets x' gets' same by = record {
-    kept = kept_told x' same by.kept;
-    generation = by.generation;
-    search = λ tells. search_as c reply x.marks gets x'.marks gets' (same tells) (by.search tells);
-  }
-
--- behind a slice of a swap, which leaves the state
-module _ (half : Half) (told : Bool) (d m : Desk) where
-  pub shares_sliced : (c : Command) (reply : Reply) (x : Searches) (x' : Searches) (gets' : ℕ)
-      → ((c ≡ command.Swap → ⊥) → m ≡ d) → (IsTrue told → m.state ≡ d.state)
-      → Shares half told m.state c reply x m.gets x' gets' → Shares half told d.state c reply x d.gets x' gets'
-  shares_sliced command.Swap reply x x' gets' none same by = record {
-    kept = kept_told half told m.state d.state x' (λ tells. ap (λ (s : State). form_in s) (sym (same tells))) by.kept;
-    generation = by.generation;
-    search = λ tells. tt;
-  }
-  shares_sliced c reply x x' gets' none same by =
-      subst (λ (e : Desk). Shares half told e.state c reply x e.gets x' gets') (none (λ is. cc)) by
-
 -- ---- commands that are no check
-abbrev pub IsNoCheck : Command → Type 0
-IsNoCheck (command.Check t) = ⊥
-IsNoCheck _ = Unit {0}
-
-pub no_check : (half : Half) (told : Bool) (s : State) (c : Command) (reply : Reply) (x : Searches) (gets : ℕ) (x' : Searches) (gets' : ℕ)
-    → IsNoCheck c → x' ≡ x → AreKept half told s x → Shares half told s c reply x gets x' gets'
-no_check half told s c reply x gets x' gets' other same k = record {
-  kept = untouched half told s x x' same k;
-  generation = ap (λ (y : Searches). y.marks.generation) same;
-  search = λ tells. quiet c other;
-}
-  where
-    quiet : (c : Command) → IsNoCheck c → SearchesBy half s c reply x.marks gets x'.marks gets'
-    quiet (command.Check t) o = absurd o
-    quiet c o = tt
+asks_none : (c : Command) (gets gets' : ℕ) → IsNoCheck c → AsksNothing c gets gets'
+asks_none (command.Check t) gets gets' other = absurd other
+asks_none c gets gets' other = tt
 
 -- the same of a command that is known by its name
-pub no_check_as : (half : Half) (told : Bool) (s : State) (c d : Command) (reply : Reply) (x : Searches) (gets : ℕ) (x' : Searches)
-    (gets' : ℕ) → c ≡ d → IsNoCheck d → x' ≡ x → AreKept half told s x → Shares half told s c reply x gets x' gets'
-no_check_as half told s c d reply x gets x' gets' is other same k =
-    no_check half told s c reply x gets x' gets' (subst IsNoCheck (sym is) other) same k
+pub asks_as : (c d : Command) (gets gets' : ℕ) → c ≡ d → IsNoCheck d → AsksNothing c gets gets'
+asks_as c d gets gets' is other = asks_none c gets gets' (subst IsNoCheck (sym is) other)
 
-pub sessions_are_no_check : (c : Command) → IsOfSessions c → IsNoCheck c
-sessions_are_no_check (command.Check t) is = absurd is
-sessions_are_no_check c is = tt
-
-pub swap_is_no_check : (c : Command) → c ≡ command.Swap → IsNoCheck c
-swap_is_no_check c is = subst IsNoCheck (sym is) tt
+pub found_none : (half : Half) (told : Bool) (s : State) (c : Command) (o : Option Found) → IsNoCheck c → HasFound half told s c o
+found_none half told s (command.Check t) o other = absurd other
+found_none half told s c o other = tt
 
 -- ---- the core
 -- nothing goes but by a swap that is answered
@@ -205,23 +178,32 @@ module _ (half : Half) (s s' : State) (a : ℕ) (reply : Reply) (used : List Hel
 
 -- what searches share stays true as the machine steps, where a swap turns it
 module _ (half : Half) (told : Bool) (s s' : State) (a : ℕ) (c : Command) (used : List Held) (x' x'' : Searches) where
-  rule_on : (reply : Reply) → TurnsBy reply x' x'' → (IsTrue told → Step half s a c reply used s') → AreKept half told s x'
+  forgot_on : Forgets a x' x'' → (IsTrue told → Grows (form_in s) (form_in s')) → AreKept half told s x' → AreKept half told s' x''
+  forgot_on forgets grows k = record {
+    paired = record {
+      one = ap (λ (d : TreeCache). d.generation) forgets.cache ∙ k.paired.one ∙ sym (ap (λ (m : Marks). m.generation) forgets.marks);
+      room = ap (λ (m : Marks). m.entries.cap) forgets.marks ∙ k.paired.room;
+      slots = ap length forgets.hunts ∙ length-set x'.hunts.items a None ∙ k.paired.slots;
+    };
+    rule = λ tells. true_forgot half (form_in s') a x' x'' forgets (true_on half (form_in s) (form_in s') x' (grows tells) (k.rule tells));
+  }
+
+  rule_on : (reply : Reply) → TurnsBy reply a x' x'' → (IsTrue told → Step half s a c reply used s') → AreKept half told s x'
       → AreKept half told s' x''
   rule_on (says.Swap (swaps.Swapped epoch)) turns step k = record {
-    paired = turns.paired;
-    rule = λ tells. true_of_nothing half (form_in s') x'' turns.empty;
+    paired = turns.turns.paired;
+    rule = λ tells. true_turned half (form_in s) (form_in s') turns.between x'' turns.turns
+        (true_forgot half (form_in s) a x' turns.between turns.forgets (k.rule tells));
   }
-  rule_on reply turns step k = untouched half told s' x' x'' turns (record {
-    paired = k.paired;
-    rule = λ tells. true_on half (form_in s) (form_in s') x'
-        (outcome_grows half s s' a reply used tt c (step tells).outcome) (k.rule tells);
-  })
+  rule_on reply turns step k =
+      forgot_on turns (λ tells. outcome_grows half s s' a reply used tt c (step tells).outcome) k
 
-  generation_on : (reply : Reply) → TurnsBy reply x' x'' → x''.marks.generation ≤ x'.marks.generation + 1
-  generation_on (says.Swap (swaps.Swapped epoch)) turns = omega (arith, turns.generation)
-  generation_on reply turns = omega (arith, ap (λ (y : Searches). y.marks.generation) turns)
+  generation_on : (reply : Reply) → TurnsBy reply a x' x'' → x''.marks.generation ≤ x'.marks.generation + 1
+  generation_on (says.Swap (swaps.Swapped epoch)) turns =
+      omega (arith, turns.turns.generation, ap (λ (m : Marks). m.generation) turns.forgets.marks)
+  generation_on reply turns = omega (arith, ap (λ (m : Marks). m.generation) turns.marks)
 
-  pub keeps_on : (reply : Reply) (journal journal' : List Entry) (x : Searches) → TurnsBy reply x' x''
+  pub keeps_on : (reply : Reply) (journal journal' : List Entry) (x : Searches) → TurnsBy reply a x' x''
       → (IsTrue told → Step half s a c reply used s') → AreKept half told s x' → x'.marks.generation ≡ x.marks.generation
       → x.marks.generation ≤ length journal → length journal' ≡ suc (length journal) → KeepsSearches half told s' journal' x''
   keeps_on reply journal journal' x turns step k same young more = record {
@@ -229,31 +211,39 @@ module _ (half : Half) (told : Bool) (s s' : State) (a : ℕ) (c : Command) (use
     young = omega (arith, generation_on reply turns, same, young, more);
   }
 
-  marks_on : (reply : Reply) → HasSearched reply → TurnsBy reply x' x'' → x'.marks ≡ x''.marks
-  marks_on (says.Check r) is turns = ap (λ (y : Searches). y.marks) (sym turns)
-  marks_on reply is turns = absurd is
+  -- the searches of the other actors are as they were, and none of this one is kept
+  pub hunts_on : (reply : Reply) (x : Searches) → TurnsBy reply a x' x'' → LeavesOthers a x x'
+      → x''.hunts.items ≡ slice_set x.hunts.items a None
+  hunts_on (says.Swap (swaps.Swapped epoch)) x turns others =
+      turns.turns.hunts ∙ turns.forgets.hunts ∙ ap (λ (hs : List (Option Hunt)). slice_set hs a None) others
+      ∙ set-set x.hunts.items a (hunt_of x'.hunts.items a) None
+  hunts_on reply x turns others =
+      turns.hunts ∙ ap (λ (hs : List (Option Hunt)). slice_set hs a None) others ∙ set-set x.hunts.items a (hunt_of x'.hunts.items a) None
 
-  pub search_on : (reply : Reply) (m : Marks) (gets gets' : ℕ) → TurnsBy reply x' x''
-      → SearchesBy half s c reply m gets x'.marks gets' → SearchesBy half s c reply m gets x''.marks gets'
-  search_on reply m gets gets' turns by = at c by
-    where
-      at : (c : Command) → SearchesBy half s c reply m gets x'.marks gets' → SearchesBy half s c reply m gets x''.marks gets'
-      at (command.Check t) by = record {
-        roots = λ searched none. subst (λ (y : Marks). HasMarkedRoots (form_in s) t y) (marks_on reply searched turns)
-            (by.roots searched none);
-        few = by.few;
-      }
-      at c by = tt
+-- behind the end of its search a check has left the same marks
+module _ (half : Half) (s : State) (a : ℕ) (x' x'' : Searches) where
+  no_swap : (t : Hash) (epoch : ℕ) (s' : State) (used : List Held) → Step half s a (command.Check t) (says.Swap (swaps.Swapped epoch)) used s' → ⊥
+  no_swap t epoch s' used step = cc (step.outcome.says)
 
--- a slice leaves it
-pub keeps_same : (half : Half) (told : Bool) (s s' : State) (journal : List Entry) (x x' : Searches) → x' ≡ x
-    → (IsTrue told → s' ≡ s) → KeepsSearches half told s journal x → KeepsSearches half told s' journal x'
-keeps_same half told s s' journal x x' same still k = record {
-  kept = untouched half told s' x x' same (record {
-    paired = k.kept.paired;
-    rule = λ tells. subst (λ (y : State). AreTrueOf half (form_in y) x) (sym (still tells)) (k.kept.rule tells);
-  });
-  young = omega (arith, ap (λ (y : Searches). y.marks.generation) same, k.young);
+  marks_on : (t : Hash) (reply : Reply) (s' : State) (used : List Held) → Step half s a (command.Check t) reply used s'
+      → TurnsBy reply a x' x'' → x'.marks ≡ x''.marks
+  marks_on t (says.Swap (swaps.Swapped epoch)) s' used step turns = absurd (no_swap t epoch s' used step)
+  marks_on t reply s' used step turns = sym turns.marks
+
+  pub search_on : (c : Command) (reply : Reply) (s' : State) (used : List Held) (o : Option Hunt) (m : Marks) (gets gets' : ℕ)
+      → Step half s a c reply used s' → TurnsBy reply a x' x''
+      → SearchesBy half s c reply o m gets x'.marks gets' → SearchesBy half s c reply o m gets x''.marks gets'
+  search_on (command.Check t) reply s' used o m gets gets' step turns by =
+      subst (λ (y : Marks). ChecksByMarks half s t reply o m gets y gets') (marks_on t reply s' used step turns) by
+  search_on c reply s' used o m gets gets' step turns by = tt
+
+-- a slice leaves it true, in the same generation
+pub keeps_sliced : (half : Half) (told : Bool) (s s' : State) (journal : List Entry) (x x' : Searches) → AreKept half told s x'
+    → x'.marks.generation ≡ x.marks.generation → (IsTrue told → s' ≡ s) → x.marks.generation ≤ length journal
+    → KeepsSearches half told s' journal x'
+keeps_sliced half told s s' journal x x' k same still young = record {
+  kept = kept_told half told s s' x' (λ tells. ap (λ (y : State). form_in y) (still tells)) k;
+  young = omega (arith, same, young);
 }
 
 pub keeps_new : (half : Half) (told : Bool) (s : State) (journal : List Entry) (x : Searches) → IsPaired x → IsEmpty x

@@ -111,8 +111,3 @@ pub node_rest : (st' : Store) (s : State) (t : Hash) (p : ℕ) (a a' : Acquiring
     → KeepsRest s (record (over st' s) { wanted = set_in hash_cmp s.wanted t a' })
 node_rest st' s t p a a' (Ok x) at takes epoch is = absurd is
 node_rest st' s t p a a' (Err why) at takes epoch is = over_rest st' s t a a' at takes.after epoch
-
--- and a ledger that can't be listed leaves all but what was read
-pub unlisted_rest : (st : Store) (s s1 s' : State) → s1 ≡ over st s → st.epoch ≡ s.epoch → IsAfter s1 s' → KeepsRest s s'
-unlisted_rest st s s1 s' same epoch is =
-    keeps_of s s' (ap bare is ∙ ap bare same ∙ (λ i. record (bare s) { epoch = epoch i }))

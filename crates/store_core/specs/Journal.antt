@@ -1,11 +1,12 @@
 -- What contracts see of a core, and what it keeps.
-use Rattle.std.specs.Prelude.{◌≡◌, ◌⊎◌, ◌==◌, if◌then◌else◌, ◌^◌, ℕ, ◌+◌, ◌-◌, ◌<◌, ◌≤◌, ◌++◌, ◌∷◌, [], List, Bool, Some, IsTrue}
-use Rattle.std.specs.Prelude.{length, take, slice_index, slice_index_or}
+use Rattle.std.specs.Prelude.{◌≡◌, ◌⊎◌, ◌==◌, if◌then◌else◌, ◌^◌, ℕ, ◌+◌, ◌-◌, ◌<◌, ◌≤◌, ◌++◌, ◌∷◌, [], List, Bool, IsTrue}
+use Rattle.std.specs.Prelude.{Option, Some, None, length, take, slice_index, slice_index_or, slice_set}
 use Rattle.std.specs.List.{All, Contains}
 use Rattle.std.specs.FinMap as finite
 use Rattle.copy_walk.specs.Counts.{CopiesAtMost}
 use Rattle.ledger_spec.specs.Bytes.{Hash, Half, Lookup, Nodes}
 use Rattle.ledger_machine.specs.declared.commands.Line.{Line}
+use Rattle.ledger_machine.specs.declared.commands.Command.{Command}
 use Rattle.ledger_machine.specs.declared.commands.Command.TheVariants as command
 use Rattle.ledger_machine.specs.declared.commands.Record.{Record}
 use Rattle.ledger_machine.specs.Records.{AreRecords}
@@ -25,14 +26,16 @@ use Rattle.ledger_machine.specs.Throughout.{AreInOrder}
 use Rattle.run_io.specs.Bytes.{Rose}
 use Rattle.script_form.specs.Servable.{AreServable}
 use Rattle.full_below.specs.declared.marks.Marks.{Marks}
-use Rattle.store_core.specs.Checking.{SearchesBy}
+use Rattle.ledger_searches.specs.declared.hunt.Hunt.{Hunt}
+use Rattle.ledger_searches.specs.Hunting.{hunt_of}
+use Rattle.store_core.specs.Checking.{AsksFew, SearchesBy, SlicesSearch}
 use Rattle.store_core.specs.Desks.{KeepsRest}
 use Rattle.store_core.specs.Refusals.{IsRefusal}
 use Rattle.store_core.specs.Telling.{AreTold, most_slices, most_copied}
 
 -- what contracts see of a core: its script's records and lines, the interval, the store's count of faults at opening and now and its count
 -- of gets, how many slices of the rotation under way left something to copy, what the writable backend and the archive hold, the marks of
--- what was found whole, how many calls for a stored record failed, the journal, and the state
+-- what was found whole, the search that each actor's check has begun, how many calls for a stored record failed, the journal, and the state
 pub record CoreView : Type 0 where
   pub records : List Record
   pub lines : List Line
@@ -44,6 +47,7 @@ pub record CoreView : Type 0 where
   pub written : Nodes
   pub archived : Nodes
   pub marks : Marks
+  pub hunts : List (Option Hunt)
   pub missed : ℕ
   pub journal : List Entry
   pub state : State
@@ -116,16 +120,26 @@ pub record Advances (half : Half) (told : Bool) (old : CoreView) (a : ℕ) (new 
   -- where the store tells what it holds, the state is what a step of that line leaves
   pub step : IsTrue told → Answers half old.lines old.state entry new.state
   -- and a check passes what is marked, and leaves the roots of a ledger without findings marked
-  pub search : IsTrue told → SearchesBy half old.state line.command entry.reply old.marks old.gets new.marks new.gets
+  pub search : IsTrue told
+      → SearchesBy half old.state line.command entry.reply (hunt_of old.hunts a) old.marks old.gets new.marks new.gets
+  -- no search of the actor is kept behind it, and those of the others are as they were
+  pub hunts : new.hunts ≡ slice_set old.hunts a None
 
--- A slice of the actor's next line, a swap, that left something to copy: it is counted, and there are at most 64 of a rotation. No entry
--- is recorded, and the state is as it was; where the store doesn't tell what it holds, but for what is stored and what was told.
-pub record Slices (told : Bool) (old : CoreView) (a : ℕ) (new : CoreView) : Type 0 where
+-- What a slice is of. One of a swap left something to copy: it is counted, and there are at most 64 of a rotation. One of a check has begun
+-- anew where the generation had turned, at most twice, or has left at least 256 places less to look at.
+abbrev pub IsSliceOf : Half → Bool → CoreView → ℕ → Command → CoreView → Type 0
+IsSliceOf half told old a command.Swap new =
+    (new.slices ≡ old.slices + 1) × (new.slices ≤ most_slices) × (new.marks ≡ old.marks) × (new.hunts ≡ old.hunts)
+IsSliceOf half told old a (command.Check t) new = (new.slices ≤ old.slices) × (new.hunts ≡ slice_set old.hunts a (hunt_of new.hunts a))
+    × (IsTrue told → SlicesSearch half old.state t (hunt_of old.hunts a) old.marks (hunt_of new.hunts a))
+IsSliceOf half told old a _ new = ⊥
+
+-- A slice of the actor's next line, a swap or a check, that left something. No entry is recorded, and the state is as it was; where the
+-- store doesn't tell what it holds, but for what is stored and what was told.
+pub record Slices (half : Half) (told : Bool) (old : CoreView) (a : ℕ) (new : CoreView) : Type 0 where
   pub line : Line
   pub next : next_line old.lines old.journal a ≡ Some line
-  pub swap : line.command ≡ command.Swap
-  pub counted : new.slices ≡ old.slices + 1
-  pub few : new.slices ≤ most_slices
+  pub slice : IsSliceOf half told old a line.command new
   pub later : old.faults ≤ new.faults
   pub state : IsTrue told → new.state ≡ old.state
   pub still : KeepsRest old.state new.state
@@ -135,8 +149,15 @@ pub record Slices (told : Bool) (old : CoreView) (a : ℕ) (new : CoreView) : Ty
     slices = new.slices;
     written = new.written;
     archived = new.archived;
+    marks = new.marks;
+    hunts = new.hunts;
     state = new.state;
   }
+
+-- a section of a check asks the backends at most 2,048 times, but where its search is run whole, since it began anew for the third time
+abbrev pub ChecksFew : CoreView → ℕ → CoreView → Type 0
+ChecksFew c a c' = (line : Line) → next_line c.lines c.journal a ≡ Some line
+    → AsksFew line.command (hunt_of c.hunts a) c.marks.generation c.gets c'.gets
 
 -- A section of this actor copies at most 256 hashes, but where its next line is a swap whose rotation has done its slices. Behind a swap,
 -- which ends an epoch, the backend that was the writable one is the archive.

@@ -6,8 +6,6 @@ use Rattle.node_offer.specs.declared.fault.OfferFault.TheVariants as fault
 use Rattle.missing_walk.specs.declared.fault.SearchFault.{SearchFault}
 use Rattle.missing_walk.specs.declared.fault.SearchFault.TheVariants as search
 use Rattle.ledger_machine.specs.declared.replies.Reply.{Reply}
-use Rattle.ledger_machine.specs.declared.replies.CheckReply.{CheckReply}
-use Rattle.std.specs.Prelude.{Result, Ok, Err}
 use Rattle.ledger_machine.specs.declared.replies.Reply.TheVariants as says
 
 -- the replies of a refusal
@@ -27,11 +25,6 @@ refusal_of fault.Memory = says.Memory
 abbrev pub search_refusal : SearchFault → Reply
 search_refusal search.Fault = says.Fault
 search_refusal search.Memory = says.Memory
-
--- the reply of a check
-abbrev pub search_reply : Result CheckReply SearchFault → Reply
-search_reply (Ok r) = says.Check r
-search_reply (Err why) = search_refusal why
 
 abbrev pub read_refusal : BackFault → Reply
 read_refusal back.Fault = says.Fault

@@ -1,5 +1,5 @@
 //! The commands that acquire a ledger from peers. Each is answered by the acquisition that is open under the target.
-ghost use Rattle.std.specs.Prelude.{◌≡◌, ◌≤◌, ◌∷◌, [], ℕ, IsTrue, IsSome, OnOk, OnErr, IfOk, IfErr};
+ghost use Rattle.std.specs.Prelude.{◌≡◌, ◌+◌, ◌<◌, ◌≤◌, ◌∷◌, [], ℕ, IsTrue, IsSome, OnOk, OnErr, IfOk, IfErr};
 ghost use Rattle.std.specs.List.{Contains};
 ghost use Rattle.run_io.specs.Bytes.{Rose};
 ghost use Rattle.std.specs.Option.{option_copied};
@@ -8,9 +8,12 @@ ghost use Rattle.ledger_spec.specs.Maps.{hash_cmp, get_in};
 ghost use Rattle.ledger_spec.specs.Acquiring.{after_verdict};
 ghost use Rattle.acquire_core.specs.Replies.{found_verdict};
 ghost use Rattle.missing_walk.specs.Founds.{IsFound};
-ghost use Rattle.store_core.specs.Checking.{AreKept, Shares};
+ghost use Rattle.store_core.specs.Checking.{AreKept, HasFound, IsSought, LeavesSearch, Shares, sought_by};
+ghost use Rattle.ledger_searches.specs.Hunting.{IsUnbegun, hunt_of};
+ghost use Rattle.missing_walk.specs.Passes.{HasMarkedRoots};
+ghost use Rattle.ledger_machine.specs.Runs.{actors};
 ghost use Rattle.ledger_machine.specs.Scripts.{AreBytes, AreOffered};
-ghost use Rattle.ledger_machine.specs.State.{stored_seq, with_wanted, ended};
+ghost use Rattle.ledger_machine.specs.State.{form_in, stored_seq, with_wanted, ended};
 ghost use Rattle.ledger_machine.specs.Want.{want_reply, after_want};
 ghost use Rattle.ledger_machine.specs.Peer.{peer_reply, after_peer};
 ghost use Rattle.ledger_machine.specs.Check.{check_reply, after_check};
@@ -18,13 +21,14 @@ ghost use Rattle.ledger_machine.specs.Ticks.{tick_reply, after_tick};
 ghost use Rattle.ledger_machine.specs.Rotation.{Tells};
 ghost use Rattle.ledger_machine.specs.Steps.{IsAfter};
 ghost use Rattle.ledger_machine.specs.Steps.{Does};
-ghost use Rattle.store_core.specs.Desks.{backs, IsFiled, Stays, Grows, KeepsRest};
-ghost use Rattle.store_core.specs.Refusals.{IsRefusal, search_reply};
+ghost use Rattle.store_core.specs.Desks.{backs, IsFiled, Stays, Grows, KeepsRest, OnlyReads};
+ghost use Rattle.store_core.specs.Refusals.{IsRefusal};
 ghost use Rattle.store_core.specs.Telling.{Hears, TellsRoot, AreWantedTold};
 ghost use Rattle.store_core.specs.Wanting.{judged_by, found_seq as seq_found, settled, told_at};
 
 use crate::heeding::{take_base, take_node};
 use crate::machine::Machine;
+use crate::rotating::Part;
 use crate::told::{base_answer, check_told, node_answer, peer_told};
 use acquire_core::{Acquire, CheckReply as Checked, TickReply as Ticked};
 use half_hash::{Blob, Hash32, Memory, NodeHash, known_half};
@@ -40,6 +44,15 @@ use std::alloc::Global;
 
 /// The most acquisitions that are open at a time.
 const MOST_WANTED: usize = 64;
+
+/// What was searched of a ledger before a check of it is answered.
+#[derive(Drop)]
+pub(crate) enum Sought {
+    /// The search has ended with what was found, or no acquisition is open under the target, and nothing was searched.
+    Ended(Option<Found>),
+    /// The search is left for another section.
+    More,
+}
 
 impl<H: NodeHash, Sh: Shelf> Machine<H, Sh> {
     /// Opens an acquisition.
@@ -200,34 +213,71 @@ impl<H: NodeHash, Sh: Shelf> Machine<H, Sh> {
         node_answer(taken)
     }
 
-    /// Searches for what is missing of a ledger, passing what is marked, and lists it where nothing is and it is acceptable.
-    pub(crate) fn check(
+    /// Searches for what is missing of a ledger whose acquisition is open, passing what is marked: a slice of the actor's search, or to its
+    /// end. Nothing but what searches share is changed.
+    pub(crate) fn seek(
         &mut self,
         alloc: Global,
         searches: &mut Searches,
+        actor: u8,
         target: &Hash32,
-    ) -> Result<CheckReply, SearchFault>
+        part: Part,
+    ) -> Result<Sought, SearchFault>
         requires filed { IsFiled H.half Sh.B.tells self.old.state }
         requires searches { AreKept H.half Sh.B.tells self.old.state searches.old }
+        requires known { actor < actors }
+        ensures found { IfOk result (IsSought H.half Sh.B.tells self.new.state target.now part) }
+        ensures leaves { IsTrue Sh.B.tells → IfOk result (LeavesSearch H.half self.old.state target.now
+            (hunt_of searches.old.hunts.items actor) searches.old.marks (hunt_of searches.new.hunts.items actor) searches.new.marks) }
+        ensures first { IsTrue Sh.B.tells → IsUnbegun (hunt_of searches.old.hunts.items actor) target.now
+            → HasMarkedRoots (form_in self.old.state) target.now searches.old.marks → self.new.gets ≤ self.old.gets + 2 }
+        ensures shares { Shares H.half Sh.B.tells self.old.state actor (Command.Check target.now) part searches.old self.old.gets
+            searches.new self.new.gets }
+        ensures reads { OnlyReads Sh.B.tells self.old self.new }
+        ensures fault { IfErr result (λ e. e ≡ SearchFault.Fault → Rose self.old.faults self.new.faults) }
+    {
+        if !self.wanted.contains_key(target) {
+            return Ok(Sought::Ended(None));
+        }
+        match part {
+            Part::Slice => {
+                let found = searches.slice::<H, Sh>(alloc, &mut self.store, actor, target)?;
+                Ok(slice_sought(found))
+            }
+            Part::Whole => {
+                let found = searches.look::<H, Sh>(alloc, &mut self.store, target)?;
+                Ok(Sought::Ended(Some(found)))
+            }
+        }
+    }
+
+    /// Lists a ledger whose acquisition is open where nothing of it was found missing or broken and it is acceptable.
+    pub(crate) fn check(
+        &mut self,
+        alloc: Global,
+        target: &Hash32,
+        found: &Option<Found>,
+    ) -> Result<CheckReply, Memory>
+        requires found { HasFound H.half Sh.B.tells self.old.state (Command.Check target.now) found.now }
         ensures reply { IsTrue Sh.B.tells → IfOk result (λ r. r ≡ check_reply H.half self.old.state target.now) }
         ensures after { IsTrue Sh.B.tells
             → IfOk result (λ r. IsAfter (after_check self.old.state target.now (stored_seq self.old.state target.now) r) self.new.state) }
-        ensures err { IsTrue Sh.B.tells → OnErr result (IsAfter self.old.state self.new.state) }
+        ensures err { OnErr result (IsAfter self.old.state self.new.state) }
         ensures tells { Tells self.old.state self.new.state [] }
         ensures kept { OnErr result (KeepsRest self.old.state self.new.state) }
         ensures grows { Grows self.old self.new }
         ensures slices { self.new.slices ≤ self.old.slices }
         ensures copies { IsTrue Sh.B.tells → backs self.new ≡ backs self.old }
-        ensures shares { Shares H.half Sh.B.tells self.old.state (Command.Check target.now) (search_reply result) searches.old self.old.gets
-            searches.new self.new.gets }
-        ensures fault { IfErr result (λ e. e ≡ SearchFault.Fault → Rose self.old.faults self.new.faults) }
+        ensures asks { self.new.gets ≡ self.old.gets }
     {
         if !self.wanted.contains_key(target) {
             return Ok(CheckReply::NotOpen);
         }
-        let found = searches.look::<H, Sh>(alloc, &mut self.store, target)?;
-        let reply = self.judge(alloc, target, &found)?;
-        self.settle(target, found_seq(&found), &reply)?;
+        let Some(found) = found else {
+            unreachable!();
+        };
+        let reply = self.judge(alloc, target, found)?;
+        self.settle(target, found_seq(found), &reply)?;
         Ok(check_told(reply))
     }
 
@@ -352,6 +402,16 @@ fn lent(blob: &Option<Blob>) -> Option<&[u8]>
     match blob {
         Some(blob) => Some(blob.bytes()),
         None => None,
+    }
+}
+
+// What a slice of a search has come to.
+fn slice_sought(found: Option<Found>) -> Sought
+    ensures { result ≡ sought_by found }
+{
+    match found {
+        Some(found) => Sought::Ended(Some(found)),
+        None => Sought::More,
     }
 }
 

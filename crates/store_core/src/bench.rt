@@ -1,5 +1,5 @@
 //! The machine with the open edit sessions beside it: each command is the machine's, the sessions', or one of both.
-ghost use Rattle.std.specs.Prelude.{◌≤◌, ◌≡◌, ◌<◌, ◌-◌, ◌^◌, [], IsTrue, IfOk, IfErr, IfSome, IsNone, IsSome, OnErr, length, map};
+ghost use Rattle.std.specs.Prelude.{◌≤◌, ◌≡◌, ◌<◌, ◌+◌, ◌-◌, ◌^◌, [], IsTrue, IfOk, IfErr, IfSome, IsNone, IsSome, OnErr, length, map};
 ghost use Rattle.std.specs.FinMap as finite;
 ghost use Rattle.std.specs.Option.{option_copied};
 ghost use Rattle.run_io.specs.Bytes.{Rose};
@@ -7,24 +7,31 @@ ghost use Rattle.shamap_node.specs.Nodes.{held};
 ghost use Rattle.ledger_machine.specs.Scripts.{IsBeside, IsInRange};
 ghost use Rattle.ledger_machine.specs.Rotation.{Tells};
 ghost use Rattle.ledger_machine.specs.Sound.{Sound};
-ghost use Rattle.ledger_machine.specs.State.{opening};
+ghost use Rattle.ledger_machine.specs.State.{form_in, opening};
 ghost use Rattle.ledger_machine.specs.Steps.{Step, own_hashes};
 ghost use Rattle.ledger_machine.specs.Steps.{Does};
 ghost use Rattle.ledger_machine.specs.Views.{is_retained as state_retains, view_reply, after_view};
 ghost use Rattle.store_core.specs.Benches.{IsOfSessions};
-ghost use Rattle.store_core.specs.Checking.{AreKept, Shares};
+ghost use Rattle.store_core.specs.Checking.{AreKept, AsksNothing, ChecksByMarks, HasFound, IsNoCheck, IsSliced, IsSought};
+ghost use Rattle.store_core.specs.Checking.{LeavesSearch, SearchesBy, Shares};
+ghost use Rattle.ledger_searches.specs.Hunting.{IsUnbegun, hunt_of};
+ghost use Rattle.missing_walk.specs.Passes.{HasMarkedRoots};
+ghost use Rattle.ledger_machine.specs.Runs.{actors};
 ghost use Rattle.store_core.specs.Desks.{backs, IsFiled, Stays, Grows, KeepsRest, OnlyReads, over};
 ghost use Rattle.store_core.specs.Dumping.{IsNextRecord, Follows};
 ghost use Rattle.store_core.specs.Refusals.{IsRefusal};
 ghost use Rattle.store_core.specs.Telling.{TellsRoot, AreTold, Carried, IsSlice, CopiesBy, CopiesFew};
 
+use crate::acquiring::Sought;
 use crate::machine::{Machine, unread};
 use crate::rotating::Part;
+use crate::told::unsearched;
 use edit_session::a_session_stays_over_its_ledger;
 use half_hash::{Hash32, Memory, NodeHash};
 use ledger_laws::{a_row_is_one_beside_any_sessions, a_step_carries_what_was_told};
 use ledger_machine::{Command, Record, Reply, ViewReply};
 use ledger_searches::Searches;
+use missing_walk::{Found, SearchFault};
 use node_backend::{BackFault, Shelf};
 use online_rotate::Left;
 use open_sessions::Open;
@@ -121,19 +128,18 @@ impl<H: NodeHash, Sh: Shelf> Bench<H, Sh> {
     pub(crate) fn answer(
         &mut self,
         alloc: Global,
-        searches: &mut Searches,
         actor: u8,
         command: &Command,
+        found: &Option<Found>,
     ) -> (Reply, Vec<Arc<Node>>)
         requires in_range { IsInRange command.now }
         requires sound { IsTrue Sh.B.tells → Sound H.half self.old.state }
         requires told { IsTrue Sh.B.tells → AreTold self.old.state }
         requires room { self.old.state.epoch < 2 ^ 64 - 1 }
-        requires searches { AreKept H.half Sh.B.tells self.old.state searches.old }
+        requires found { HasFound H.half Sh.B.tells self.old.state command.now found.now }
         ensures step { IsTrue Sh.B.tells
             → Step H.half self.old.state actor command.now result.0 (map (λ a. held a.value) result.1.items) self.new.state }
-        ensures shares { Shares H.half Sh.B.tells self.old.state command.now result.0 searches.old self.old.gets
-            searches.new self.new.gets }
+        ensures asks { AsksNothing command.now self.old.gets self.new.gets }
         ensures told { IsTrue Sh.B.tells → AreTold self.new.state }
         ensures refused { IsRefusal result.0 → KeepsRest self.old.state self.new.state }
         ensures grows { Grows self.old self.new }
@@ -142,10 +148,10 @@ impl<H: NodeHash, Sh: Shelf> Bench<H, Sh> {
         ensures fault { result.0 ≡ Reply.Fault → Rose self.old.faults self.new.faults }
     {
         a_step_carries_what_was_told();
-        self.serve(alloc, searches, actor, command)
+        self.serve(alloc, actor, command, found)
     }
 
-    /// One section of a command: the reply, and the nodes that it used; or none where a slice of a swap left something to copy.
+    /// One section of a command: the reply, and the nodes that it used; or none where a slice of a swap or of a check left something.
     pub(crate) fn section(
         &mut self,
         alloc: Global,
@@ -159,11 +165,114 @@ impl<H: NodeHash, Sh: Shelf> Bench<H, Sh> {
         requires told { IsTrue Sh.B.tells → AreTold self.old.state }
         requires room { self.old.state.epoch < 2 ^ 64 - 1 }
         requires searches { AreKept H.half Sh.B.tells self.old.state searches.old }
+        requires known { actor < actors }
         ensures step { IsTrue Sh.B.tells → IfSome result (λ r.
             Step H.half self.old.state actor command.now r.0 (map (λ a. held a.value) r.1.items) self.new.state) }
-        ensures shares { IfSome result (λ r.
-            Shares H.half Sh.B.tells self.old.state command.now r.0 searches.old self.old.gets searches.new self.new.gets) }
-        ensures unsearched { IsNone result → searches.new ≡ searches.old }
+        ensures shares { Shares H.half Sh.B.tells self.old.state actor command.now part searches.old self.old.gets
+            searches.new self.new.gets }
+        ensures search { IsTrue Sh.B.tells → IfSome result (λ r. SearchesBy H.half self.old.state command.now r.0
+            (hunt_of searches.old.hunts.items actor) searches.old.marks self.old.gets searches.new.marks self.new.gets) }
+        ensures told { IsTrue Sh.B.tells → AreTold self.new.state }
+        ensures refused { IfSome result (λ r. IsRefusal r.0 → KeepsRest self.old.state self.new.state) }
+        ensures grows { Grows self.old self.new }
+        ensures fault { IfSome result (λ r. r.0 ≡ Reply.Fault → Rose self.old.faults self.new.faults) }
+        ensures more { IsNone result → IsSliced H.half Sh.B.tells actor command.now part self.old searches.old self.new searches.new }
+        ensures slices { IsSome result → self.new.slices ≤ self.old.slices }
+        ensures few { IsTrue Sh.B.tells → part ≡ Part.Slice → CopiesFew command.now self.old self.new }
+        ensures still { IsNone result → KeepsRest self.old.state self.new.state }
+        ensures same { IsTrue Sh.B.tells → IsNone result → self.new.state ≡ self.old.state }
+    {
+        self.machine.known();
+        match command {
+            Command::Check { target } => {
+                self.search_section(alloc, searches, actor, command, target, part)
+            }
+            _ => self.turn_section(alloc, actor, command, part),
+        }
+    }
+
+    // One section of a check: the search, and the step where that has ended.
+    fn search_section(
+        &mut self,
+        alloc: Global,
+        searches: &mut Searches,
+        actor: u8,
+        command: &Command,
+        target: &Hash32,
+        part: Part,
+    ) -> Option<(Reply, Vec<Arc<Node>>)>
+        requires check { command.now ≡ Command.Check target.now }
+        requires in_range { IsInRange command.now }
+        requires sound { IsTrue Sh.B.tells → Sound H.half self.old.state }
+        requires told { IsTrue Sh.B.tells → AreTold self.old.state }
+        requires room { self.old.state.epoch < 2 ^ 64 - 1 }
+        requires searches { AreKept H.half Sh.B.tells self.old.state searches.old }
+        requires known { actor < actors }
+        ensures step { IsTrue Sh.B.tells → IfSome result (λ r.
+            Step H.half self.old.state actor command.now r.0 (map (λ a. held a.value) r.1.items) self.new.state) }
+        ensures shares { Shares H.half Sh.B.tells self.old.state actor (Command.Check target.now) part searches.old self.old.gets
+            searches.new self.new.gets }
+        ensures search { IsTrue Sh.B.tells → IfSome result (λ r. ChecksByMarks H.half self.old.state target.now r.0
+            (hunt_of searches.old.hunts.items actor) searches.old.marks self.old.gets searches.new.marks self.new.gets) }
+        ensures told { IsTrue Sh.B.tells → AreTold self.new.state }
+        ensures refused { IfSome result (λ r. IsRefusal r.0 → KeepsRest self.old.state self.new.state) }
+        ensures grows { Grows self.old self.new }
+        ensures fault { IfSome result (λ r. r.0 ≡ Reply.Fault → Rose self.old.faults self.new.faults) }
+        ensures more { IsNone result
+            → IsSliced H.half Sh.B.tells actor (Command.Check target.now) part self.old searches.old self.new searches.new }
+        ensures slices { self.new.slices ≤ self.old.slices }
+        ensures copies { IsTrue Sh.B.tells → backs self.new ≡ backs self.old }
+        ensures still { IsNone result → KeepsRest self.old.state self.new.state }
+        ensures same { IsTrue Sh.B.tells → IsNone result → self.new.state ≡ self.old.state }
+    {
+        a_step_carries_what_was_told();
+        match self.seek(alloc, searches, actor, target, part) {
+            Ok(Sought::More) => None,
+            Ok(Sought::Ended(found)) => Some(self.answer(alloc, actor, command, &found)),
+            Err(fault) => Some((unsearched(fault), Vec::new(alloc))),
+        }
+    }
+
+    // What is searched of a ledger before a check of it is answered. The sessions leave what is stored.
+    fn seek(
+        &mut self,
+        alloc: Global,
+        searches: &mut Searches,
+        actor: u8,
+        target: &Hash32,
+        part: Part,
+    ) -> Result<Sought, SearchFault>
+        requires filed { IsFiled H.half Sh.B.tells self.old.state }
+        requires searches { AreKept H.half Sh.B.tells self.old.state searches.old }
+        requires known { actor < actors }
+        ensures found { IfOk result (IsSought H.half Sh.B.tells self.new.state target.now part) }
+        ensures leaves { IsTrue Sh.B.tells → IfOk result (LeavesSearch H.half self.old.state target.now
+            (hunt_of searches.old.hunts.items actor) searches.old.marks (hunt_of searches.new.hunts.items actor) searches.new.marks) }
+        ensures first { IsTrue Sh.B.tells → IsUnbegun (hunt_of searches.old.hunts.items actor) target.now
+            → HasMarkedRoots (form_in self.old.state) target.now searches.old.marks → self.new.gets ≤ self.old.gets + 2 }
+        ensures shares { Shares H.half Sh.B.tells self.old.state actor (Command.Check target.now) part searches.old self.old.gets
+            searches.new self.new.gets }
+        ensures reads { OnlyReads Sh.B.tells self.old self.new }
+        ensures fault { IfErr result (λ e. e ≡ SearchFault.Fault → Rose self.old.faults self.new.faults) }
+    {
+        self.machine.seek(alloc, searches, actor, target, part)
+    }
+
+    // One section of a command that is no check: a slice of a swap, or the step.
+    fn turn_section(
+        &mut self,
+        alloc: Global,
+        actor: u8,
+        command: &Command,
+        part: Part,
+    ) -> Option<(Reply, Vec<Arc<Node>>)>
+        requires no_check { IsNoCheck command.now }
+        requires in_range { IsInRange command.now }
+        requires sound { IsTrue Sh.B.tells → Sound H.half self.old.state }
+        requires told { IsTrue Sh.B.tells → AreTold self.old.state }
+        requires room { self.old.state.epoch < 2 ^ 64 - 1 }
+        ensures step { IsTrue Sh.B.tells → IfSome result (λ r.
+            Step H.half self.old.state actor command.now r.0 (map (λ a. held a.value) r.1.items) self.new.state) }
         ensures told { IsTrue Sh.B.tells → AreTold self.new.state }
         ensures refused { IfSome result (λ r. IsRefusal r.0 → KeepsRest self.old.state self.new.state) }
         ensures grows { Grows self.old self.new }
@@ -178,7 +287,7 @@ impl<H: NodeHash, Sh: Shelf> Bench<H, Sh> {
         self.machine.known();
         match self.slice_first(alloc, command, part) {
             Ok(Left::More) => None,
-            Ok(Left::Done) => Some(self.answer(alloc, searches, actor, command)),
+            Ok(Left::Done) => Some(self.answer(alloc, actor, command, &None)),
             Err(fault) => Some((unread(fault), Vec::new(alloc))),
         }
     }
@@ -187,19 +296,18 @@ impl<H: NodeHash, Sh: Shelf> Bench<H, Sh> {
     fn serve(
         &mut self,
         alloc: Global,
-        searches: &mut Searches,
         actor: u8,
         command: &Command,
+        found: &Option<Found>,
     ) -> (Reply, Vec<Arc<Node>>)
         requires in_range { IsInRange command.now }
         requires sound { IsTrue Sh.B.tells → Sound H.half self.old.state }
         requires told { IsTrue Sh.B.tells → AreTold self.old.state }
         requires room { self.old.state.epoch < 2 ^ 64 - 1 }
-        requires searches { AreKept H.half Sh.B.tells self.old.state searches.old }
+        requires found { HasFound H.half Sh.B.tells self.old.state command.now found.now }
         ensures does { IsTrue Sh.B.tells
             → Does H.half self.old.state actor command.now result.0 (map (λ a. held a.value) result.1.items) self.new.state }
-        ensures shares { Shares H.half Sh.B.tells self.old.state command.now result.0 searches.old self.old.gets
-            searches.new self.new.gets }
+        ensures asks { AsksNothing command.now self.old.gets self.new.gets }
         ensures carries { IsTrue Sh.B.tells
             → AreTold self.new.state × Carried H.half self.old.state actor command.now result.0 self.new.state }
         ensures refused { IsRefusal result.0 → KeepsRest self.old.state self.new.state }
@@ -219,7 +327,7 @@ impl<H: NodeHash, Sh: Shelf> Bench<H, Sh> {
             Command::Begin | Command::Swap => {
                 (self.rotate(alloc, actor, command), Vec::new(alloc))
             }
-            _ => self.beside(alloc, searches, actor, command),
+            _ => self.beside(alloc, actor, command, found),
         }
     }
 
@@ -288,19 +396,18 @@ impl<H: NodeHash, Sh: Shelf> Bench<H, Sh> {
     fn beside(
         &mut self,
         alloc: Global,
-        searches: &mut Searches,
         actor: u8,
         command: &Command,
+        found: &Option<Found>,
     ) -> (Reply, Vec<Arc<Node>>)
         requires beside { IsBeside command.now }
         requires in_range { IsInRange command.now }
         requires filed { IsFiled H.half Sh.B.tells self.old.state }
         requires told { IsTrue Sh.B.tells → AreTold self.old.state }
-        requires searches { AreKept H.half Sh.B.tells self.old.state searches.old }
+        requires found { HasFound H.half Sh.B.tells self.old.state command.now found.now }
         ensures does { IsTrue Sh.B.tells
             → Does H.half self.old.state actor command.now result.0 (map (λ a. held a.value) result.1.items) self.new.state }
-        ensures shares { Shares H.half Sh.B.tells self.old.state command.now result.0 searches.old self.old.gets
-            searches.new self.new.gets }
+        ensures asks { AsksNothing command.now self.old.gets self.new.gets }
         ensures carries { IsTrue Sh.B.tells
             → AreTold self.new.state × Carried H.half self.old.state actor command.now result.0 self.new.state }
         ensures refused { IsRefusal result.0 → KeepsRest self.old.state self.new.state }
@@ -311,7 +418,7 @@ impl<H: NodeHash, Sh: Shelf> Bench<H, Sh> {
     {
         a_session_stays_over_its_ledger();
         a_row_is_one_beside_any_sessions();
-        let answered = self.machine.answer(alloc, searches, actor, command);
+        let answered = self.machine.answer(alloc, actor, command, found);
         self.machine.known();
         answered
     }

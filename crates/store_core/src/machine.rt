@@ -10,7 +10,7 @@ ghost use Rattle.ledger_machine.specs.State.{opening};
 ghost use Rattle.ledger_machine.specs.Steps.{own_hashes};
 ghost use Rattle.ledger_machine.specs.Steps.{Does};
 ghost use Rattle.rotating_store.specs.Stores.{merged};
-ghost use Rattle.store_core.specs.Checking.{AreKept, Shares};
+ghost use Rattle.store_core.specs.Checking.{AsksNothing, HasFound};
 ghost use Rattle.store_core.specs.Desks.{backs, IsFiled, Grows, KeepsRest, OnlyReads, over};
 ghost use Rattle.store_core.specs.Dumping.{IsNextRecord, Follows};
 ghost use Rattle.store_core.specs.Reads.{ReadsNothing};
@@ -18,11 +18,10 @@ ghost use Rattle.store_core.specs.Refusals.{IsRefusal, read_refusal};
 ghost use Rattle.store_core.specs.Telling.{TellsRoot, AreWantedTold};
 
 use crate::records::next_record;
-use crate::told::unsearched;
 use acquire_core::Acquire;
 use half_hash::{Hash32, NodeHash};
 use ledger_machine::{Command, Record, Reply};
-use ledger_searches::Searches;
+use missing_walk::Found;
 use node_backend::{BackFault, Shelf};
 use online_rotate::Rotator;
 use retain_book::Book;
@@ -134,23 +133,22 @@ impl<H: NodeHash, Sh: Shelf> Machine<H, Sh> {
     }
 
     /// What a command does that names no session and sees none: the reply, and the nodes that it used.
-    #[tactic(auto, using(crate::proofs::Checks::no_check_as))]
+    #[tactic(auto, using(crate::proofs::Checks::asks_as))]
     pub(crate) fn answer(
         &mut self,
         alloc: Global,
-        searches: &mut Searches,
         actor: u8,
         command: &Command,
+        found: &Option<Found>,
     ) -> (Reply, Vec<Arc<Node>>)
         requires beside { IsBeside command.now }
         requires in_range { IsInRange command.now }
         requires filed { IsFiled H.half Sh.B.tells self.old.state }
         requires told { IsTrue Sh.B.tells → AreWantedTold self.old.state }
-        requires searches { AreKept H.half Sh.B.tells self.old.state searches.old }
+        requires found { HasFound H.half Sh.B.tells self.old.state command.now found.now }
         ensures does { IsTrue Sh.B.tells
             → Does H.half self.old.state actor command.now result.0 (map (λ a. held a.value) result.1.items) self.new.state }
-        ensures shares { Shares H.half Sh.B.tells self.old.state command.now result.0 searches.old self.old.gets
-            searches.new self.new.gets }
+        ensures asks { AsksNothing command.now self.old.gets self.new.gets }
         ensures tells { Tells self.old.state self.new.state (own_hashes H.half self.old.state actor command.now result.0) }
         ensures names { TellsRoot self.old.state command.now result.0 self.new.state }
         ensures refused { IsRefusal result.0 → KeepsRest self.old.state self.new.state }
@@ -173,22 +171,21 @@ impl<H: NodeHash, Sh: Shelf> Machine<H, Sh> {
                 Ok(paged) => (Reply::Page(paged.reply), paged.used),
                 Err(fault) => (unread(fault), Vec::new(alloc)),
             },
-            _ => (self.act(alloc, searches, actor, command), Vec::new(alloc)),
+            _ => (self.act(alloc, actor, command, found), Vec::new(alloc)),
         }
     }
 
     /// The same of a command that reads nothing.
-    #[tactic(auto, using(crate::proofs::Checks::no_check_as))]
-    fn act(&mut self, alloc: Global, searches: &mut Searches, actor: u8, command: &Command) -> Reply
+    #[tactic(auto, using(crate::proofs::Checks::asks_as))]
+    fn act(&mut self, alloc: Global, actor: u8, command: &Command, found: &Option<Found>) -> Reply
         requires beside { IsBeside command.now }
         requires reads_nothing { ReadsNothing command.now }
         requires in_range { IsInRange command.now }
         requires filed { IsFiled H.half Sh.B.tells self.old.state }
         requires told { IsTrue Sh.B.tells → AreWantedTold self.old.state }
-        requires searches { AreKept H.half Sh.B.tells self.old.state searches.old }
+        requires found { HasFound H.half Sh.B.tells self.old.state command.now found.now }
         ensures does { IsTrue Sh.B.tells → Does H.half self.old.state actor command.now result [] self.new.state }
-        ensures shares { Shares H.half Sh.B.tells self.old.state command.now result searches.old self.old.gets
-            searches.new self.new.gets }
+        ensures asks { AsksNothing command.now self.old.gets self.new.gets }
         ensures tells { Tells self.old.state self.new.state (own_hashes H.half self.old.state actor command.now result) }
         ensures names { TellsRoot self.old.state command.now result self.new.state }
         ensures refused { IsRefusal result → KeepsRest self.old.state self.new.state }
@@ -220,9 +217,9 @@ impl<H: NodeHash, Sh: Shelf> Machine<H, Sh> {
                 id,
                 blob,
             } => self.node(alloc, *peer, target, *kind, id, blob),
-            Command::Check { target } => match self.check(alloc, searches, target) {
+            Command::Check { target } => match self.check(alloc, target, found) {
                 Ok(reply) => Reply::Check(reply),
-                Err(fault) => unsearched(fault),
+                Err(_) => Reply::Memory,
             },
             Command::Tick { target } => Reply::Tick(self.tick(target)),
             Command::Unview { view } => Reply::Unview(self.unview(actor, *view)),

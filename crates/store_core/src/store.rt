@@ -3,12 +3,12 @@ ghost use Rattle.std.specs.Prelude.{◌≡◌, ◌≢◌, ◌⊎◌, ◌↔◌, 
 ghost use Rattle.std.specs.Prelude.{IfErr, IfSome, MatchOption, drop, take};
 ghost use Rattle.std.specs.Option.{option_copied};
 ghost use Rattle.ledger_machine.specs.Scripts.{Rises, line_of, numbers_of};
-ghost use Rattle.ledger_machine.specs.Runs.{IsDone, IsBlocked, is_answered as answered, opening_of};
+ghost use Rattle.ledger_machine.specs.Runs.{actors, IsDone, IsBlocked, is_answered as answered, opening_of};
 ghost use Rattle.ledger_machine.specs.Records.{AreRecords};
 ghost use Rattle.script_form.specs.Servable.{AreServable};
 ghost use Rattle.store_core.specs.Checking.{TurnsBy};
 ghost use Rattle.ledger_searches.specs.Sharing.{IsPaired};
-ghost use Rattle.store_core.specs.Journal.{Advances, Slices, CopiesFew, IsJournal, IsNew, IsNext, AllBefore, AllFrom};
+ghost use Rattle.store_core.specs.Journal.{Advances, Slices, ChecksFew, CopiesFew, IsJournal, IsNew, IsNext, AllBefore, AllFrom};
 ghost use Rattle.run_io.specs.Bytes.{Rose};
 ghost use Rattle.rotating_store.specs.Stores.{Store, nodes_of};
 ghost use Rattle.store_core.specs.Dumping.{HoldsOf, IsNextRecord, Follows, Lists, missed_after};
@@ -44,7 +44,7 @@ pub enum OpenFault {
 pub enum Stepped {
     /// An entry was recorded.
     Answered,
-    /// One slice of a swap was done, and something is left to copy. Nothing was recorded.
+    /// One slice of a swap or of a check was done, and something is left to copy or to look at. Nothing was recorded.
     More,
     /// The line that the actor's next line waits for has no entry yet.
     Blocked,
@@ -90,6 +90,7 @@ impl<H: NodeHash, Sh: Shelf> Model for Core<H, Sh> {
       written = c.bench.written;
       archived = c.bench.archived;
       marks = c.searches.marks;
+      hunts = c.searches.hunts.items;
       missed = c.missed;
       journal = c.journal.items;
       state = c.bench.state;
@@ -153,12 +154,14 @@ impl<H: NodeHash, Sh: Shelf> Core<H, Sh> {
     }
 
     /// Does one section of the actor's next line, unless that waits for one that has no entry yet. An actor past the last one has none. A
-    /// swap does at most 64 slices of its rotation, each a section, before the one that answers.
+    /// swap does at most 64 slices of its rotation, each a section, before the one that answers; a check looks at 256 places in a section,
+    /// and begins anew where a swap came between two of them; behind the third it searches to the end in one.
     pub fn step(&mut self, alloc: Global, actor: u8) -> Stepped
         ensures answered { result ≡ Stepped.Answered → Advances H.half Sh.B.tells self.old actor self.new }
-        ensures more { result ≡ Stepped.More → Slices Sh.B.tells self.old actor self.new }
+        ensures more { result ≡ Stepped.More → Slices H.half Sh.B.tells self.old actor self.new }
         ensures copies { IsTrue Sh.B.tells → CopiesFew self.old actor self.new }
         ensures slices { result ≢ Stepped.More → self.new.slices ≤ self.old.slices }
+        ensures asks { ChecksFew self.old actor self.new }
         ensures blocked { (result ≡ Stepped.Blocked) ↔ IsBlocked self.old.lines self.old.journal actor }
         ensures finished { (result ≡ Stepped.Finished) ↔ IsDone self.old.lines self.old.journal actor }
         ensures unchanged { (result ≡ Stepped.Blocked) ⊎ (result ≡ Stepped.Finished) → self.new ≡ self.old }
@@ -167,7 +170,8 @@ impl<H: NodeHash, Sh: Shelf> Core<H, Sh> {
         self.advance(alloc, actor, Part::Slice)
     }
 
-    /// Answers the actor's next line, as `step` does, but in one section: what a swap has to copy isn't cut into slices.
+    /// Answers the actor's next line, as `step` does, but in one section: neither what a swap has to copy nor what a check looks at is cut
+    /// into slices.
     pub fn step_whole(&mut self, alloc: Global, actor: u8) -> Stepped
         ensures answered { result ≡ Stepped.Answered → Advances H.half Sh.B.tells self.old actor self.new }
         ensures whole { result ≢ Stepped.More }
@@ -183,8 +187,9 @@ impl<H: NodeHash, Sh: Shelf> Core<H, Sh> {
     // One section of the actor's next line.
     fn advance(&mut self, alloc: Global, actor: u8, part: Part) -> Stepped
         ensures answered { result ≡ Stepped.Answered → Advances H.half Sh.B.tells self.old actor self.new }
-        ensures more { result ≡ Stepped.More → (part ≡ Part.Slice) × Slices Sh.B.tells self.old actor self.new }
+        ensures more { result ≡ Stepped.More → (part ≡ Part.Slice) × Slices H.half Sh.B.tells self.old actor self.new }
         ensures copies { IsTrue Sh.B.tells → part ≡ Part.Slice → CopiesFew self.old actor self.new }
+        ensures asks { part ≡ Part.Slice → ChecksFew self.old actor self.new }
         ensures slices { result ≢ Stepped.More → self.new.slices ≤ self.old.slices }
         ensures blocked { (result ≡ Stepped.Blocked) ↔ IsBlocked self.old.lines self.old.journal actor }
         ensures finished { (result ≡ Stepped.Finished) ↔ IsDone self.old.lines self.old.journal actor }
@@ -213,7 +218,7 @@ impl<H: NodeHash, Sh: Shelf> Core<H, Sh> {
             self.cursors[actor as usize] = at;
             return Stepped::More;
         };
-        turn_behind(&mut self.searches, &reply);
+        end_search(&mut self.searches, actor, &reply);
         let entry = Entry {
             line: line.number,
             actor,
@@ -323,14 +328,18 @@ impl<H: NodeHash, Sh: Shelf> Core<H, Sh> {
     }
 }
 
-// Behind a swap, which may have lost what is marked or cached, the next generation begins.
-fn turn_behind(searches: &mut Searches, reply: &Reply)
+// Behind an entry its actor's search has ended; behind a swap, which may have lost what is marked or cached, the next generation begins.
+fn end_search(searches: &mut Searches, actor: u8, reply: &Reply)
     requires paired { IsPaired searches.old }
     requires room { searches.old.marks.generation + 1 < 2 ^ 64 }
-    ensures { TurnsBy reply.now searches.old searches.new }
+    requires known { actor < actors }
+    ensures { TurnsBy reply.now actor searches.old searches.new }
 {
-    if let Reply::Swap(SwapReply::Swapped(_)) = reply {
-        searches.turn();
+    searches.forget(actor);
+    if let Reply::Swap(swap) = reply {
+        if let SwapReply::Swapped(_) = swap {
+            searches.turn();
+        }
     }
 }
 

@@ -11,7 +11,7 @@ use Rattle.missing_walk.specs.Searching.{OnDone, OnMore}
 use Rattle.missing_walk.specs.Sees.{Finds}
 use Rattle.missing_walk.proofs.Seeing.{tells_after}
 use Rattle.ledger_searches.specs.declared.searches.Searches.{Searches}
-use Rattle.ledger_searches.proofs.Running.{rule_true, present_on, few_left, roots_marked}
+use Rattle.ledger_searches.proofs.Running.{true_beside, present_on, few_left, roots_marked}
 use Rattle.ledger_searches.proofs.searches.Searches.run.Goals as goal
 
 -- what marks and cache say stays true
@@ -19,15 +19,19 @@ pub returns-in_err-found-clause-keeps : goal.returns-in_err-found-clause-keeps
 returns-in_err-found-clause-keeps g c nodes t all =
     let half = g.H.NodeHash.half in
     let now = tells_after g.Sh.B.Backend.tells half c.args.store.now c.loop-search.store nodes c.loop-search.invariant.read t in
-    rule_true half nodes c.slice.new.self (record { cache = c.slice.new.cache; marks = c.slice.new.marks })
+    true_beside half nodes c.args.self.now
+    (record { cache = c.slice.new.cache; marks = c.slice.new.marks; hunts = c.loop-search.self.hunts }) c.slice.new.self all
     (c.slice.ensures.rule nodes now (c.loop-search.invariant.rule nodes t all))
+    (c.slice.ensures.marks ∙ c.loop-search.invariant.generation) c.loop-search.invariant.hunts
 
 pub returns-in-Done-clause-keeps : goal.returns-in-Done-clause-keeps
 returns-in-Done-clause-keeps g c nodes t all =
     let half = g.H.NodeHash.half in
     let now = tells_after g.Sh.B.Backend.tells half c.args.store.now c.loop-search.store nodes c.loop-search.invariant.read t in
-    rule_true half nodes c.slice.new.self (record { cache = c.slice.new.cache; marks = c.slice.new.marks })
+    true_beside half nodes c.args.self.now
+    (record { cache = c.slice.new.cache; marks = c.slice.new.marks; hunts = c.loop-search.self.hunts }) c.slice.new.self all
     (c.slice.ensures.rule nodes now (c.loop-search.invariant.rule nodes t all))
+    (c.slice.ensures.marks ∙ c.loop-search.invariant.generation) c.loop-search.invariant.hunts
 
 -- what the last slice found
 pub returns-in-Done-clause-found : goal.returns-in-Done-clause-found
@@ -70,7 +74,9 @@ loop-search-preserved g c =
       paired = record {
         one = c.slice.ensures.cache ∙ k.paired.one ∙ sym c.slice.ensures.marks;
         room = c.slice.ensures.room ∙ k.paired.room;
+        slots = k.paired.slots;
       };
+      hunts = k.hunts;
       generation = c.slice.ensures.marks ∙ k.generation;
       read = read_then _ _ _ _ _ k.read c.slice.ensures.read;
     }

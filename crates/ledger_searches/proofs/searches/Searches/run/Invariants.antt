@@ -21,6 +21,7 @@ invariant-loop-search g l = record {
   target : l.search.target ≡ l.fn.search.target;
   few : length l.search.missing.items ≤ 256;
   paired : IsPaired l.self;
+  hunts : l.self.hunts.items ≡ l.fn.self.hunts.items;
   generation : l.self.marks.generation ≡ l.fn.self.marks.generation;
   read : WasRead g.Sh.B.Backend.tells g.H.NodeHash.half l.fn.store l.store;
 }

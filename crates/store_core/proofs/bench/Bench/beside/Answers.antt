@@ -1,14 +1,13 @@
 -- what the machine does it does beside the sessions, whose drafts stay what they are as its store grows
-use Rattle.std.proofs.Common.{refl, sym, subst}
+use Rattle.std.proofs.Common.{sym, subst}
 use Rattle.store_core.specs.Benches.{with_open}
+use Rattle.store_core.specs.Checking.{HasFound}
 use Rattle.store_core.specs.Desks.{Desk, IsFiled}
 use Rattle.store_core.specs.Telling.{AreTold}
 use Rattle.store_core.proofs.Benches.{lifted, lifted_keeps}
 use Rattle.store_core.proofs.Besides.{beside_steady, tells_open, names_open}
 use Rattle.store_core.proofs.Offered.{wanted_open}
 use Rattle.store_core.proofs.Roots.{told_on}
-use Rattle.store_core.proofs.Checks.{kept_told, shares_as}
-use Rattle.store_core.specs.Checking.{AreKept}
 use Rattle.store_core.proofs.Refusing.{beside_rest}
 use Rattle.store_core.proofs.bench.Bench.beside.Goals as goal
 
@@ -82,20 +81,8 @@ returns-clause-refused g c is =
 pub returns-clause-copies : goal.returns-clause-copies
 returns-clause-copies g c told = rw (← c.self.view_is) (c.answer-answered.ensures.copies told)
 
--- open sessions leave what is stored
-pub answer-answered-requires-clause-searches : goal.answer-answered-requires-clause-searches
-answer-answered-requires-clause-searches g c κs within =
-    let half = g.H.NodeHash.half in
-    let tells = g.Sh.B.Backend.tells in
-    let s = c.self.inside.machine.state in
-    kept_told half tells (with_open half tells s c.self.inside.sessions) s c.args.searches.now (λ told. refl)
-    (subst (λ (d : Desk). AreKept half tells d.state c.args.searches.now) (sym c.self.view_is) c.requires.searches)
-
-pub returns-clause-shares : goal.returns-clause-shares
-returns-clause-shares g c =
-    let half = g.H.NodeHash.half in
-    let tells = g.Sh.B.Backend.tells in
-    let s = c.self.inside.machine.state in
-    rw (← c.self.view_is)
-    (shares_as half tells s (with_open half tells s c.self.inside.sessions) c.args.command.now _ c.args.searches.now _
-    c.answer-answered.new.searches _ (λ told. refl) c.answer-answered.ensures.shares)
+-- sessions see neither what is wanted nor what is stored
+pub answer-answered-requires-clause-found : goal.answer-answered-requires-clause-found
+answer-answered-requires-clause-found g c κs within =
+    subst (λ (d : Desk). HasFound g.H.NodeHash.half g.Sh.B.Backend.tells d.state c.args.command.now c.args.found.now) (sym c.self.view_is)
+    c.requires.found

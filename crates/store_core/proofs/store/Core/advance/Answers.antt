@@ -9,10 +9,10 @@ use Rattle.store_core.proofs.Journals.{kept_few, kept_less, kept_next, kept_move
 use Rattle.store_core.proofs.Journals.{kept_in_range, moved, moved_end, pushed, answers}
 use Rattle.store_core.proofs.Waiting.{done_free, next_left, blocked_by, blocked_at, same_line}
 use Rattle.store_core.proofs.Sections.{core_same}
-use Rattle.ledger_searches.specs.declared.searches.Searches.{Searches}
-use Rattle.full_below.specs.declared.marks.Marks.{Marks}
+use Rattle.ledger_searches.specs.Hunting.{hunt_of}
 use Rattle.store_core.specs.Journal.{CoreView}
-use Rattle.store_core.proofs.Checks.{keeps_on, keeps_same, search_on}
+use Rattle.store_core.proofs.Checks.{hunts_on, keeps_on, keeps_sliced, search_on}
+use Rattle.store_core.proofs.Sections.{asked_few, asked_none, slice_of}
 use Rattle.store_core.proofs.store.Core.advance.Goals as goal
 use Rattle.store_core.proofs.store.Core.advance.Goals.{else-after-ne0-via-then-after-ne0+else-not-is_answered}
 use Rattle.store_core.proofs.store.Core.advance.Goals.{else-after-ne0-via-else-after-ne0}
@@ -179,14 +179,14 @@ invariant_of-self-in_default-section g c =
     let k = c.self.invariant.0 in
     let next = moved c.self.inside.cursors.items c.deref.ensures.value c.index-from.ensures
     c.self.inside.cursors.ok.0 c.len.ensures c.if-actor-len.false c.in-Some.ensures in
-    let searched = c.self.invariant.1 in (
+    let shares = c.section.ensures.shares in (
       kept_moved _ _ _ _ _ _ _ _ _ _ _ _
           (kept_sliced _ _ _ _ _ _ _ _ _ _ _ _ k c.section.new.self.state c.section.new.self.faults
           (λ told. c.in_default-section.ensures.same told refl) (c.in_default-section.ensures.still refl) c.section.ensures.grows.later)
           c.args.actor _ (omega (arith, k.cursor_count, c.len.ensures, c.if-actor-len.false)) (omega (arith, next.within)) next.none,
-      keeps_same g.H.NodeHash.half g.Sh.B.Backend.tells c.self.inside.bench.state c.section.new.self.state c.self.inside.journal.items
-          c.self.inside.searches c.section.new.searches (c.in_default-section.ensures.unsearched refl)
-          (λ told. c.in_default-section.ensures.same told refl) searched,
+      keeps_sliced g.H.NodeHash.half g.Sh.B.Backend.tells c.self.inside.bench.state c.section.new.self.state c.self.inside.journal.items
+          c.self.inside.searches c.section.new.searches shares.kept shares.generation
+          (λ told. c.in_default-section.ensures.same told refl) c.self.invariant.1.young,
     )
 
 -- a slice of the actor's next line
@@ -195,7 +195,23 @@ returns-in_default-section-clause-more g c _ =
     let k = c.self.invariant.0 in
     let next = moved c.self.inside.cursors.items c.deref.ensures.value c.index-from.ensures
     c.self.inside.cursors.ok.0 c.len.ensures c.if-actor-len.false c.in-Some.ensures in
-    let seen : Marks → CoreView = λ (m : Marks). record {
+    let before : CoreView = record {
+      records = c.self.inside.script.records.items;
+      lines = c.self.inside.script.lines.items;
+      interval = c.self.inside.interval;
+      opened = c.self.inside.opened;
+      faults = c.self.inside.bench.faults;
+      gets = c.self.inside.bench.gets;
+      slices = c.self.inside.bench.slices;
+      written = c.self.inside.bench.written;
+      archived = c.self.inside.bench.archived;
+      marks = c.self.inside.searches.marks;
+      hunts = c.self.inside.searches.hunts.items;
+      missed = c.self.inside.missed;
+      journal = c.self.inside.journal.items;
+      state = c.self.inside.bench.state;
+    } in
+    let behind : CoreView = record {
       records = c.self.inside.script.records.items;
       lines = c.self.inside.script.lines.items;
       interval = c.self.inside.interval;
@@ -205,24 +221,25 @@ returns-in_default-section-clause-more g c _ =
       slices = c.section.new.self.slices;
       written = c.section.new.self.written;
       archived = c.section.new.self.archived;
-      marks = m;
+      marks = c.section.new.searches.marks;
+      hunts = c.section.new.searches.hunts.items;
       missed = c.self.inside.missed;
       journal = c.self.inside.journal.items;
       state = c.section.new.self.state;
     } in
-    let more = c.in_default-section.ensures.more refl in (
-      more.cut,
+    let sliced = slice_of g.H.NodeHash.half g.Sh.B.Backend.tells c.args.actor c.index-line.result.now.command c.args.part
+    c.self.inside.bench c.self.inside.searches c.section.new.self c.section.new.searches c.section.ensures.shares.others
+    (c.in_default-section.ensures.more refl) in (
+      sliced.cut,
       rw (← c.self.view_is) (record {
         line = c.index-line.result.now;
         next = kept_next _ _ _ _ _ _ _ _ _ _ _ _ k c.args.actor _
             (omega (arith, k.cursor_count, c.len.ensures, c.if-actor-len.false)) next c.index-line.result.now c.index-line.ensures;
-        swap = more.swap;
-        counted = more.counted;
-        few = omega (arith, more.few, more.counted);
+        slice = sliced.slice before behind refl refl refl refl refl refl refl;
         later = c.section.ensures.grows.later;
         state = λ told. c.in_default-section.ensures.same told refl;
         still = c.in_default-section.ensures.still refl;
-        rest = ap seen (ap (λ (y : Searches). y.marks) (c.in_default-section.ensures.unsearched refl));
+        rest = refl;
       }),
     )
 
@@ -245,7 +262,7 @@ invariant_of-self-2 g c =
     ]) in
     let step = c.in-Some-section.ensures.step in
     let items = pushed c.push.result _ _ _ _ c.push.ensures.items c.unwrap.ensures in
-    let shares = c.in-Some-section.ensures.shares in (
+    let shares = c.section.ensures.shares in (
       rw (pushed c.push.result _ _ _ _ c.push.ensures.items c.unwrap.ensures)
           (kept_step _ _ _ _ _ _ _ _ _ _ _ _ k c.args.actor _ (omega (arith, k.cursor_count, c.len.ensures, c.if-actor-len.false)) next
           c.index-line.result.now c.index-line.ensures _ _ _ _ refl refl free step
@@ -254,8 +271,8 @@ invariant_of-self-2 g c =
           c.push.ensures.capacity c.section.ensures.grows.later
           c.in-Some-section.ensures.fault),
       keeps_on g.H.NodeHash.half g.Sh.B.Backend.tells c.self.inside.bench.state c.section.new.self.state c.args.actor
-          c.index-line.result.now.command _ c.section.new.searches c.turn_behind.new.searches c.in-Some-section.reply
-          c.self.inside.journal.items _ c.self.inside.searches c.turn_behind.ensures step shares.kept shares.generation
+          c.index-line.result.now.command _ c.section.new.searches c.end_search.new.searches c.in-Some-section.reply
+          c.self.inside.journal.items _ c.self.inside.searches c.end_search.ensures step shares.kept shares.generation
           c.self.invariant.1.young (omega (arith, ap length items, simp length-append at (ap length items))),
     )
 
@@ -289,10 +306,13 @@ returns-clause-answered g c _ =
       step = λ t. answers g.H.NodeHash.half c.self.inside.script.lines.items c.self.inside.bench.state c.section.new.self.state
           c.index-line.result.now _ _ _ next c.index-line.ensures refl refl
           (c.in-Some-section.ensures.step t);
-      search = λ t. search_on g.H.NodeHash.half g.Sh.B.Backend.tells c.self.inside.bench.state c.section.new.self.state c.args.actor
-          c.index-line.result.now.command [] c.section.new.searches c.turn_behind.new.searches c.in-Some-section.reply
-          c.self.inside.searches.marks c.self.inside.bench.gets c.section.new.self.gets c.turn_behind.ensures
-          (c.in-Some-section.ensures.shares.search t);
+      search = λ t. search_on g.H.NodeHash.half c.self.inside.bench.state c.args.actor c.section.new.searches c.end_search.new.searches
+          c.index-line.result.now.command c.in-Some-section.reply c.section.new.self.state _
+          (hunt_of c.self.inside.searches.hunts.items c.args.actor) c.self.inside.searches.marks c.self.inside.bench.gets
+          c.section.new.self.gets (c.in-Some-section.ensures.step t) c.end_search.ensures (c.in-Some-section.ensures.search t);
+      hunts = hunts_on g.H.NodeHash.half g.Sh.B.Backend.tells c.self.inside.bench.state c.section.new.self.state c.args.actor
+          c.index-line.result.now.command [] c.section.new.searches c.end_search.new.searches c.in-Some-section.reply c.self.inside.searches
+          c.end_search.ensures c.section.ensures.shares.others;
     })
 
 pub returns-in_default-clause-few : goal.returns-in_default-clause-few
@@ -383,15 +403,56 @@ returns-then-actor-len-clause-copies g c told part = core_same c.args.actor c.ar
 pub section-requires-clause-searches : goal.section-requires-clause-searches
 section-requires-clause-searches g c _ _ = c.self.invariant.1.kept
 
-pub turn_behind-requires-clause-paired : goal.turn_behind-requires-clause-paired
-turn_behind-requires-clause-paired g c = c.in-Some-section.ensures.shares.kept.paired
+pub end_search-requires-clause-paired : goal.end_search-requires-clause-paired
+end_search-requires-clause-paired g c = c.section.ensures.shares.kept.paired
 
 -- no more generations have ended than there are entries
-pub turn_behind-requires-clause-room : goal.turn_behind-requires-clause-room
-turn_behind-requires-clause-room g c =
+pub end_search-requires-clause-room : goal.end_search-requires-clause-room
+end_search-requires-clause-room g c =
     let k = c.self.invariant.0 in
     let next = moved c.self.inside.cursors.items c.deref.ensures.value c.index-from.ensures
     c.self.inside.cursors.ok.0 c.len.ensures c.if-actor-len.false c.in-Some.ensures in
     let less = kept_less _ _ _ _ _ _ _ _ _ _ _ _ k c.args.actor _
     (omega (arith, k.cursor_count, c.len.ensures, c.if-actor-len.false)) next c.index-line.result.now c.index-line.ensures in
-    omega (arith, c.in-Some-section.ensures.shares.generation, c.self.invariant.1.young, less, k.servable.few)
+    omega (arith, c.section.ensures.shares.generation, c.self.invariant.1.young, less, k.servable.few)
+
+-- the actor is a known one
+pub section-requires-clause-known : goal.section-requires-clause-known
+section-requires-clause-known g c _ _ = omega (arith, c.self.invariant.0.cursor_count, c.len.ensures, c.if-actor-len.false)
+
+pub end_search-requires-clause-known : goal.end_search-requires-clause-known
+end_search-requires-clause-known g c = omega (arith, c.self.invariant.0.cursor_count, c.len.ensures, c.if-actor-len.false)
+
+-- ---- what a section asks the backends
+pub returns-in_default-section-clause-asks : goal.returns-in_default-section-clause-asks
+returns-in_default-section-clause-asks g c part =
+    let k = c.self.invariant.0 in
+    let next = moved c.self.inside.cursors.items c.deref.ensures.value c.index-from.ensures
+    c.self.inside.cursors.ok.0 c.len.ensures c.if-actor-len.false c.in-Some.ensures in
+    let is = kept_next _ _ _ _ _ _ _ _ _ _ _ _ k c.args.actor _
+    (omega (arith, k.cursor_count, c.len.ensures, c.if-actor-len.false)) next c.index-line.result.now c.index-line.ensures in
+    rw (← c.self.view_is)
+    (asked_few c.self.inside.script.lines.items c.self.inside.journal.items c.args.actor
+    (hunt_of c.self.inside.searches.hunts.items c.args.actor) c.self.inside.searches.marks.generation c.self.inside.bench.gets
+    c.section.new.self.gets c.index-line.result.now is (c.section.ensures.shares.few part))
+
+pub returns-clause-asks : goal.returns-clause-asks
+returns-clause-asks g c part =
+    let k = c.self.invariant.0 in
+    let next = moved c.self.inside.cursors.items c.deref.ensures.value c.index-from.ensures
+    c.self.inside.cursors.ok.0 c.len.ensures c.if-actor-len.false c.in-Some.ensures in
+    let is = kept_next _ _ _ _ _ _ _ _ _ _ _ _ k c.args.actor _
+    (omega (arith, k.cursor_count, c.len.ensures, c.if-actor-len.false)) next c.index-line.result.now c.index-line.ensures in
+    rw (← c.self.view_is)
+    (asked_few c.self.inside.script.lines.items c.self.inside.journal.items c.args.actor
+    (hunt_of c.self.inside.searches.hunts.items c.args.actor) c.self.inside.searches.marks.generation c.self.inside.bench.gets
+    c.section.new.self.gets c.index-line.result.now is (c.section.ensures.shares.few part))
+
+pub returns-in_default-clause-asks : goal.returns-in_default-clause-asks
+returns-in_default-clause-asks g c part = asked_none c.args.actor _ _ c.self.view_is
+
+pub returns-then-not-is_answered-clause-asks : goal.returns-then-not-is_answered-clause-asks
+returns-then-not-is_answered-clause-asks g c part = asked_none c.args.actor _ _ c.self.view_is
+
+pub returns-then-actor-len-clause-asks : goal.returns-then-actor-len-clause-asks
+returns-then-actor-len-clause-asks g c part = asked_none c.args.actor c.args.self.now c.args.self.now refl

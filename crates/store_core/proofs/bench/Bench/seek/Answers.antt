@@ -1,0 +1,19 @@
+-- what only reads the store leaves what drafts are kept by
+use Rattle.std.proofs.Common.{sym, subst}
+use Rattle.store_core.specs.Desks.{Desk, IsFiled}
+use Rattle.store_core.proofs.Benches.{keeps_read, reads_beside}
+use Rattle.store_core.proofs.bench.Bench.seek.Goals as goal
+
+pub seek-requires-clause-filed : goal.seek-requires-clause-filed
+seek-requires-clause-filed g c κs within =
+    subst (λ (d : Desk). IsFiled g.H.NodeHash.half g.Sh.B.Backend.tells d.state) (sym c.self.view_is) c.requires.filed
+
+pub invariant_of-self : goal.invariant_of-self
+invariant_of-self g c =
+    keeps_read g.H.NodeHash.half g.Sh.B.Backend.tells c.self.inside.machine c.seek.new.self c.self.inside.sessions
+    c.seek.ensures.reads c.self.invariant
+
+pub returns-clause-reads : goal.returns-clause-reads
+returns-clause-reads g c =
+    rw (← c.self.view_is)
+    (reads_beside g.H.NodeHash.half g.Sh.B.Backend.tells c.self.inside.sessions _ c.seek.new.self c.seek.ensures.reads)
