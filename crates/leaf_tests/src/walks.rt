@@ -42,7 +42,7 @@ fn store_all(alloc: Global, store: &mut RotStore<MemShelf>) -> Result<Hash32, Fa
 }
 
 /// An empty store.
-pub(crate) fn empty(alloc: Global) -> Result<RotStore<MemShelf>, Fail> {
+fn empty(alloc: Global) -> Result<RotStore<MemShelf>, Fail> {
     let shelf = MemShelf::new(alloc, Vec::new(alloc), Vec::new(alloc));
     match RotStore::open(alloc, shelf) {
         Ok(store) => Ok(store),
