@@ -1,5 +1,5 @@
 //! An audit under way: the header, and a pass over each map.
-ghost use Rattle.std.specs.Prelude.{◌≡◌, ◌≢◌, Ok, Err, Some, None, IfOk, IfErr, OnOk, IfSome, MatchOption};
+ghost use Rattle.std.specs.Prelude.{◌≡◌, ◌≢◌, Ok, Err, Some, None, IfOk, IfErr, OnOk, OnErr, IfSome, MatchOption};
 ghost use Rattle.ledger_spec.specs.Bytes.{Bytes, Hash, Half, Items};
 ghost use Rattle.audit_core.specs.declared.cause.Cause.{Cause as AnyCause};
 ghost use Rattle.audit_core.specs.declared.cause.LineFault.TheVariants as faults;
@@ -64,6 +64,7 @@ impl Audit {
         ensures ok { OnOk result ((s : Said) → Keeps H.half self.old s
             → (after : Said) × (with_state s (Ok (key.now, bytes.now)) ≡ Ok after) × Keeps H.half self.new after) }
         ensures cause { IfErr result (λ cause. (s : Said) → Keeps H.half self.old s → with_state s (Ok (key.now, bytes.now)) ≡ Err cause) }
+        ensures err { OnErr result (self.new ≡ self.old) }
     {
         if self.given {
             return Err(Cause::Late);
@@ -79,6 +80,7 @@ impl Audit {
         ensures ok { OnOk result ((s : Said) → Keeps H.half self.old s
             → (after : Said) × (with_tx s (Ok (key.now, bytes.now)) ≡ Ok after) × Keeps H.half self.new after) }
         ensures cause { IfErr result (λ cause. (s : Said) → Keeps H.half self.old s → with_tx s (Ok (key.now, bytes.now)) ≡ Err cause) }
+        ensures err { OnErr result (self.new ≡ self.old) }
     {
         match self.txs.add::<H>(key, bytes) {
             Ok(()) => {
@@ -144,6 +146,7 @@ impl Audit {
 /// A cause as a fault.
 pub fn fault_of(taken: Result<(), Cause>) -> Result<(), LineFault>
     ensures ok { OnOk result (taken ≡ Ok tt) }
+    ensures told { IfErr result (λ fault. (cause : AnyCause) × (fault ≡ faults.Cause cause)) }
     ensures cause { IfErr result (λ fault. (cause : AnyCause) → fault ≡ faults.Cause cause → taken ≡ Err cause) }
 {
     match taken {

@@ -1,5 +1,5 @@
 //! A pass over the items of one map, which counts them.
-ghost use Rattle.std.specs.Prelude.{◌≡◌, ◌++◌, ◌∷◌, [], true, false, length, IfOk, IfErr, OnOk};
+ghost use Rattle.std.specs.Prelude.{◌≡◌, ◌++◌, ◌∷◌, [], true, false, length, IfOk, IfErr, OnOk, OnErr};
 ghost use Rattle.ledger_spec.specs.Bytes.{Bytes, Hash, Half, Items};
 ghost use Rattle.ledger_spec.specs.declared.Kind.{Kind as AnyKind};
 ghost use Rattle.ledger_spec.specs.Tree.{root_of};
@@ -36,6 +36,7 @@ impl Counting {
             → (is_behind items key.now ≡ true) × Counts H.half kind self.new (items ++ (key.now, bytes.now) ∷ [])) }
         ensures cause { IfErr result (λ cause. (kind : AnyKind) (items : Items) → Counts H.half kind self.old items
             → (is_behind items key.now ≡ false) × (cause ≡ causes.NotBehind (last_key items) key.now)) }
+        ensures err { OnErr result (self.new ≡ self.old) }
     {
         match self.pass.add::<H>(key, bytes) {
             Ok(()) => {
