@@ -76,6 +76,7 @@ fn is_shared(new: Option<usize>, old: Option<usize>) -> bool
 
 /// Lists the nodes of a map, at a place and below it, whose place holds another node or none in
 /// another map, in pre-order. What both share isn't looked at.
+#[cycle(walk)]
 pub(crate) fn walk<H: NodeHash, T: Shared<H>>(
     alloc: Global,
     tree: &T,
@@ -97,16 +98,33 @@ pub(crate) fn walk<H: NodeHash, T: Shared<H>>(
     place.known();
     list_itself(alloc, tree, node, old, place, out)?;
     for b in 0..16 {
-        if let Some(below) = place.child(b) {
-            walk(
-                alloc,
-                tree,
-                tree.child(node, b),
-                old_child(tree, old, b),
-                below,
-                out,
-            )?;
-        }
+        walk_branch(alloc, tree, node, old, place, b, out)?;
     }
     Ok(())
+}
+
+// The same for the places below a branch of a node. Where the map has no node there, nothing more is looked at.
+#[cycle(walk)]
+fn walk_branch<H: NodeHash, T: Shared<H>>(
+    alloc: Global,
+    tree: &T,
+    node: usize,
+    old: Option<usize>,
+    place: NodeId,
+    b: u8,
+    out: &mut Vec<PlacedNode>,
+) -> Result<(), Memory>
+    requires { b < 16 }
+    ensures { OnOk result (out.new.items ≡ out.old.items ++ map (given H.half) (changed
+        (shared_nodes (T.held tree.now) (T.kid tree.now) (old_kid (T.kid tree.now) old b) (place ++ b ∷ []))
+        (shared_nodes (T.held tree.now) (T.kid tree.now) (T.kid tree.now node b) (place ++ b ∷ [])))) }
+{
+    let Some(new) = tree.child(node, b) else {
+        return Ok(());
+    };
+    let Some(below) = place.child(b) else {
+        return Ok(());
+    };
+    let before = old_child(tree, old, b);
+    walk(alloc, tree, Some(new), before, below, out)
 }
