@@ -11,7 +11,7 @@ ghost use Rattle.missing_walk.specs.Searching.{IsNew as IsNewSearch};
 ghost use Rattle.missing_walk.specs.Sees.{Finds};
 ghost use Rattle.missing_walk.specs.Views.{Tells};
 ghost use Rattle.ledger_searches.specs.Hunting.{GoesOn, IsRunWhole, IsTakenUp, IsUnbegun, hunt_of, most_actors, most_asked};
-ghost use Rattle.ledger_searches.specs.Sharing.{IsPaired, AreTrueOf, IsEmpty, IsTurned, LeavesOthers, Forgets};
+ghost use Rattle.ledger_searches.specs.Sharing.{IsPaired, AreTrueOf, IsEmpty, IsTurned, LeavesOthers, Forgets, most_cached};
 
 use crate::hunt::Hunt;
 use crate::hunting::MOST_STALES;
@@ -50,6 +50,7 @@ impl Searches {
         ensures paired { IfOk result IsPaired }
         ensures empty { IfOk result IsEmpty }
         ensures generation { IfOk result (λ x. x.marks.generation ≡ 0) }
+        ensures room { IfOk result (λ x. x.cache.entries.cap ≡ most_cached) }
     {
         let cache = TreeCache::new(alloc, MOST_CACHED)?;
         let marks = Marks::new(alloc, MOST_MARKS)?;
