@@ -1,6 +1,6 @@
 //! A walk of two maps at once that share nodes: a branch at which both have one node is passed over whole.
 ghost use Rattle.std.specs.Prelude.{◌≡◌, ◌<◌, ◌≤◌, ◌++◌, ◌∷◌, [], ℕ, List, Option, None, Some, map, length};
-ghost use Rattle.std.specs.Prelude.{if◌then◌else◌, IfOk, OnOk, IsTrue};
+ghost use Rattle.std.specs.Prelude.{if◌then◌else◌, ◌≢◌, IfOk, OnOk, MatchBool};
 ghost use Rattle.std.specs.List.{flat_map};
 ghost use Rattle.ledger_spec.specs.Bytes.{branches, same_bytes};
 ghost use Rattle.ledger_spec.specs.Forms.{Held, form_of};
@@ -69,7 +69,7 @@ fn list_itself<H: NodeHash, T: Shared<H>>(
 
 /// Whether both maps have one node here, or none.
 fn is_shared(new: Option<usize>, old: Option<usize>) -> bool
-    ensures { IsTrue result → new ≡ old }
+    ensures { MatchBool result (new ≡ old) (new ≢ old) }
 {
     new == old
 }

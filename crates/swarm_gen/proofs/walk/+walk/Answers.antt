@@ -1,6 +1,6 @@
 use Rattle.std.proofs.Common.{◌≡◌, ◌<◌, ◌++◌, ◌∷◌, [], ℕ, List, Option, map, length, sym, ap, ◌∙◌, arith}
 use Rattle.std.proofs.Common.{append-nil, rules, length-append, Vec, Global}
-use Rattle.std.specs.Prelude.{IsTrue, true, IsNone}
+use Rattle.std.specs.Prelude.{IsNone}
 use Rattle.std.specs.List.{flat_map, range_with_len}
 use Rattle.swarm_gen.specs.declared.tracked.PlacedNode.{PlacedNode}
 use Rattle.swarm_gen.specs.Placed.{Placed, changed}
@@ -13,8 +13,7 @@ use Rattle.swarm_gen.proofs.walk.+walk.Goals.{in-Some-child+in_ok-walk, in_defau
 -- both maps have the same node here, so the same nodes below it, and none has changed
 pub returns-then-is_shared : goal.returns-then-is_shared
 returns-then-is_shared g t c =
-    let yes : IsTrue true = search rules in
-    let same = c.if-is_shared.ensures yes in
+    let same = c.if-is_shared.ensures in
     let nodes = shared_nodes (g.T.Shared.held c.args.tree.now) (g.T.Shared.kid c.args.tree.now) in
     let none : changed (nodes c.args.old c.args.place) (nodes c.args.new c.args.place) ≡ [] =
     ap (λ (o : Option ℕ). changed (nodes c.args.old c.args.place) (nodes o c.args.place)) (c.in-Some.is ∙ same)
