@@ -7,6 +7,8 @@ pub mod Backends
 pub mod MemDisks
 pub mod Manifests
 pub mod Recovery
+pub mod Pending
 pub mod Rooms
 pub mod Parsing
 pub mod Stopped
+pub mod Rest

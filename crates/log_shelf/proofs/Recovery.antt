@@ -18,7 +18,7 @@ use Rattle.node_backend.specs.Doubts.{Pair}
 use Rattle.log_shelf.specs.Entries.{entries_of}
 use Rattle.log_shelf.specs.Backends.{nodes_after, nodes_of, with_pair, HoldsOrDoubts}
 use Rattle.log_shelf.specs.Rooms.{Files, file_in}
-use Rattle.log_shelf.specs.Recovery.{entries_at, Rises, recovered_after, IsRecovered, IsStopped, IsKept}
+use Rattle.log_shelf.specs.Recovery.{entries_at, live_in, Rises, recovered_after, IsRecovered, IsStopped, IsKept}
 
 -- the first where there is one, else the second
 either : Option Bytes → Option Bytes → Option Bytes
@@ -247,30 +247,30 @@ image_says held doubt file h v (inl same) old allows = sym (ap (λ (m : Nodes). 
 image_says held doubt file h v (inr more) old allows = sym (ap (λ (m : Nodes). map.get m h) (sym more)
     ∙ last-of-nodes (entries_of file) h) ∙ doubt_says held doubt h v old allows
 
-at_file : (files : Files) (k : ℕ) (found : Option (List ℕ)) → file_in files k ≡ found
+pub at_file : (files : Files) (k : ℕ) (found : Option (List ℕ)) → file_in files k ≡ found
     → entries_at files k ≡ option_map_or entries_of found []
 at_file files k found e = ap (λ (o : Option (List ℕ)). option_map_or entries_of o []) e
 
-nothing_said : (files : Files) (h : Hash) (v : Bytes) (k : ℕ) → file_in files k ≡ None → Agrees files h v k
+nothing_said : (files : Files) (h : Hash) (v : Bytes) (k : ℕ) → entries_at files k ≡ [] → Agrees files h v k
 unfolding last_of
-nothing_said files h v k none = inl (ap (λ (es : List (List ℕ)). last_of es h) (at_file files k None none))
+nothing_said files h v k none = inl (ap (λ (es : List (List ℕ)). last_of es h) none)
 
 -- every log from that of the pair on agrees with it
 later_agrees : (live undone : List ℕ) (held : ℕ → Nodes) (doubt : ℕ → Option Pair) (files : Files) (n k : ℕ) (h : Hash) (v : Bytes)
     → IsStopped live undone held doubt files → IsKept live undone held doubt → IsTrue (is_among live n) → map.get (held n) h ≡ Some v
-    → n ≤ k
+    → n ≤ k → IsTrue (is_among (live_in files) k)
     → (is_among live k ≡ true) ⊎ (is_among live k ≡ false) → (is_among undone k ≡ true) ⊎ (is_among undone k ≡ false) → Agrees files h v k
-later_agrees live undone held doubt files n k h v stopped kept is_live has le (inl on) u =
+later_agrees live undone held doubt files n k h v stopped kept is_live has le named (inl on) u =
     let log = stopped.logs k on in
     subst (λ (es : List (List ℕ)). (last_of es h ≡ None) ⊎ (last_of es h ≡ Some v)) (sym (at_file files k (Some log.0) log.1))
     (image_agrees (held k) (doubt k) log.0 h v log.2
     (held_agrees (map.get (held k) h) v (λ w is. kept.agree n k h v w is_live on has is))
     (λ pair is same. kept.allows k n pair v on is_live le is (subst (λ (x : Hash). map.get (held n) x ≡ Some v) same has)))
-later_agrees live undone held doubt files n k h v stopped kept is_live has le (inr off) (inl aside) =
+later_agrees live undone held doubt files n k h v stopped kept is_live has le named (inr off) (inl aside) =
     let below = kept.undone_below k n aside is_live in absurd (omega arith)
-later_agrees live undone held doubt files n k h v stopped kept is_live has le (inr off) (inr free) =
-    let low = kept.numbered n is_live in
-    nothing_said files h v k (stopped.others k (omega arith) off free)
+later_agrees live undone held doubt files n k h v stopped kept is_live has le named (inr off) (inr free) =
+    let low = stopped.numbered n is_live in
+    nothing_said files h v k (stopped.others k (omega arith) named off free)
 
 -- over any files that a stop left, each pair of a live backend that is a record is recovered
 pub pairs_recovered : (live undone : List ℕ) (held : ℕ → Nodes) (doubt : ℕ → Option Pair) (files : Files) (p : List ℕ
@@ -287,5 +287,5 @@ pairs_recovered live undone held doubt files p found stopped kept recovered n h 
     has)) in
     ap (λ (m : Nodes). map.get m h) recovered.nodes
     ∙ reaches p files h v n 0 recovered.numbers map.empty recovered.rises (recovered.live n ∙ stopped.manifest n is_live) says
-    (λ k le among. later_agrees live undone held doubt files n k h v stopped kept is_live has le (cases_Bool (is_among live k))
-    (cases_Bool (is_among undone k))) r
+    (λ k le among. later_agrees live undone held doubt files n k h v stopped kept is_live has le (sym (recovered.live k) ∙ among)
+    (cases_Bool (is_among live k)) (cases_Bool (is_among undone k))) r

@@ -36,6 +36,7 @@ module _ {R D : Type 0} {room : Rooms R D} {disk : Disks D} where
   stopped : (s : LogShelf R D room disk) (bs : List (LogBackend D disk)) (files : Files) → WasStopped s bs files
       → IsStopped (numbers_of bs) (numbers_of s.spent.items) (held_at bs) (doubt_at bs) files
   stopped s bs files was = record {
+    numbered = λ n among. s.listed.positive n (was.listed n among);
     manifest = λ n among. subst (λ (es : List (List ℕ)). IsTrue (is_among (live_of es) n))
         (sym (ap (λ (o : Option (List ℕ)). option_map_or entries_of o []) was.manifest.1))
         (log-live s.live.items (numbers_of s.spent.items) s.made s.manifest s.listed was.manifest.0 was.manifest.2 n (was.listed n among));

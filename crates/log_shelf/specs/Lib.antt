@@ -10,3 +10,4 @@ pub mod Manifests
 pub mod Rooms
 pub mod Shelves
 pub mod Recovery
+pub mod Images

@@ -37,19 +37,21 @@ pub record IsRecovered (is_record : List ℕ → Bool) (files : Files) (found : 
   pub live : (n : ℕ) → is_among numbers n ≡ is_among (live_in files) n
   pub nodes : found ≡ recovered_after is_record map.empty files numbers
 
--- What a stop leaves of a shelf: `live` and `undone` are its two lists, and each live backend has what it holds and its pair in doubt. The
--- manifest names each live log; each of these has a file that reads as told; of all other logs only undone ones have a file.
+-- What a stop leaves of a shelf: `live` and `undone` are its two lists, and each live backend has what it holds and its pair in doubt. No
+-- log has the manifest's number. The manifest names each live log; each of these has a file that reads as told; a log that the manifest
+-- names and that stands in neither list has no entry.
 pub record IsStopped (live undone : List ℕ) (held : ℕ → Nodes) (doubt : ℕ → Option Pair) (files : Files) : Type 0 where
+  pub numbered : (n : ℕ) → IsTrue (is_among live n) → 0 < n
   pub manifest : (n : ℕ) → IsTrue (is_among live n) → IsTrue (is_among (live_in files) n)
   pub logs : (n : ℕ) → IsTrue (is_among live n) → (file : List ℕ) × (file_in files n ≡ Some file) × HoldsOrDoubts file (held n) (doubt n)
-  pub others : (n : ℕ) → 0 < n → is_among live n ≡ false → is_among undone n ≡ false → file_in files n ≡ None
+  pub others : (n : ℕ) → 0 < n → IsTrue (is_among (live_in files) n) → is_among live n ≡ false → is_among undone n ≡ false
+      → entries_at files n ≡ []
 
 -- What a store keeps of its backends: one value for each hash that two share, no pair in doubt that would change what one of a lesser or
--- the same number holds, and each log whose discard failed below the live ones. No log has the manifest's number.
+-- the same number holds, and each log whose discard failed below the live ones.
 pub record IsKept (live undone : List ℕ) (held : ℕ → Nodes) (doubt : ℕ → Option Pair) : Type 0 where
   pub agree : (n m : ℕ) (h : Hash) (v w : Bytes) → IsTrue (is_among live n) → IsTrue (is_among live m) → map.get (held n) h ≡ Some v
       → map.get (held m) h ≡ Some w → v ≡ w
   pub allows : (n m : ℕ) (pair : Pair) (v : Bytes) → IsTrue (is_among live n) → IsTrue (is_among live m) → m ≤ n
       → doubt n ≡ Some pair → map.get (held m) pair.0 ≡ Some v → v ≡ pair.1
   pub undone_below : (k n : ℕ) → IsTrue (is_among undone k) → IsTrue (is_among live n) → k < n
-  pub numbered : (n : ℕ) → IsTrue (is_among live n) → 0 < n

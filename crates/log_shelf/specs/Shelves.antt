@@ -6,7 +6,7 @@ use Rattle.node_backend.specs.Numbers.{is_among}
 use Rattle.node_backend.specs.Doubts.{Pair}
 use Rattle.log_shelf.specs.Manifests.{AreLive}
 use Rattle.log_shelf.specs.Rooms.{Files, file_in}
-use Rattle.log_shelf.specs.Recovery.{IsKept, IsRecovered}
+use Rattle.log_shelf.specs.Recovery.{entries_at, live_in, IsKept, IsRecovered}
 use Rattle.log_shelf.specs.Stops.{held_of, doubt_of, may_leave_of}
 use Rattle.log_shelf.specs.declared.disk.Disk.{Ghosts as Disks}
 use Rattle.log_shelf.specs.declared.room.Room.{Ghosts as Rooms}
@@ -37,13 +37,15 @@ module _ {R D : Type 0} {room : Rooms R D} {disk : Disks D} where
   abbrev pub StandsLive : LogShelf R D room disk → Type 0
   StandsLive s = (file : List ℕ) → disk.may_leave s.manifest.disk file → AreLive s.live.items file
 
-  -- what a stop left of a shelf and of backends that are in its first list: of other logs only those whose discard failed have a file
+  -- what a stop left of a shelf and of backends that are in its first list: a log that the manifest names and that is neither one of
+  -- these nor one whose discard failed has no entry
   pub record WasStopped (s : LogShelf R D room disk) (bs : List (LogBackend D disk)) (files : Files) : Type 0 where
     pub manifest : (file : List ℕ) × (file_in files 0 ≡ Some file) × disk.may_leave s.manifest.disk file
     pub listed : (n : ℕ) → IsTrue (is_among (numbers_of bs) n) → IsTrue (is_among s.live.items n)
     pub logs : AreLeft files bs
-    pub others : (n : ℕ) → 0 < n → is_among (numbers_of bs) n ≡ false → is_among (numbers_of s.spent.items) n ≡ false
-        → file_in files n ≡ None
+    pub others : (n : ℕ) → 0 < n → IsTrue (is_among (live_in files) n) → is_among (numbers_of bs) n ≡ false
+        → is_among (numbers_of s.spent.items) n ≡ false
+        → entries_at files n ≡ []
 
   -- over any files that a stop left, each pair of these backends that is a record is recovered
   abbrev pub LosesNoPair : LogShelf R D room disk → Type 0

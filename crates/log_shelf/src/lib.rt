@@ -3,6 +3,7 @@
 
 mod backend;
 mod disk;
+mod images;
 mod index;
 mod laws;
 mod log;
@@ -16,6 +17,7 @@ mod span;
 
 pub use backend::LogBackend;
 pub use disk::Disk;
+pub use images::images_of;
 pub use index::Place64;
 pub use laws::{a_stop_loses_no_pair, the_live_pairs_are_recovered};
 pub use mem_room::MemRoom;

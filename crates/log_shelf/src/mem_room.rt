@@ -17,9 +17,9 @@ use std::sync::atomic::AtomicU64;
 /// A room in memory. It tells the bytes that its disks had when it was made.
 #[derive(Drop)]
 pub struct MemRoom {
-    images: BTreeMap<u64, Blob>,
+    pub(crate) images: BTreeMap<u64, Blob>,
     spent: Arc<AtomicU64, Global>,
-    stop: Option<u64>,
+    pub(crate) stop: Option<u64>,
     faults: u64,
 }
 

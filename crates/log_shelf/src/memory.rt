@@ -22,14 +22,14 @@ const MOST: u64 = 1 << 63;
 pub struct MemDisk {
     pub(crate) number: u64,
     /// What reads give.
-    pub(crate) now: Vec<u8>,
+    pub(crate) shown: Vec<u8>,
     pub(crate) synced: Vec<u8>,
     pub(crate) pending: Vec<Span>,
     spent: Arc<AtomicU64, Global>,
     stop: Option<u64>,
     faults: u64,
-    ghost room: { length now.items ≤ vec_capacity synced },
-    ghost same: { now.items ≡ applied pending.items synced.items },
+    ghost room: { length shown.items ≤ vec_capacity synced },
+    ghost same: { shown.items ≡ applied pending.items synced.items },
 }
 
 /// Whether the disks of a room have stopped, where this is a call that changes one, or where it is not.
@@ -56,7 +56,7 @@ fn is_far(at: u64, len: u64) -> bool
 }
 
 /// Makes room for so many bytes.
-fn reserve_to(file: &mut Vec<u8>, len: usize) -> Result<(), AllocError>
+pub(crate) fn reserve_to(file: &mut Vec<u8>, len: usize) -> Result<(), AllocError>
     ensures items { file.new.items ≡ file.old.items }
     ensures ok { OnOk result (len ≤ vec_capacity file.new) }
     ensures capacity { vec_capacity file.old ≤ vec_capacity file.new }
@@ -92,7 +92,7 @@ fn put_over(file: &mut Vec<u8>, at: usize, bytes: &[u8])
 }
 
 /// Writes bytes at a place. There is room for them.
-fn write_into(file: &mut Vec<u8>, at: usize, bytes: &[u8])
+pub(crate) fn write_into(file: &mut Vec<u8>, at: usize, bytes: &[u8])
     requires room { at + length bytes.now ≤ vec_capacity file.old }
     ensures written { file.new.items ≡ overwritten file.old.items at bytes.now }
     ensures capacity { vec_capacity file.old ≤ vec_capacity file.new }
@@ -120,13 +120,13 @@ impl MemDisk {
         stop: Option<u64>,
     ) -> MemDisk
         ensures number { result.number ≡ number }
-        ensures empty { (result.now.items ≡ []) × (result.synced.items ≡ []) × (result.pending.items ≡ []) }
+        ensures empty { (result.shown.items ≡ []) × (result.synced.items ≡ []) × (result.pending.items ≡ []) }
         ensures faults { result.faults ≡ 0 }
         ensures stop { result.stop ≡ stop }
     {
         MemDisk {
             number,
-            now: Vec::new(alloc),
+            shown: Vec::new(alloc),
             synced: Vec::new(alloc),
             pending: Vec::new(alloc),
             spent,
@@ -144,15 +144,15 @@ impl MemDisk {
         stop: Option<u64>,
     ) -> Result<MemDisk, AllocError>
         ensures number { IfOk result (λ d. d.number ≡ number) }
-        ensures bytes { IfOk result (λ d. (d.now.items ≡ bytes.now) × (d.synced.items ≡ bytes.now) × (d.pending.items ≡ [])) }
+        ensures bytes { IfOk result (λ d. (d.shown.items ≡ bytes.now) × (d.synced.items ≡ bytes.now) × (d.pending.items ≡ [])) }
         ensures faults { IfOk result (λ d. d.faults ≡ 0) }
         ensures stop { IfOk result (λ d. d.stop ≡ stop) }
     {
-        let now = Vec::from_slice(alloc, bytes)?;
+        let shown = Vec::from_slice(alloc, bytes)?;
         let synced = Vec::from_slice(alloc, bytes)?;
         Ok(MemDisk {
             number,
-            now,
+            shown,
             synced,
             pending: Vec::new(alloc),
             spent,
@@ -164,10 +164,10 @@ impl MemDisk {
     /// Keeps a write that was not synced yet. Where memory is refused nothing changes.
     fn keep(&mut self, at: u64, bytes: &[u8]) -> Result<(), BackFault>
         requires near { at + length bytes.now ≤ 2 ^ 63 }
-        ensures written { OnOk result (self.new.now.items ≡ overwritten self.old.now.items at bytes.now) }
+        ensures written { OnOk result (self.new.shown.items ≡ overwritten self.old.shown.items at bytes.now) }
         ensures pending { OnOk result ((span : _) × (span.at ≡ at) × (span.bytes.items ≡ bytes.now)
             × (self.new.pending.items ≡ self.old.pending.items ++ span ∷ [])) }
-        ensures unwritten { OnErr result ((self.new.now.items ≡ self.old.now.items) × (self.new.pending.items ≡ self.old.pending.items)) }
+        ensures unwritten { OnErr result ((self.new.shown.items ≡ self.old.shown.items) × (self.new.pending.items ≡ self.old.pending.items)) }
         ensures synced { self.new.synced.items ≡ self.old.synced.items }
         ensures rest { (self.new.faults ≡ self.old.faults) × (self.new.stop ≡ self.old.stop) × (self.new.number ≡ self.old.number) }
         ensures cause { result ≢ Err BackFault.Fault }
@@ -175,10 +175,10 @@ impl MemDisk {
         let alloc = *self.pending.allocator();
         let copy = Vec::from_slice(alloc, bytes)?;
         let end = at as usize + bytes.len();
-        reserve_to(&mut self.now, end)?;
-        reserve_to(&mut self.synced, end.max(self.now.len()))?;
+        reserve_to(&mut self.shown, end)?;
+        reserve_to(&mut self.synced, end.max(self.shown.len()))?;
         self.pending.push(Span { at, bytes: copy })?;
-        write_into(&mut self.now, at as usize, bytes);
+        write_into(&mut self.shown, at as usize, bytes);
         Ok(())
     }
 }
@@ -186,7 +186,7 @@ impl MemDisk {
 impl Disk for MemDisk {
     ghost use Rattle.log_shelf.specs.Outcomes.{seen_may_stay};
 
-    ghost seen = { λ m. m.now.items };
+    ghost seen = { λ m. m.shown.items };
 
     ghost may_leave = { λ m. IsOutcome m.pending.items m.synced.items };
 
@@ -194,14 +194,14 @@ impl Disk for MemDisk {
 
     ghost is_calm = { λ m. is_none m.stop };
 
-    ghost seen_stays = { λ m. seen_may_stay m.pending.items m.synced.items m.now.items m.same };
+    ghost seen_stays = { λ m. seen_may_stay m.pending.items m.synced.items m.shown.items m.same };
 
     fn len(&mut self) -> Result<u64, Fault> {
         if has_stopped(&self.spent, self.stop, false) {
             self.faults = self.faults.saturating_add(1);
             return Err(Fault);
         }
-        Ok(self.now.len() as u64)
+        Ok(self.shown.len() as u64)
     }
 
     fn read(&mut self, at: u64, buf: &mut [u8]) -> Result<(), Fault> {
@@ -210,7 +210,7 @@ impl Disk for MemDisk {
             return Err(Fault);
         }
         let from = at as usize;
-        buf.copy_from_slice(&self.now[from..from + buf.len()]);
+        buf.copy_from_slice(&self.shown[from..from + buf.len()]);
         Ok(())
     }
 
@@ -227,7 +227,7 @@ impl Disk for MemDisk {
             self.faults = self.faults.saturating_add(1);
             return Err(Fault);
         }
-        copy_over(&mut self.synced, &self.now);
+        copy_over(&mut self.synced, &self.shown);
         self.pending.clear();
         Ok(())
     }
