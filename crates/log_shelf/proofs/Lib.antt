@@ -12,3 +12,4 @@ pub mod Rooms
 pub mod Parsing
 pub mod Stopped
 pub mod Rest
+pub mod Popping

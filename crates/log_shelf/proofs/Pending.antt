@@ -1,5 +1,5 @@
 -- The three images of a disk in memory are among what a stop may leave of it.
-use Rattle.std.proofs.Common.{◌≡◌, ◌∙◌, sym, ap, refl, subst, ℕ, ◌+◌, ◌-◌, ◌<◌, ◌≤◌, Bool, true, false, ◌&&◌, nat_le, IsTrue, List, [], ◌∷◌}
+use Rattle.std.proofs.Common.{◌≡◌, sym, refl, subst, ℕ, ◌+◌, ◌≤◌, Bool, true, false, ◌&&◌, nat_le, IsTrue, List, [], ◌∷◌}
 use Rattle.std.proofs.Common.{length, arith}
 use Rattle.std.specs.Prelude.{replicate, Vec, Result, Ok, Err, IfOk}
 use Rattle.std.specs.declared.alloc.Global.{Global}

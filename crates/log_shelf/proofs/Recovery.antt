@@ -63,7 +63,7 @@ is_equal Less e = absurd (cc)
 is_equal Equal e = refl
 is_equal Greater e = absurd (cc)
 
-same_key : (h k : Hash) → eq_by_cmp (slice_cmp nat_cmp) h k ≡ true → h ≡ k
+pub same_key : (h k : Hash) → eq_by_cmp (slice_cmp nat_cmp) h k ≡ true → h ≡ k
 same_key h k e = same_hash h k (is_equal (slice_cmp nat_cmp h k) e)
 
 none_split : (a t : Option Bytes) → either a t ≡ None → (a ≡ None) × (t ≡ None)

@@ -1,5 +1,5 @@
 -- The images of disks in memory: of what a stop may leave, three by which a test picks.
-use Rattle.std.specs.Prelude.{◌≡◌, ℕ, ◌==◌, ◌<◌, if◌then◌else◌, IsTrue, List, [], ◌∷◌, length, replicate}
+use Rattle.std.specs.Prelude.{ℕ, ◌==◌, ◌<◌, if◌then◌else◌, IsTrue, List, [], ◌∷◌, length, replicate}
 use Rattle.std.specs.FinMap as finite
 use Rattle.node_backend.specs.Numbers.{is_among}
 use Rattle.log_shelf.specs.Disks.{overwritten}
@@ -50,7 +50,8 @@ module _ {R : Type 0} {room : Rooms R MemDisk} {disk : Disks MemDisk} where
   images_of pick s bs =
       finite.insert (with_images pick (with_images pick finite.empty s.spent.items) bs) 0 (image_of pick s.manifest.disk)
 
+module _ {R D : Type 0} {room : Rooms R D} {disk : Disks D} where
   -- the backends are logs of the shelf's first list, their numbers rising
-  pub record AreOnShelf (s : LogShelf R MemDisk room disk) (bs : List (LogBackend MemDisk disk)) : Type 0 where
+  pub record AreOnShelf (s : LogShelf R D room disk) (bs : List (LogBackend D disk)) : Type 0 where
     pub listed : (n : ℕ) → IsTrue (is_among (numbers_of bs) n) → IsTrue (is_among s.live.items n)
     pub rise : Climbs (numbers_of bs)

@@ -1,6 +1,5 @@
 -- A disk in memory: what was synced, and the writes since then.
-use Rattle.std.specs.Prelude.{◌≡◌, ℕ, ◌+◌, nat_le, Bool, List, [], ◌∷◌, length}
-use Rattle.std.specs.List.{list_all}
+use Rattle.std.specs.Prelude.{◌≡◌, ℕ, List, [], ◌∷◌, length}
 use Rattle.log_shelf.specs.Disks.{Torn, overwritten}
 use Rattle.log_shelf.specs.declared.span.Span.{Span}
 

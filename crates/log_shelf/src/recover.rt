@@ -1,5 +1,5 @@
 //! What is recovered from the disks of a room, whatever a stop left of them.
-ghost use Rattle.std.specs.Prelude.{◌≡◌, ◌≢◌, ◌≤◌, ◌∷◌, [], ℕ, List, Bool, true, IsTrue, length, IfOk, OnOk, OnErr};
+ghost use Rattle.std.specs.Prelude.{◌≡◌, ◌≢◌, ◌≤◌, ◌∷◌, [], ℕ, List, Bool, true, IsTrue, length, IfOk, OnOk, OnErr, IfSome, IfNone};
 ghost use Rattle.std.specs.List.{filter};
 ghost use Rattle.std.specs.FinMap as map;
 ghost use Rattle.std.specs.Option.{option_copied};
@@ -65,6 +65,14 @@ impl Found {
         ensures { option_copied result ≡ map.get self.now key.now }
     {
         self.entries.get(key)
+    }
+
+    /// Takes out the least hash, with its form; None where none is left.
+    pub fn pop_first(&mut self) -> Option<(Hash32, Blob)>
+        ensures first { IfSome result (λ e. map.entries self.old ≡ e ∷ map.entries self.new) }
+        ensures none { IfNone result (map.entries self.old ≡ []) }
+    {
+        self.entries.pop_first()
     }
 
     fn set(&mut self, key: Hash32, value: Blob) -> Result<(), Memory>

@@ -1,5 +1,4 @@
-use Rattle.std.proofs.Common.{◌≡◌, sym, ap, ◌∙◌, subst, IsTrue, length, List, ℕ, arith}
-use Rattle.log_shelf.specs.MemDisks.{applied}
+use Rattle.std.proofs.Common.{sym, ap, ◌∙◌, subst, IsTrue, length, List, ℕ, arith}
 use Rattle.log_shelf.specs.Images.{filled}
 use Rattle.log_shelf.specs.declared.span.Span.{Span}
 use Rattle.log_shelf.proofs.Pending.{end_below, applied-fits}

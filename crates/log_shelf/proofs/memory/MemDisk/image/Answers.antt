@@ -1,5 +1,5 @@
-use Rattle.std.proofs.Common.{sym, ap, ◌∙◌, subst, List, ℕ}
-use Rattle.log_shelf.specs.MemDisks.{applied, IsOutcome}
+use Rattle.std.proofs.Common.{sym, ◌∙◌, subst, List, ℕ}
+use Rattle.log_shelf.specs.MemDisks.{IsOutcome}
 use Rattle.log_shelf.specs.Images.{filled}
 use Rattle.log_shelf.specs.Outcomes.{seen_may_stay}
 use Rattle.log_shelf.proofs.Pending.{image-left, outcome-synced, outcome-filled}
