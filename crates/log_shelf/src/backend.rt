@@ -21,7 +21,7 @@ use std::alloc::{AllocError, Global};
 /// What stands between a gate and the value of its entry: the length and the hash.
 const VALUE: u64 = 41;
 
-/// A backend on a disk. A pair counts once the last sync behind it answered; one whose gate is in doubt may stand on the
+/// A backend on the disk of its number. A pair counts once the last sync behind it answered; one whose gate is in doubt may stand on the
 /// disk or not.
 #[derive(Drop)]
 pub struct LogBackend<D: Disk> {
@@ -30,6 +30,7 @@ pub struct LogBackend<D: Disk> {
     index: Index,
     gets: u64,
     faults: u64,
+    ghost own: { D.number log.disk ≡ number },
     ghost indexed: { Shows index (take log.tail (D.seen log.disk)) (held_in log.tail (D.seen log.disk)) },
 }
 
@@ -74,6 +75,7 @@ fn store_pair<D: Disk>(
     ensures unset { OnErr result (held_in log.new.tail (D.seen log.new.disk) ≡ held_in log.old.tail (D.seen log.old.disk)) }
     ensures doubted { OnErr result (MayDoubt (pair_in_doubt log.old.tail log.old.doubt (D.seen log.old.disk)) (h.now, form.now)
         (pair_in_doubt log.new.tail log.new.doubt (D.seen log.new.disk))) }
+    ensures numbered { D.number log.new.disk ≡ D.number log.old.disk }
     ensures later { D.faults log.old.disk ≤ D.faults log.new.disk }
     ensures cause { result ≡ Err BackFault.Fault → Rose (D.faults log.old.disk) (D.faults log.new.disk) }
 {
@@ -100,6 +102,7 @@ impl<D: Disk> LogBackend<D> {
     pub(crate) fn over(alloc: Global, number: u64, log: Log<D>) -> LogBackend<D>
         requires told { told_entries log.tail (D.seen log.disk) ≡ [] }
         requires sure { log.doubt ≡ false }
+        requires own { D.number log.disk ≡ number }
         ensures empty { held_of result ≡ map.empty }
         ensures sure { doubt_of result ≡ None }
         ensures uncounted { (result.faults ≡ 0) × (result.gets ≡ 0) }

@@ -14,6 +14,9 @@ pub trait Disk: Drop {
     /// The byte strings that a stop at this moment may leave.
     ghost may_leave: { Self → List ℕ → Type 0 };
 
+    /// The number by which its room knows it.
+    ghost number: { Self → ℕ };
+
     /// How often the disk failed.
     ghost faults: { Self → ℕ };
 
@@ -25,6 +28,7 @@ pub trait Disk: Drop {
         ensures length { IfOk result (λ n. n ≡ length (seen self.old)) }
         ensures seen { seen self.new ≡ seen self.old }
         ensures stop { NoMore (may_leave self.old) (may_leave self.new) }
+        ensures numbered { number self.new ≡ number self.old }
         ensures later { faults self.old ≤ faults self.new }
         ensures calm { IsTrue (is_calm self.old) → IsTrue (is_calm self.new) × IsOk result }
         ensures cause { OnErr result (Rose (faults self.old) (faults self.new)) };
@@ -35,6 +39,7 @@ pub trait Disk: Drop {
         ensures read { OnOk result (buf.new ≡ take (length buf.old) (drop at (seen self.old))) }
         ensures seen { seen self.new ≡ seen self.old }
         ensures stop { NoMore (may_leave self.old) (may_leave self.new) }
+        ensures numbered { number self.new ≡ number self.old }
         ensures later { faults self.old ≤ faults self.new }
         ensures calm { IsTrue (is_calm self.old) → IsTrue (is_calm self.new) × IsOk result }
         ensures cause { OnErr result (Rose (faults self.old) (faults self.new)) };
@@ -48,6 +53,7 @@ pub trait Disk: Drop {
         ensures stop { Follows (Torn at (length bytes.now)) (may_leave self.old) (may_leave self.new) }
         ensures unchanged { result ≡ Err BackFault.Memory → NoMore (may_leave self.old) (may_leave self.new) }
         ensures far { 2 ^ 63 < at + length bytes.now → result ≡ Err BackFault.Fault }
+        ensures numbered { number self.new ≡ number self.old }
         ensures later { faults self.old ≤ faults self.new }
         ensures calm { IsTrue (is_calm self.old) → IsTrue (is_calm self.new) × (result ≡ Err BackFault.Fault
             → 2 ^ 63 < at + length bytes.now) }
@@ -58,6 +64,7 @@ pub trait Disk: Drop {
         ensures durable { OnOk result (Only (seen self.old) (may_leave self.new)) }
         ensures seen { seen self.new ≡ seen self.old }
         ensures stop { NoMore (may_leave self.old) (may_leave self.new) }
+        ensures numbered { number self.new ≡ number self.old }
         ensures later { faults self.old ≤ faults self.new }
         ensures calm { IsTrue (is_calm self.old) → IsTrue (is_calm self.new) × IsOk result }
         ensures cause { OnErr result (Rose (faults self.old) (faults self.new)) };

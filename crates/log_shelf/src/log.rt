@@ -31,6 +31,7 @@ fn settle<D: Disk>(disk: &mut D) -> Result<(), BackFault>
     ensures durable { OnOk result (Only (D.seen disk.old) (D.may_leave disk.new)) }
     ensures seen { D.seen disk.new ≡ D.seen disk.old }
     ensures stop { NoMore (D.may_leave disk.old) (D.may_leave disk.new) }
+    ensures numbered { D.number disk.new ≡ D.number disk.old }
     ensures later { D.faults disk.old ≤ D.faults disk.new }
     ensures cause { OnErr result (Rose (D.faults disk.old) (D.faults disk.new)) }
     ensures memory { result ≢ Err BackFault.Memory }
@@ -55,6 +56,7 @@ fn body_bytes(alloc: Global, entry: &[u8]) -> Result<Vec<u8>, AllocError>
 fn write_first<D: Disk>(disk: &mut D) -> Result<(), BackFault>
     requires { D.seen disk.old ≡ [] }
     ensures ok { OnOk result ((D.seen disk.new ≡ 0 ∷ []) × Only (D.seen disk.new) (D.may_leave disk.new)) }
+    ensures numbered { D.number disk.new ≡ D.number disk.old }
     ensures later { D.faults disk.old ≤ D.faults disk.new }
     ensures cause { result ≡ Err BackFault.Fault → Rose (D.faults disk.old) (D.faults disk.new) }
 {
@@ -69,6 +71,7 @@ fn write_gate<D: Disk>(disk: &mut D, tail: u64, gate: u8) -> Result<(), BackFaul
     ensures front { take tail (D.seen disk.new) ≡ take tail (D.seen disk.old) }
     ensures same { behind tail (D.seen disk.new) ≡ behind tail (D.seen disk.old) }
     ensures ok { OnOk result (Only (D.seen disk.new) (D.may_leave disk.new) × (slice_index (D.seen disk.new) tail ≡ gate)) }
+    ensures numbered { D.number disk.new ≡ D.number disk.old }
     ensures later { D.faults disk.old ≤ D.faults disk.new }
     ensures cause { result ≡ Err BackFault.Fault → Rose (D.faults disk.old) (D.faults disk.new) }
 {
@@ -83,6 +86,7 @@ fn write_body<D: Disk>(disk: &mut D, tail: u64, body: &[u8]) -> Result<(), BackF
     ensures front { take tail (D.seen disk.new) ≡ take tail (D.seen disk.old) }
     ensures ok { OnOk result (Only (D.seen disk.new) (D.may_leave disk.new) × Holds (D.seen disk.new) (tail + 1) body.now
         × (tail + 1 + length body.now ≤ 2 ^ 63)) }
+    ensures numbered { D.number disk.new ≡ D.number disk.old }
     ensures later { D.faults disk.old ≤ D.faults disk.new }
     ensures cause { result ≡ Err BackFault.Fault → Rose (D.faults disk.old) (D.faults disk.new) }
 {
@@ -97,6 +101,7 @@ impl<D: Disk> Log<D> {
         ensures told { IfOk result (λ log. told_entries log.tail (D.seen log.disk) ≡ []) }
         ensures sure { IfOk result (λ log. log.doubt ≡ false) }
         ensures empty { IfOk result (λ log. take log.tail (D.seen log.disk) ≡ []) }
+        ensures numbered { IfOk result (λ log. D.number log.disk ≡ D.number disk) }
         ensures later { IfOk result (λ log. D.faults disk ≤ D.faults log.disk) }
         ensures cause { IfErr result (λ e. (D.faults disk ≤ D.faults e.1) × (e.0 ≡ BackFault.Fault
             → Rose (D.faults disk) (D.faults e.1))) }
@@ -120,6 +125,7 @@ impl<D: Disk> Log<D> {
         ensures err { OnErr result ((self.new.doubt ≡ self.old.doubt)
             × (doubted self.old.tail self.new.doubt (D.seen self.new.disk) ≡ doubted self.old.tail self.old.doubt (D.seen
             self.old.disk))) }
+        ensures numbered { D.number self.new.disk ≡ D.number self.old.disk }
         ensures later { D.faults self.old.disk ≤ D.faults self.new.disk }
         ensures cause { result ≡ Err BackFault.Fault → Rose (D.faults self.old.disk) (D.faults self.new.disk) }
     {
@@ -140,6 +146,7 @@ impl<D: Disk> Log<D> {
         ensures front { take self.old.tail (D.seen self.new.disk) ≡ take self.old.tail (D.seen self.old.disk) }
         ensures same { behind self.old.tail (D.seen self.new.disk) ≡ behind self.old.tail (D.seen self.old.disk) }
         ensures err { OnErr result ((self.new.doubt ≡ true) × (self.new.tail ≡ self.old.tail)) }
+        ensures numbered { D.number self.new.disk ≡ D.number self.old.disk }
         ensures later { D.faults self.old.disk ≤ D.faults self.new.disk }
         ensures cause { result ≡ Err BackFault.Fault → Rose (D.faults self.old.disk) (D.faults self.new.disk) }
     {
@@ -161,6 +168,7 @@ impl<D: Disk> Log<D> {
         ensures err { OnErr result ((self.new.tail ≡ self.old.tail)
             × MayDoubtEntry (doubted self.old.tail self.old.doubt (D.seen self.old.disk)) entry.now
             (doubted self.new.tail self.new.doubt (D.seen self.new.disk))) }
+        ensures numbered { D.number self.new.disk ≡ D.number self.old.disk }
         ensures later { D.faults self.old.disk ≤ D.faults self.new.disk }
         ensures cause { result ≡ Err BackFault.Fault → Rose (D.faults self.old.disk) (D.faults self.new.disk) }
     {
@@ -178,6 +186,7 @@ impl<D: Disk> Log<D> {
         ensures err { OnErr result ((self.new.tail ≡ self.old.tail)
             × MayDoubtEntry (doubted self.old.tail self.old.doubt (D.seen self.old.disk)) entry.now
             (doubted self.new.tail self.new.doubt (D.seen self.new.disk))) }
+        ensures numbered { D.number self.new.disk ≡ D.number self.old.disk }
         ensures later { D.faults self.old.disk ≤ D.faults self.new.disk }
         ensures cause { result ≡ Err BackFault.Fault → Rose (D.faults self.old.disk) (D.faults self.new.disk) }
     {
@@ -191,6 +200,7 @@ impl<D: Disk> Log<D> {
         ensures bytes { IfOk result (λ bytes. bytes.items ≡ take len (drop at (take self.old.tail (D.seen self.old.disk)))) }
         ensures seen { D.seen self.new.disk ≡ D.seen self.old.disk }
         ensures same { (self.new.tail ≡ self.old.tail) × (self.new.doubt ≡ self.old.doubt) }
+        ensures numbered { D.number self.new.disk ≡ D.number self.old.disk }
         ensures later { D.faults self.old.disk ≤ D.faults self.new.disk }
         ensures cause { result ≡ Err BackFault.Fault → Rose (D.faults self.old.disk) (D.faults self.new.disk) }
     {

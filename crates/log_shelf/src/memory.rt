@@ -190,6 +190,8 @@ impl Disk for MemDisk {
 
     ghost may_leave = { λ m. IsOutcome m.pending.items m.synced.items };
 
+    ghost number = { λ m. m.number };
+
     ghost faults = { λ m. m.faults };
 
     ghost is_calm = { λ m. is_none m.stop };

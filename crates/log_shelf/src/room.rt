@@ -30,6 +30,7 @@ pub trait Room: Drop {
         ensures empty { IfOk result (λ d. Self.D.seen d ≡ []) }
         ensures calm { IsTrue (is_calm self.old) → IsTrue (is_calm self.new) × (result ≢ Err BackFault.Fault)
             × IfOk result (λ d. IsTrue (Self.D.is_calm d)) }
+        ensures numbered { IfOk result (λ d. Self.D.number d ≡ number) }
         ensures uncounted { IfOk result (λ d. Self.D.faults d ≡ 0) }
         ensures others { IsTrue tells → (n : ℕ) → n ≢ number → file_in (files self.new) n ≡ file_in (files self.old) n }
         ensures later { faults self.old ≤ faults self.new }
@@ -41,6 +42,7 @@ pub trait Room: Drop {
         ensures calm { IsTrue (is_calm self.old) → IsTrue (is_calm self.new) × (result ≢ Err BackFault.Fault)
             × IfOk result (λ d. IfSome d (λ d. IsTrue (Self.D.is_calm d))) }
         ensures found { IsTrue tells → IfOk result (λ d. option_map Self.D.seen d ≡ file_in (files self.old) number) }
+        ensures numbered { IfOk result (λ d. IfSome d (λ d. Self.D.number d ≡ number)) }
         ensures uncounted { IfOk result (λ d. IfSome d (λ d. Self.D.faults d ≡ 0)) }
         ensures later { faults self.old ≤ faults self.new }
         ensures cause { result ≡ Err BackFault.Fault → Rose (faults self.old) (faults self.new) };

@@ -30,6 +30,7 @@ pub struct LogShelf<R: Room> {
     pub(crate) spent: Vec<LogBackend<R::D>>,
     broken: Option<R::D>,
     faults: u64,
+    ghost first: { R.D.number manifest.disk ≡ 0 },
     ghost listed: { Manifested live.items (map_list (λ b. b.number) spent.items) made
         (told_entries manifest.tail (R.D.seen manifest.disk)) (doubted manifest.tail manifest.doubt (R.D.seen manifest.disk)) },
     ghost reserved: { length spent.items + length live.items ≤ vec_capacity spent },
@@ -74,6 +75,7 @@ fn note_number<D: Disk>(manifest: &mut Log<D>, kind: u8, number: u64) -> Result<
     ensures doubted { OnErr result (MayDoubtEntry (doubted manifest.old.tail manifest.old.doubt (D.seen manifest.old.disk)) (kind ∷
         number_bytes number)
         (doubted manifest.new.tail manifest.new.doubt (D.seen manifest.new.disk))) }
+    ensures numbered { D.number manifest.new.disk ≡ D.number manifest.old.disk }
     ensures later { D.faults manifest.old.disk ≤ D.faults manifest.new.disk }
     ensures cause { result ≡ Err BackFault.Fault → Rose (D.faults manifest.old.disk) (D.faults manifest.new.disk) }
 {
@@ -145,6 +147,7 @@ impl<R: Room> LogShelf<R> {
     fn make_log(&mut self, alloc: Global, number: u64) -> Result<Log<R::D>, BackFault>
         ensures told { IfOk result (λ log. told_entries log.tail (R.D.seen log.disk) ≡ []) }
         ensures sure { IfOk result (λ log. log.doubt ≡ false) }
+        ensures numbered { IfOk result (λ log. R.D.number log.disk ≡ number) }
         ensures lists { (self.new.live ≡ self.old.live) × (self.new.spent ≡ self.old.spent) × (self.new.made ≡ self.old.made) }
         ensures rest { (self.new.manifest ≡ self.old.manifest) × (self.new.faults ≡ self.old.faults) }
         ensures later { R.faults self.old.room ≤ R.faults self.new.room }

@@ -6,6 +6,7 @@ use Rattle.log_shelf.proofs.backend.LogBackend.over.Goals as goal
 
 pub invariant_of-result : goal.invariant_of-result
 invariant_of-result g c = record {
+  own = c.requires.own;
   indexed = shows-empty c.new.result (take c.args.log.tail (g.D.Disk.seen c.args.log.disk)) (held_in c.args.log.tail (g.D.Disk.seen
       c.args.log.disk)) c.new.ensures (ap nodes_of c.requires.told);
 }

@@ -10,6 +10,7 @@ pub invariant_of-self : goal.invariant_of-self
 invariant_of-self g c =
     let shelf = c.args.self.now in
     record {
+      first = shelf.first;
       listed = manifest-left shelf.live.items (numbers_of shelf.spent.items) c.unlist.new.live.items shelf.made c.args.old.number
           (told_entries shelf.manifest.tail (g.R.D.Disk.seen shelf.manifest.disk)) (doubted shelf.manifest.tail shelf.manifest.doubt
           (g.R.D.Disk.seen shelf.manifest.disk))
@@ -22,6 +23,7 @@ pub invariant_of-self-in-Ok : goal.invariant_of-self-in-Ok
 invariant_of-self-in-Ok g c =
     let shelf = c.args.self.now in
     record {
+      first = c.note_number.ensures.numbered ∙ shelf.first;
       listed = manifest-gone shelf.live.items (numbers_of shelf.spent.items) c.unlist.new.live.items shelf.made c.args.old.number
           (told_entries shelf.manifest.tail (g.R.D.Disk.seen shelf.manifest.disk)) (told_entries c.note_number.new.manifest.tail
           (g.R.D.Disk.seen c.note_number.new.manifest.disk))
@@ -38,6 +40,7 @@ pub invariant_of-self-in-Err : goal.invariant_of-self-in-Err
 invariant_of-self-in-Err g c =
     let shelf = c.args.self.now in
     record {
+      first = c.note_number.ensures.numbered ∙ shelf.first;
       listed = manifest-kept shelf.live.items (numbers_of shelf.spent.items) c.unlist.new.live.items (numbers_of
           c.keep_aside.new.spent.items) shelf.made c.args.old.number
           (told_entries shelf.manifest.tail (g.R.D.Disk.seen shelf.manifest.disk)) (told_entries c.note_number.new.manifest.tail
