@@ -1,6 +1,7 @@
 -- What a stop leaves of a shelf and its backends, by their numbers.
 use Rattle.std.proofs.Common.{◌≡◌, ◌∙◌, sym, ap, refl, subst, ℕ, List, [], ◌∷◌, true, false, cond, ◌||◌, ◌==◌}
 use Rattle.std.proofs.Common.{IsTrue, Option, Some}
+use Rattle.std.specs.Prelude.{is_none}
 use Rattle.std.specs.Option.{option_map_or}
 use Rattle.std.proofs.lemmas.Bool.{eqb-true}
 use Rattle.node_backend.specs.Numbers.{is_among}
@@ -39,7 +40,8 @@ module _ {R D : Type 0} {room : Rooms R D} {disk : Disks D} where
     numbered = λ n among. s.listed.positive n (was.listed n among);
     manifest = λ n among. subst (λ (es : List (List ℕ)). IsTrue (is_among (live_of es) n))
         (sym (ap (λ (o : Option (List ℕ)). option_map_or entries_of o []) was.manifest.1))
-        (log-live s.live.items (numbers_of s.spent.items) s.made s.manifest s.listed was.manifest.0 was.manifest.2 n (was.listed n among));
+        ((log-live s.live.items (numbers_of s.spent.items) s.made (is_none s.broken) s.manifest s.listed was.manifest.0 was.manifest.2).0 n
+        (was.listed n among));
     logs = λ n among. file_at files bs n was.logs among;
     others = was.others;
   }

@@ -1,10 +1,10 @@
 -- A shelf of logs, as contracts of other crates name it, and what a stop leaves of it.
-use Rattle.std.specs.Prelude.{◌≡◌, ◌++◌, ◌<◌, ◌==◌, ℕ, Bool, true, false, cond, IsTrue, List, [], ◌∷◌, map, Option, None, Some}
+use Rattle.std.specs.Prelude.{◌≡◌, ◌++◌, ◌<◌, ◌==◌, ℕ, Bool, true, false, cond, IsTrue, List, [], ◌∷◌, map, ◌+◌, is_none, Option, None, Some}
 use Rattle.std.specs.FinMap as finite
 use Rattle.ledger_spec.specs.Bytes.{Bytes, Hash, Nodes}
 use Rattle.node_backend.specs.Numbers.{is_among}
 use Rattle.node_backend.specs.Doubts.{Pair}
-use Rattle.log_shelf.specs.Manifests.{AreLive}
+use Rattle.log_shelf.specs.Manifests.{AreLive, NamesOnly}
 use Rattle.log_shelf.specs.Rooms.{Files, file_in}
 use Rattle.log_shelf.specs.Recovery.{entries_at, live_in, IsKept, IsRecovered}
 use Rattle.log_shelf.specs.Stops.{held_of, doubt_of, may_leave_of}
@@ -33,9 +33,11 @@ module _ {D : Type 0} {disk : Disks D} where
   AreLeft files (b ∷ bs) = ((file : List ℕ) × (file_in files b.number ≡ Some file) × may_leave_of b file) × AreLeft files bs
 
 module _ {R D : Type 0} {room : Rooms R D} {disk : Disks D} where
-  -- whatever a stop leaves of the manifest, the logs in the shelf's first list are live in it
+  -- whatever a stop leaves of the manifest, the logs in the shelf's first list are live in it, and no others but those whose discard failed
+  -- and the next one to be made; not even that where its disk broke while it was made
   abbrev pub StandsLive : LogShelf R D room disk → Type 0
   StandsLive s = (file : List ℕ) → disk.may_leave s.manifest.disk file → AreLive s.live.items file
+      × NamesOnly s.live.items (numbers_of s.spent.items) (is_none s.broken) (s.made + 1) file
 
   -- what a stop left of a shelf and of backends that are in its first list: a log that the manifest names and that is neither one of
   -- these nor one whose discard failed has no entry

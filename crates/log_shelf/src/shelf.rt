@@ -1,7 +1,7 @@
 //! A shelf of logs on the disks of a room. The manifest, disk 0, has an entry for each log that was made and for each that is
 //! gone, so a stop finds the live ones.
 ghost use Rattle.std.specs.Prelude.{◌≡◌, ◌≢◌, ◌⊎◌, ◌+◌, ◌^◌, ◌<◌, ◌≤◌, ◌++◌, [], ◌∷◌, ℕ, List, true, false, length, map as map_list};
-ghost use Rattle.std.specs.Prelude.{IsTrue, IfOk, IfErr, OnOk, OnErr};
+ghost use Rattle.std.specs.Prelude.{is_none, IsTrue, IfOk, IfErr, OnOk, OnErr};
 ghost use Rattle.std.specs.Vec.{vec_capacity};
 ghost use Rattle.run_io.specs.Bytes.{Rose};
 ghost use Rattle.node_backend.specs.Numbers.{is_among, exceeds, without};
@@ -31,7 +31,7 @@ pub struct LogShelf<R: Room> {
     broken: Option<R::D>,
     faults: u64,
     ghost first: { R.D.number manifest.disk ≡ 0 },
-    ghost listed: { Manifested live.items (map_list (λ b. b.number) spent.items) made
+    ghost listed: { Manifested live.items (map_list (λ b. b.number) spent.items) made (is_none broken)
         (told_entries manifest.tail (R.D.seen manifest.disk)) (doubted manifest.tail manifest.doubt (R.D.seen manifest.disk)) },
     ghost reserved: { length spent.items + length live.items ≤ vec_capacity spent },
 }
@@ -145,11 +145,13 @@ impl<R: Room> LogShelf<R> {
 
     /// Makes the log of a number. Where its disk fails it is kept as the broken one.
     fn make_log(&mut self, alloc: Global, number: u64) -> Result<Log<R::D>, BackFault>
+        requires closed { self.old.manifest.doubt ≡ false }
         ensures told { IfOk result (λ log. told_entries log.tail (R.D.seen log.disk) ≡ []) }
         ensures sure { IfOk result (λ log. log.doubt ≡ false) }
         ensures numbered { IfOk result (λ log. R.D.number log.disk ≡ number) }
         ensures lists { (self.new.live ≡ self.old.live) × (self.new.spent ≡ self.old.spent) × (self.new.made ≡ self.old.made) }
         ensures rest { (self.new.manifest ≡ self.old.manifest) × (self.new.faults ≡ self.old.faults) }
+        ensures whole { OnOk result (self.new.broken ≡ self.old.broken) }
         ensures later { R.faults self.old.room ≤ R.faults self.new.room }
         ensures cause { result ≡ Err BackFault.Fault → Rose (R.faults self.old.room) (R.faults self.new.room) ⊎ IsSomeAnd
             self.new.broken (λ d. 0 < R.D.faults d) }
@@ -174,6 +176,7 @@ impl<R: Room> LogShelf<R> {
         ensures unlisted { OnErr result (self.new.live.items ≡ self.old.live.items) }
         ensures others { self.new.spent.items ≡ self.old.spent.items }
         ensures faults { self.new.faults ≡ self.old.faults }
+        ensures whole { OnOk result (self.new.broken ≡ None) }
         ensures cause { result ≡ Err BackFault.Fault → FreshFailed (R.faults self.old.room) (R.faults self.new.room)
             (R.D.faults self.old.manifest.disk) (R.D.faults self.new.manifest.disk) self.old.made (IsSomeAnd self.new.broken (λ d. 0 <
             R.D.faults d)) }
@@ -242,6 +245,7 @@ where
         ensures rose { self.new.faults ≢ self.old.faults → FreshFailed (R.faults self.old.room) (R.faults self.new.room)
             (R.D.faults self.old.manifest.disk) (R.D.faults self.new.manifest.disk) self.old.made (IsSomeAnd self.new.broken (λ d. 0 <
             R.D.faults d)) }
+        ensures whole { OnOk result (self.new.broken ≡ None) }
         ensures stop { StandsLive self.new }
     {
         let outcome = self.make(alloc);

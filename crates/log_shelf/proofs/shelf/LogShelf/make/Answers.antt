@@ -1,3 +1,4 @@
+use Rattle.std.specs.Prelude.{is_none}
 use Rattle.std.proofs.Common.{subst}
 use Rattle.run_io.specs.Bytes.{Rose}
 use Rattle.std.proofs.Common.{inl, inr, rules, arith, sym, ap, ◌∙◌, ◌+◌, ℕ, Bool}
@@ -11,7 +12,8 @@ invariant_of-self-in-Break-branch-4 g c =
     let shelf = c.make_log.new.self in
     record {
       first = c.note_number.ensures.numbered ∙ shelf.first;
-      listed = manifest-unmade shelf.live.items _ shelf.made (c.args.self.now.made + 1) _ _ _ _ shelf.listed (omega arith)
+      listed = manifest-unmade shelf.live.items _ shelf.made (c.args.self.now.made + 1) (is_none shelf.broken) _ _ _ _ shelf.listed
+          (ap is_none c.in_ok-log.ensures.whole) (ap (λ (n : ℕ). n + 1) (sym c.make_log.ensures.lists.2)) (omega arith)
           c.in_err-note_number.ensures.untold c.in_err-note_number.ensures.doubted;
       reserved = shelf.reserved;
     }
@@ -22,7 +24,7 @@ invariant_of-self-3 g c =
     let shelf = c.make_log.new.self in
     record {
       first = c.note_number.ensures.numbered ∙ shelf.first;
-      listed = manifest-made shelf.live.items _ c.push_number.new.live.items shelf.made (c.args.self.now.made + 1) _ _ _ _ shelf.listed
+      listed = manifest-made shelf.live.items _ c.push_number.new.live.items shelf.made (c.args.self.now.made + 1) _ _ _ _ _ _ shelf.listed
           (ap (λ (n : ℕ). n + 1) (sym c.make_log.ensures.lists.2)) (omega arith) c.push_number.ensures c.in_ok-note_number.ensures.told
           (ap (λ (b : Bool). doubted c.note_number.new.manifest.tail b (g.R.D.Disk.seen c.note_number.new.manifest.disk))
           c.in_ok-note_number.ensures.sure);

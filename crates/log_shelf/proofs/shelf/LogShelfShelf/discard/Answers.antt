@@ -1,3 +1,4 @@
+use Rattle.std.specs.Prelude.{is_none}
 use Rattle.std.proofs.Common.{arith, sym, ap, ◌∙◌, [], ◌∷◌, length, Bool, length-append}
 use Rattle.std.proofs.lemmas.List.{map_push}
 use Rattle.log_shelf.specs.Logs.{told_entries, doubted}
@@ -11,10 +12,10 @@ invariant_of-self g c =
     let shelf = c.args.self.now in
     record {
       first = shelf.first;
-      listed = manifest-left shelf.live.items (numbers_of shelf.spent.items) c.unlist.new.live.items shelf.made c.args.old.number
+      listed = manifest-left shelf.live.items (numbers_of shelf.spent.items) c.unlist.new.live.items shelf.made c.args.old.number (is_none shelf.broken)
           (told_entries shelf.manifest.tail (g.R.D.Disk.seen shelf.manifest.disk)) (doubted shelf.manifest.tail shelf.manifest.doubt
           (g.R.D.Disk.seen shelf.manifest.disk))
-          shelf.listed c.unlist.ensures.gone;
+          shelf.listed (sym c.unlist.ensures.found ∙ c.if-not-unlist.true) c.unlist.ensures.gone;
       reserved = omega (arith, c.unlist.ensures.bound, shelf.reserved);
     }
 
@@ -24,7 +25,7 @@ invariant_of-self-in-Ok g c =
     let shelf = c.args.self.now in
     record {
       first = c.note_number.ensures.numbered ∙ shelf.first;
-      listed = manifest-gone shelf.live.items (numbers_of shelf.spent.items) c.unlist.new.live.items shelf.made c.args.old.number
+      listed = manifest-gone shelf.live.items (numbers_of shelf.spent.items) c.unlist.new.live.items shelf.made c.args.old.number (is_none shelf.broken)
           (told_entries shelf.manifest.tail (g.R.D.Disk.seen shelf.manifest.disk)) (told_entries c.note_number.new.manifest.tail
           (g.R.D.Disk.seen c.note_number.new.manifest.disk))
           (doubted shelf.manifest.tail shelf.manifest.doubt (g.R.D.Disk.seen shelf.manifest.disk))
@@ -42,7 +43,7 @@ invariant_of-self-in-Err g c =
     record {
       first = c.note_number.ensures.numbered ∙ shelf.first;
       listed = manifest-kept shelf.live.items (numbers_of shelf.spent.items) c.unlist.new.live.items (numbers_of
-          c.keep_aside.new.spent.items) shelf.made c.args.old.number
+          c.keep_aside.new.spent.items) shelf.made c.args.old.number (is_none shelf.broken)
           (told_entries shelf.manifest.tail (g.R.D.Disk.seen shelf.manifest.disk)) (told_entries c.note_number.new.manifest.tail
           (g.R.D.Disk.seen c.note_number.new.manifest.disk))
           (doubted shelf.manifest.tail shelf.manifest.doubt (g.R.D.Disk.seen shelf.manifest.disk))
@@ -64,17 +65,17 @@ invariant_of-self-in-Err g c =
 pub returns-then-not-unlist-clause-stop : goal.returns-then-not-unlist-clause-stop
 returns-then-not-unlist-clause-stop g c =
     let shelf = c.args.self.now in
-    log-live c.unlist.new.live.items (numbers_of shelf.spent.items) shelf.made shelf.manifest
-    (manifest-left shelf.live.items (numbers_of shelf.spent.items) c.unlist.new.live.items shelf.made c.args.old.number
+    log-live c.unlist.new.live.items (numbers_of shelf.spent.items) shelf.made (is_none shelf.broken) shelf.manifest
+    (manifest-left shelf.live.items (numbers_of shelf.spent.items) c.unlist.new.live.items shelf.made c.args.old.number (is_none shelf.broken)
     (told_entries shelf.manifest.tail (g.R.D.Disk.seen shelf.manifest.disk)) (doubted shelf.manifest.tail shelf.manifest.doubt
     (g.R.D.Disk.seen shelf.manifest.disk))
-    shelf.listed c.unlist.ensures.gone)
+    shelf.listed (sym c.unlist.ensures.found ∙ c.if-not-unlist.true) c.unlist.ensures.gone)
 
 pub returns-in-Ok-clause-stop : goal.returns-in-Ok-clause-stop
 returns-in-Ok-clause-stop g c =
     let shelf = c.args.self.now in
-    log-live c.unlist.new.live.items (numbers_of shelf.spent.items) shelf.made c.note_number.new.manifest
-    (manifest-gone shelf.live.items (numbers_of shelf.spent.items) c.unlist.new.live.items shelf.made c.args.old.number
+    log-live c.unlist.new.live.items (numbers_of shelf.spent.items) shelf.made (is_none shelf.broken) c.note_number.new.manifest
+    (manifest-gone shelf.live.items (numbers_of shelf.spent.items) c.unlist.new.live.items shelf.made c.args.old.number (is_none shelf.broken)
     (told_entries shelf.manifest.tail (g.R.D.Disk.seen shelf.manifest.disk)) (told_entries c.note_number.new.manifest.tail
     (g.R.D.Disk.seen c.note_number.new.manifest.disk))
     (doubted shelf.manifest.tail shelf.manifest.doubt (g.R.D.Disk.seen shelf.manifest.disk))
@@ -85,9 +86,9 @@ returns-in-Ok-clause-stop g c =
 pub returns-in-Err-clause-stop : goal.returns-in-Err-clause-stop
 returns-in-Err-clause-stop g c =
     let shelf = c.args.self.now in
-    log-live c.unlist.new.live.items (numbers_of c.keep_aside.new.spent.items) shelf.made c.note_number.new.manifest
+    log-live c.unlist.new.live.items (numbers_of c.keep_aside.new.spent.items) shelf.made (is_none shelf.broken) c.note_number.new.manifest
     (manifest-kept shelf.live.items (numbers_of shelf.spent.items) c.unlist.new.live.items (numbers_of c.keep_aside.new.spent.items)
-    shelf.made c.args.old.number
+    shelf.made c.args.old.number (is_none shelf.broken)
     (told_entries shelf.manifest.tail (g.R.D.Disk.seen shelf.manifest.disk)) (told_entries c.note_number.new.manifest.tail
     (g.R.D.Disk.seen c.note_number.new.manifest.disk))
     (doubted shelf.manifest.tail shelf.manifest.doubt (g.R.D.Disk.seen shelf.manifest.disk))
