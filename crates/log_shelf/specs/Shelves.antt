@@ -1,5 +1,6 @@
 -- A shelf of logs, as contracts of other crates name it, and what a stop leaves of it.
-use Rattle.std.specs.Prelude.{◌≡◌, ◌++◌, ◌<◌, ◌==◌, ℕ, Bool, true, false, cond, IsTrue, List, [], ◌∷◌, map, ◌+◌, is_none, Option, None, Some}
+use Rattle.std.specs.Prelude.{◌≡◌, ◌++◌, ◌<◌, ◌==◌, ℕ, Bool, true, false, cond, IsTrue, List, [], ◌∷◌, map}
+use Rattle.std.specs.Prelude.{◌+◌, is_none, Option, None, Some}
 use Rattle.std.specs.FinMap as finite
 use Rattle.ledger_spec.specs.Bytes.{Bytes, Hash, Nodes}
 use Rattle.node_backend.specs.Numbers.{is_among}

@@ -167,7 +167,8 @@ impl MemDisk {
         ensures written { OnOk result (self.new.shown.items ≡ overwritten self.old.shown.items at bytes.now) }
         ensures pending { OnOk result ((span : _) × (span.at ≡ at) × (span.bytes.items ≡ bytes.now)
             × (self.new.pending.items ≡ self.old.pending.items ++ span ∷ [])) }
-        ensures unwritten { OnErr result ((self.new.shown.items ≡ self.old.shown.items) × (self.new.pending.items ≡ self.old.pending.items)) }
+        ensures unwritten { OnErr result ((self.new.shown.items ≡ self.old.shown.items)
+            × (self.new.pending.items ≡ self.old.pending.items)) }
         ensures synced { self.new.synced.items ≡ self.old.synced.items }
         ensures rest { (self.new.faults ≡ self.old.faults) × (self.new.stop ≡ self.old.stop) × (self.new.number ≡ self.old.number) }
         ensures cause { result ≢ Err BackFault.Fault }
