@@ -95,7 +95,7 @@ listed_in live undone next aside k first second h = elim (or_split (is_among liv
 ]
 
 named_in : (a b c : Bool) → (IsTrue a → IsTrue b) → IsTrue (a || c) → IsTrue (b || c)
-named_in a b c f h = elim (or_split a c h) [ | inl l ↦ or_left b c (f l) | inr r ↦ or_right b c r ]
+named_in a b c f h = elim (or_split a c h) [ inl l ↦ or_left b c (f l) | inr r ↦ or_right b c r ]
 
 -- what is named where an entry in doubt is none, the one before or this one
 doubt_names : (P : ℕ → Type 0) (told after : List (List ℕ)) (before later : Option (List ℕ)) (entry : List ℕ)
