@@ -3,7 +3,7 @@ use half_hash::{Hash32, NodeHash, TinyHash};
 use ledger_machine::Record;
 use log_recovery::{images, recover};
 use log_shelf::{LogShelf, MemRoom};
-use rotating_store::RotStore;
+use rotating_store::{Parts, RotStore};
 use std::alloc::Global;
 use std::test::Fail;
 
@@ -76,6 +76,19 @@ fn lost(
     Ok(lost)
 }
 
+/// What a stop leaves of the store's disks, by pick.
+fn left(alloc: Global, store: &RotStore<LogShelf<MemRoom>>, pick: u8) -> Result<MemRoom, Fail> {
+    let parts = store.parts();
+    let room = images(alloc, &parts, pick);
+    let Parts {
+        shelf: _shelf,
+        writable: _writable,
+        archive: _archive,
+        ready: _ready,
+    } = parts;
+    Ok(room?)
+}
+
 /// A run that stops after so many calls: how many records are found, and how many are lost. `- -` where no store was opened.
 fn stopped(alloc: Global, at: u64, pick: u8) -> Result<String, Fail> {
     let Ok(shelf) = LogShelf::new(alloc, MemRoom::new(alloc, Some(at))?) else {
@@ -85,7 +98,7 @@ fn stopped(alloc: Global, at: u64, pick: u8) -> Result<String, Fail> {
         return Ok(String::from_str(alloc, "- -")?);
     };
     run(alloc, &mut store)?;
-    let mut room = images(alloc, &store.parts(), pick)?;
+    let mut room = left(alloc, &store, pick)?;
     let records = recover::<TinyHash, MemRoom>(alloc, &mut room);
     let records = records.ok().ok_or("not recovered")?;
     let lost = lost(alloc, &mut store, &records)?;
