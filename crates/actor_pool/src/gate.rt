@@ -1,5 +1,5 @@
-//! Points of an actor's run, and the gate that is handed in and told of them. A run passes it before each section on the core, after each
-//! that recorded an entry, and between the slices of a swap; the other points are of reads outside the lock, which no run has yet.
+//! Points of an actor's run, and the gate that is handed in and told of them. A run passes it before each section that may record an entry,
+//! after each that did, between the slices of a command, and round each fetch of a node for a read outside of the core's lock.
 
 /// Where an actor stands. No lock is held there.
 #[derive(Clone, Copy, Debug, PartialEq, Eq)]

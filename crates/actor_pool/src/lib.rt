@@ -3,6 +3,7 @@
 
 mod gate;
 mod pool;
+mod reading;
 mod shared;
 
 pub use gate::{Gate, OpenGate, Point};

@@ -6,10 +6,15 @@ ghost use Rattle.store_core.specs.Journal.{IsJournal};
 ghost use Rattle.actor_pool.specs.Order.{IsOf, IsSameRun, AreAnswered, AreOfOne};
 
 use crate::gate::{Gate, Point};
-use crate::shared::{Pinned, Shared, answered_locked, is_left_locked, step_locked, unlocked};
+use crate::reading::read_outside;
+use crate::shared::{
+    Pinned, Shared, answered_locked, commit_locked, is_left_locked, job_locked, step_locked,
+    unlocked,
+};
 use half_hash::NodeHash;
 use ledger_machine::Line;
 use node_backend::Shelf;
+use read_cache::ReadCache;
 use std::alloc::Global;
 use std::marker::Brand;
 use std::sync::{Mutex, Wait};
@@ -66,8 +71,8 @@ fn has_others(lines: &[Line], actor: u8) -> bool
     lines.iter().any(|line| line.actor != actor)
 }
 
-/// What the workers do of the lines, in rounds: while lines are left, and the last round answered
-/// one.
+/// What the workers do of the lines, in rounds: while lines are left, and the last round answered one. The nodes that they read stay for
+/// all rounds. Where there is no memory for those they do nothing.
 fn run_workers<R: Threads + Wait + Sync, H: NodeHash, Sh: Shelf, G: Gate, J: Pinned + Send + Sync>(
     rt: &R,
     alloc: Global,
@@ -77,11 +82,14 @@ fn run_workers<R: Threads + Wait + Sync, H: NodeHash, Sh: Shelf, G: Gate, J: Pin
     requires { IsOf J.run core }
     ensures { IsOf J.run result }
 {
+    let Ok(cache) = ReadCache::new(alloc, core.hash()) else {
+        return core;
+    };
     let lines = core.script().lines.len();
     let mut answered = core.journal().len();
     let shared: Mutex<Shared<H, Sh, J>> = Mutex::new(Shared::new(core));
     while answered < lines {
-        run_round(rt, alloc, &shared, gate, lines);
+        run_round(rt, alloc, &shared, &cache, gate, lines);
         let now = answered_locked(rt, &shared);
         if now <= answered {
             break;
@@ -97,13 +105,14 @@ fn run_round<R: Threads + Wait + Sync, H: NodeHash, Sh: Shelf, G: Gate, J: Pinne
     rt: &R,
     alloc: Global,
     shared: &Mutex<Shared<H, Sh, J>>,
+    cache: &ReadCache<H>,
     gate: &G,
     lines: usize,
 ) {
     thread::scope(thread::scope_env(), rt, |scope| {
         for actor in 0..ACTORS {
             if is_left_locked(rt, shared, actor) {
-                let _ = scope.spawn(move || work(rt, alloc, shared, gate, actor, lines));
+                let _ = scope.spawn(move || work(rt, alloc, shared, cache, gate, actor, lines));
             }
         }
     });
@@ -115,12 +124,13 @@ fn work<R: Wait, H: NodeHash, Sh: Shelf, G: Gate, J: Pinned>(
     rt: &R,
     alloc: Global,
     shared: &Mutex<Shared<H, Sh, J>>,
+    cache: &ReadCache<H>,
     gate: &G,
     actor: u8,
     lines: usize,
 ) {
     for _ in 0..lines {
-        if !answer(rt, alloc, shared, gate, actor) {
+        if !answer(rt, alloc, shared, cache, gate, actor) {
             break;
         }
     }
@@ -131,11 +141,12 @@ fn answer<R: Wait, H: NodeHash, Sh: Shelf, G: Gate, J: Pinned>(
     rt: &R,
     alloc: Global,
     shared: &Mutex<Shared<H, Sh, J>>,
+    cache: &ReadCache<H>,
     gate: &G,
     actor: u8,
 ) -> bool {
     for _ in 0..TRIES {
-        match try_line(rt, alloc, shared, gate, actor) {
+        match try_line(rt, alloc, shared, cache, gate, actor) {
             Stepped::Answered => {
                 gate.pass(actor, Point::Answered);
                 return true;
@@ -152,17 +163,35 @@ fn try_line<R: Wait, H: NodeHash, Sh: Shelf, G: Gate, J: Pinned>(
     rt: &R,
     alloc: Global,
     shared: &Mutex<Shared<H, Sh, J>>,
+    cache: &ReadCache<H>,
     gate: &G,
     actor: u8,
 ) -> Stepped {
     for _ in 0..SECTIONS {
-        gate.pass(actor, Point::BeforeCommit);
-        match step_locked(rt, alloc, shared, actor) {
+        match section(rt, alloc, shared, cache, gate, actor) {
             Stepped::More => gate.pass(actor, Point::BetweenSlices),
             stepped => return stepped,
         }
     }
     Stepped::More
+}
+
+/// One section of the actor's next line. A `get` is read outside of the core's lock, and what that gives is handed in.
+fn section<R: Wait, H: NodeHash, Sh: Shelf, G: Gate, J: Pinned>(
+    rt: &R,
+    alloc: Global,
+    shared: &Mutex<Shared<H, Sh, J>>,
+    cache: &ReadCache<H>,
+    gate: &G,
+    actor: u8,
+) -> Stepped {
+    let Some(job) = job_locked(rt, shared, actor) else {
+        gate.pass(actor, Point::BeforeCommit);
+        return step_locked(rt, alloc, shared, actor);
+    };
+    let handed = read_outside(rt, alloc, shared, cache, gate, actor, job);
+    gate.pass(actor, Point::BeforeCommit);
+    commit_locked(rt, alloc, shared, actor, handed)
 }
 
 /// Answers every line that has no entry yet, in line order.

@@ -1,13 +1,16 @@
 //! A core under one lock, tied to what it was opened with.
 ghost use Rattle.std.specs.Prelude.{◌≡◌};
+ghost use Rattle.path_proof.specs.Sources.{HasHash};
 ghost use Rattle.actor_pool.specs.Order.{IsOf};
 
-use half_hash::NodeHash;
+use half_hash::{Hash32, NodeHash};
 use node_backend::Shelf;
+use path_proof::FetchFault;
+use shamap_node::Node;
 use std::alloc::Global;
 use std::marker::{Brand, Model, PhantomData};
-use std::sync::{Mutex, Wait};
-use store_core::{Core, Stepped};
+use std::sync::{Arc, Mutex, Wait};
+use store_core::{Core, Followed, ReadJob, Stepped};
 
 /// Which run it is: the script, the interval, the count of faults at opening and what was missed. Each
 /// call picks it.
@@ -60,6 +63,28 @@ impl<H: NodeHash, Sh: Shelf, J: Pinned> Shared<H, Sh, J> {
         self.core.step(alloc, actor)
     }
 
+    /// The read that the actor's next line asks for.
+    pub(crate) fn read_job(&self, actor: u8) -> Option<ReadJob> {
+        self.core.read_job(actor)
+    }
+
+    /// The node of a hash.
+    pub(crate) fn node_at(
+        &mut self,
+        alloc: Global,
+        actor: u8,
+        h: &Hash32,
+    ) -> Result<Option<Arc<Node>>, FetchFault>
+        ensures { HasHash H.half h.now result }
+    {
+        self.core.node_at(alloc, actor, h)
+    }
+
+    /// One section for the actor's next line, with what a reader got for it.
+    pub(crate) fn commit(&mut self, alloc: Global, actor: u8, handed: Followed<H>) -> Stepped {
+        self.core.commit_followed(alloc, actor, handed)
+    }
+
     /// How many lines have their entries.
     pub(crate) fn answered(&self) -> usize {
         self.core.journal().len()
@@ -86,6 +111,39 @@ pub(crate) fn step_locked<H: NodeHash, Sh: Shelf, J: Pinned>(
     actor: u8,
 ) -> Stepped {
     shared.lock(rt).step(alloc, actor)
+}
+
+/// The read that the actor's next line asks for.
+pub(crate) fn job_locked<H: NodeHash, Sh: Shelf, J: Pinned>(
+    rt: &impl Wait,
+    shared: &Mutex<Shared<H, Sh, J>>,
+    actor: u8,
+) -> Option<ReadJob> {
+    shared.lock(rt).read_job(actor)
+}
+
+/// The node of a hash, in a section of its own.
+pub(crate) fn node_locked<H: NodeHash, Sh: Shelf, J: Pinned>(
+    rt: &impl Wait,
+    alloc: Global,
+    shared: &Mutex<Shared<H, Sh, J>>,
+    actor: u8,
+    h: &Hash32,
+) -> Result<Option<Arc<Node>>, FetchFault>
+    ensures { HasHash H.half h.now result }
+{
+    shared.lock(rt).node_at(alloc, actor, h)
+}
+
+/// One section for the actor's next line, with what a reader got for it.
+pub(crate) fn commit_locked<H: NodeHash, Sh: Shelf, J: Pinned>(
+    rt: &impl Wait,
+    alloc: Global,
+    shared: &Mutex<Shared<H, Sh, J>>,
+    actor: u8,
+    handed: Followed<H>,
+) -> Stepped {
+    shared.lock(rt).commit(alloc, actor, handed)
 }
 
 /// How many lines have their entries.

@@ -14,6 +14,12 @@ use ledger_spec::Kind;
 use shamap_node::Item;
 use std::alloc::Global;
 
+/// The length of an inner node's form.
+const INNER_FORM: usize = 516;
+
+/// The length of a leaf's form beside its data: its prefix, and its key.
+const LEAF_FORM: usize = 36;
+
 /// A form and its hash.
 #[derive(Drop)]
 pub struct FormOf {
@@ -79,7 +85,8 @@ fn inner_form<H: NodeHash>(
 {
     arena.known();
     links.known();
-    let mut bytes = Vec::from_slice(alloc, &Prefix::Min.bytes())?;
+    let mut bytes = Vec::with_capacity(alloc, INNER_FORM)?;
+    bytes.extend_from_slice(&Prefix::Min.bytes())?;
     for b in 0..16u8 {
         let hash = seal_link::<H>(alloc, arena, kind, &links.get(b), forms)?;
         bytes.extend_from_slice(&hash.bytes)?;
@@ -91,7 +98,8 @@ fn inner_form<H: NodeHash>(
 fn leaf_form(alloc: Global, kind: Kind, item: &Item) -> Result<Blob, Memory>
     ensures { IfOk result (λ form. form ≡ form_of_leaf kind item.now.key item.now.value) }
 {
-    let mut bytes = Vec::from_slice(alloc, &kind.prefix().bytes())?;
+    let mut bytes = Vec::with_capacity(alloc, item.data().len().saturating_add(LEAF_FORM))?;
+    bytes.extend_from_slice(&kind.prefix().bytes())?;
     bytes.extend_from_slice(item.data())?;
     match kind {
         Kind::Set => Ok(Blob::new(bytes)),

@@ -5,6 +5,8 @@
 #[cfg(test)]
 mod builds;
 #[cfg(test)]
+mod logs;
+#[cfg(test)]
 mod maps;
 #[cfg(test)]
 mod records;

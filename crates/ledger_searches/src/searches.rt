@@ -1,5 +1,6 @@
 //! The marks, the cache and the begun searches that checks share.
-ghost use Rattle.std.specs.Prelude.{◌≡◌, ◌⊎◌, ◌+◌, ◌<◌, ◌≤◌, ◌^◌, IfOk, IfErr, IfSome, IsSome, IsNone, ℕ, length, None, slice_set, vec_len};
+ghost use Rattle.std.specs.Prelude.{◌≡◌, ◌⊎◌, ◌+◌, ◌<◌, ◌≤◌, ◌^◌, IfOk, IfErr, IfSome, IsSome, IsNone, OnErr, ℕ, length, None};
+ghost use Rattle.std.specs.Prelude.{slice_set, vec_len};
 ghost use Rattle.run_io.specs.Bytes.{Rose};
 ghost use Rattle.ledger_spec.specs.Bytes.{Lookup};
 ghost use Rattle.own_forms.specs.Reading.{WasRead};
@@ -10,7 +11,7 @@ ghost use Rattle.missing_walk.specs.Searching.{IsNew as IsNewSearch};
 ghost use Rattle.missing_walk.specs.Sees.{Finds};
 ghost use Rattle.missing_walk.specs.Views.{Tells};
 ghost use Rattle.ledger_searches.specs.Hunting.{GoesOn, IsRunWhole, IsTakenUp, IsUnbegun, hunt_of, most_actors, most_asked};
-ghost use Rattle.ledger_searches.specs.Sharing.{IsPaired, AreTrueOf, IsEmpty, IsTurned, LeavesOthers, Forgets};
+ghost use Rattle.ledger_searches.specs.Sharing.{IsPaired, AreTrueOf, IsEmpty, IsTurned, LeavesOthers, Forgets, most_cached};
 
 use crate::hunt::Hunt;
 use crate::hunting::MOST_STALES;
@@ -49,6 +50,7 @@ impl Searches {
         ensures paired { IfOk result IsPaired }
         ensures empty { IfOk result IsEmpty }
         ensures generation { IfOk result (λ x. x.marks.generation ≡ 0) }
+        ensures room { IfOk result (λ x. x.cache.entries.cap ≡ most_cached) }
     {
         let cache = TreeCache::new(alloc, MOST_CACHED)?;
         let marks = Marks::new(alloc, MOST_MARKS)?;
@@ -61,8 +63,9 @@ impl Searches {
     }
 
     /// Goes on with the search that the actor's check of the ledger has begun, or begins one, as far as 256 places; none where something is
-    /// left, for which the search is kept. One that was begun before the generation turned begins anew, at most twice: the third time it is
-    /// run to its end. What is found is as `look` finds it. `Fault` and `Memory` leave marks, cached nodes and begun searches true.
+    /// left, for which the search is kept. With an answer no search of the actor is. One that was begun before the generation turned begins
+    /// anew, at most twice: the third time it is run to its end. What is found is as `look` finds it. `Fault` and `Memory` leave marks,
+    /// cached nodes and begun searches true.
     pub fn slice<H: NodeHash, Sh: Shelf>(
         &mut self,
         alloc: Global,
@@ -87,6 +90,7 @@ impl Searches {
             (hunt_of self.new.hunts.items actor)) }
         ensures few { IsRunWhole self.old.marks.generation (hunt_of self.old.hunts.items actor) target.now
             ⊎ (store.new.gets ≤ store.old.gets + most_asked) }
+        ensures answered { IfOk result (λ o. IsSome o → hunt_of self.new.hunts.items actor ≡ None) }
         ensures others { LeavesOthers actor self.old self.new }
         ensures paired { IsPaired self.new }
         ensures generation { self.new.marks.generation ≡ self.old.marks.generation }
@@ -118,10 +122,12 @@ impl Searches {
         }
     }
 
-    // The search of this ledger that the actor's check has begun, or a new one. None of the actor is kept meanwhile.
+    // The search of this ledger that the actor's check has begun, or a new one, which alone takes memory. No search of the actor is kept
+    // meanwhile.
     fn take_up(&mut self, alloc: Global, actor: u8, target: &Hash32) -> Result<Hunt, Memory>
         requires known { actor < vec_len self.old.hunts }
         ensures taken { IfOk result (IsTakenUp (hunt_of self.old.hunts.items actor) target.now) }
+        ensures memory { OnErr result (IsUnbegun (hunt_of self.old.hunts.items actor) target.now) }
         ensures forgets { Forgets actor self.old self.new }
     {
         let kept = self.hunts[actor as usize].take();

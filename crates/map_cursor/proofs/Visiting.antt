@@ -1,5 +1,5 @@
 -- A visit of a place and of the places below it.
-use Rattle.std.proofs.Common.{◌≡◌, inl, inr, ◌≤◌, ◌<◌, ◌+◌, ◌-◌, ◌&&◌, ℕ, zero, suc, Bool, true, false, is_none, List, [], ◌∷◌, ◌++◌}
+use Rattle.std.proofs.Common.{◌≡◌, inl, inr, ◌≤◌, ◌<◌, ◌+◌, ◌-◌, ◌&&◌, ◌||◌, ◌==◌, ℕ, zero, suc, Bool, true, false, is_none, List, [], ◌∷◌, ◌++◌}
 use Rattle.std.proofs.Common.{length, IsTrue, Option, None, Some, Result, Ok, Err, IsErr, IsErrAnd, IfErr, refl, sym, ap, ◌∙◌, subst}
 use Rattle.std.proofs.Common.{arith, length-append}
 use Rattle.std.proofs.lemmas.Bool.{cond-true, cond-false, and_from}
@@ -9,11 +9,11 @@ use Rattle.std.specs.List.{range_with_len, slice_index_or, AllByRecursion}
 use Rattle.ledger_spec.specs.declared.Kind.{Kind}
 use Rattle.ledger_spec.specs.declared.ShapeFault.{ShapeFault}
 use Rattle.ledger_spec.specs.declared.ShapeFault.TheVariants.{Foreign}
-use Rattle.ledger_spec.specs.Bytes.{Hash, Half, Lookup, Items, zero_hash, branches, same_bytes}
+use Rattle.ledger_spec.specs.Bytes.{Hash, Half, Lookup, Items, zero_hash, is_zero, branches, same_bytes}
 use Rattle.ledger_spec.specs.Forms.{Held, inner, leaf, header, hash_of}
 use Rattle.ledger_spec.specs.Rules.{fault_of}
 use Rattle.ledger_spec.specs.Reads.{inner_hashes}
-use Rattle.ledger_spec.specs.Pages.{Heard, said, wants, wrong, Reading, go_on, followed_by, in_turn, said_by, is_skipped, page_from}
+use Rattle.ledger_spec.specs.Pages.{Heard, said, wants, wrong, Reading, go_on, followed_by, in_turn, said_by, is_skipped, is_passed, page_from}
 use Rattle.ledger_spec.specs.Pages.{IsStoredNode}
 use Rattle.tree_laws.proofs.Orders.{all_append}
 use Rattle.tree_laws.proofs.Shapes.{above_bottom}
@@ -344,6 +344,14 @@ reading_is half kind after hashes path below b h up place hash =
     ap (λ l. page_from half kind after l (Some hashes) below h) level
     ∙ ap (λ q. page_from half kind after (63 - length path) (Some hashes) q h) place
     ∙ ap (page_from half kind after (63 - length path) (Some hashes) (path ++ b ∷ [])) hash
+
+or_true : (t : Bool) → (t || true) ≡ true
+or_true true = refl
+or_true false = refl
+
+-- an empty branch is skipped
+pub zero_skipped : (after : Hash) (path : List ℕ) (h : Hash) (n : ℕ) → is_zero h ≡ true → true ≡ is_skipped after path h n
+zero_skipped after path h n empty = sym (ap (λ z. (n == 0) || (z || is_passed after path)) empty ∙ or_true (n == 0))
 
 -- the test of what is skipped, by the leaves that the page has
 pub skip_is : (t r : Bool) (after : Hash) (path : List ℕ) (h : Hash) (most len : ℕ) (leaves : List (Arc Node Global)) → r ≡ t

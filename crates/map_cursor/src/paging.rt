@@ -1,8 +1,8 @@
 //! A page and what it holds.
 ghost use Rattle.std.specs.Prelude.{◌≡◌, [], IfErr, IfOk, OnOk};
 ghost use Rattle.ledger_spec.specs.Pages.{is_behind};
-ghost use Rattle.shamap_node.specs.Nodes.{held, held_leaf};
-ghost use Rattle.path_proof.specs.Paths.{hashes_kept};
+ghost use Rattle.ledger_spec.specs.Reads.{inner_hashes};
+ghost use Rattle.shamap_node.specs.Nodes.{held, held_leaf, hashes_above};
 ghost use Rattle.map_cursor.specs.Shown.{shown, entry_of, HasFurther, Takes};
 
 use half_hash::Hash32;
@@ -30,28 +30,30 @@ impl Page {
         }
     }
 
-    // Adds a node, which is a further leaf of the page where its key is behind this one. The inner node
-    // is handed back, if it is one.
-    pub(crate) fn take(
-        &mut self,
-        node: Arc<Node>,
-        after: &Hash32,
-    ) -> Result<Option<Inner>, ReadFault>
-        ensures taken { IfOk result (λ below. Takes after.now (held node.value) (shown self.old) (shown self.new) (hashes_kept below)) }
+    // Adds a node, which is a further leaf of the page where its key is behind this one.
+    pub(crate) fn take(&mut self, node: &Arc<Node>, after: &Hash32) -> Result<(), ReadFault>
+        ensures taken { OnOk result (Takes after.now (held node.now.value) (shown self.old) (shown self.new)
+            (inner_hashes (held node.now.value))) }
         ensures further { OnOk result (HasFurther after.now self.old → HasFurther after.now self.new) }
         ensures memory { IfErr result (λ fault. fault ≡ ReadFault.Memory) }
     {
-        let below = match &*node {
-            Node::Inner(inner) => Some(*inner),
-            Node::Leaf(leaf) => {
-                if comes_behind(leaf, after) {
-                    self.leaves.push(another(&node)?)?;
-                }
-                None
+        if let Node::Leaf(leaf) = &**node {
+            if comes_behind(leaf, after) {
+                self.leaves.push(another(node)?)?;
             }
-        };
-        self.used.push(node)?;
-        Ok(below)
+        }
+        self.used.push(another(node)?)?;
+        Ok(())
+    }
+}
+
+// The inner node that it is, if it is one.
+pub(crate) fn inner_in(node: &Arc<Node>) -> Option<&Inner>
+    ensures { hashes_above result ≡ inner_hashes (held node.now.value) }
+{
+    match &**node {
+        Node::Inner(inner) => Some(inner),
+        Node::Leaf(_) => None,
     }
 }
 

@@ -10,6 +10,7 @@ ghost use Rattle.map_cursor.specs.Shown.{shown, HasFurther};
 ghost use Rattle.map_cursor.specs.Visits.{Visits, branch_reading};
 
 use crate::Page;
+use crate::paging::inner_in;
 use half_hash::{Hash32, NodeHash};
 use nib_path::NodeId;
 use path_proof::{NodeSource, ReadFault, known_key, node_at};
@@ -73,10 +74,12 @@ pub(crate) fn visit<H: NodeHash, S: NodeSource<H>>(
     }
     id.known();
     let node = node_at::<H, S>(alloc, source, query.kind, parent, id, wanted)?;
-    match page.take(node, &query.after)? {
-        None => Ok(()),
-        Some(inner) => Ok(visit_branches::<H, S>(alloc, source, query, &inner, id, page)?),
-    }
+    page.take(&node, &query.after)?;
+    let Some(inner) = inner_in(&node) else {
+        return Ok(());
+    };
+    visit_branches::<H, S>(alloc, source, query, inner, id, page)?;
+    Ok(())
 }
 
 // Adds what is found below an inner node.
@@ -100,18 +103,39 @@ fn visit_branches<H: NodeHash, S: NodeSource<H>>(
     ensures later { S.faults source.old ≤ S.faults source.new }
 {
     for b in 0..16u8 {
-        let Some(below) = id.child(b) else {
-            unreachable!();
-        };
-        visit::<H, S>(
-            alloc,
-            source,
-            query,
-            Some(inner),
-            &below,
-            &inner.branch(b),
-            page,
-        )?;
+        visit_branch::<H, S>(alloc, source, query, inner, id, b, page)?;
     }
     Ok(())
+}
+
+// Adds what is found below a branch of an inner node.
+#[cycle(visits)]
+fn visit_branch<H: NodeHash, S: NodeSource<H>>(
+    alloc: Global,
+    source: &mut S,
+    query: &Query,
+    inner: &Inner,
+    id: &NodeId,
+    b: u8,
+    page: &mut Page,
+) -> Result<(), ReadFault>
+    requires levels { length id.now < 64 }
+    requires branch { b < 16 }
+    ensures visited { Visits H.half query.now.kind S.tells (map.get (S.stored source.old))
+        (branch_reading H.half query.now.kind query.now.after (63 - length id.now) inner.now.hashes id.now b)
+        query.now.most (shown page.old) (shown page.new) result }
+    ensures further { OnOk result (HasFurther query.now.after page.old → HasFurther query.now.after page.new) }
+    ensures fault { IfErr result (λ fault. fault ≡ ReadFault.Fault → Rose (S.faults source.old) (S.faults source.new)) }
+    ensures same { IsTrue S.tells → S.stored source.new ≡ S.stored source.old }
+    ensures rest { S.rest source.new ≡ S.rest source.old }
+    ensures later { S.faults source.old ≤ S.faults source.new }
+{
+    let wanted = inner.branch(b);
+    if wanted.is_zero() {
+        return Ok(());
+    }
+    let Some(below) = id.child(b) else {
+        unreachable!();
+    };
+    visit::<H, S>(alloc, source, query, Some(inner), &below, &wanted, page)
 }

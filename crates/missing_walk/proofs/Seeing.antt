@@ -32,11 +32,8 @@ use Rattle.tree_cache.proofs.Using.{cached_is, still_cached, cached_more}
 use Rattle.tree_laws.specs.Walks.{at_place}
 use Rattle.tree_laws.proofs.Sights.{Sees, sees_sound}
 use Rattle.tree_laws.proofs.Below.{below_zero}
-use Rattle.missing_walk.specs.declared.sight.Sight.{Sight as Look}
-use Rattle.missing_walk.specs.declared.sight.Sight.TheVariants as look
 use Rattle.missing_walk.specs.declared.view.View.{View}
 use Rattle.missing_walk.specs.declared.view.View.TheVariants as view
-use Rattle.missing_walk.specs.Sees.{LooksAs}
 use Rattle.missing_walk.specs.Pending.{Pending, branches_in, placed, FoundAs, kids_of, kids_from, IsHeldAt, IsFull}
 use Rattle.missing_walk.specs.Pending.{IsCachedTrue}
 use Rattle.missing_walk.specs.Views.{Tells, ShowsAs, Views, KeepsMarks, KeepsCache, MayPut}
@@ -54,20 +51,20 @@ tells_after tells half s s' nodes read t = record {
 test_own : (n : ℕ) → (n == n) ≡ true
 test_own n = grind (arith, nat_tests)
 
-pub may_put : (r : Result Bool Memory) (c c' : TreeCache) (h : Hash) (i : Inner) (g : ℕ) (node : Arc Node Global)
-    → node.value ≡ variant.Inner i
-    → g ≡ c.generation → OnOk r (c' ≡ (if g == c.generation then after_put c h node else c)) → OnErr r (c' ≡ c) → MayPut c h i c'
-may_put (Ok b) c c' h i g node is same ok err =
+pub may_put : (r : Result Bool Memory) (c c' : TreeCache) (h : Hash) (n : Node) (g : ℕ) (node : Arc Node Global)
+    → node.value ≡ n
+    → g ≡ c.generation → OnOk r (c' ≡ (if g == c.generation then after_put c h node else c)) → OnErr r (c' ≡ c) → MayPut c h n c'
+may_put (Ok b) c c' h n g node is same ok err =
     inr (node, is, ok ∙ ap (λ t. if t then after_put c h node else c) (ap (λ k. k == c.generation) same ∙ test_own c.generation))
-may_put (Err e) c c' h i g node is same ok err = inl err
+may_put (Err e) c c' h n g node is same ok err = inl err
 
 module _ (half : Half) (nodes : Lookup) where
-  pub put_keeps : (c c' : TreeCache) (h : Hash) (i : Inner) → MayPut c h i c' → IsHeldAt half nodes h (inner i.hashes)
+  pub put_keeps : (c c' : TreeCache) (h : Hash) (n : Node) → MayPut c h n c' → IsHeldAt half nodes h (held n)
       → KeepsCache (IsCachedTrue half nodes) c c'
-  put_keeps c c' h i (inl same) at = record { entries = λ all. subst (AreCached (IsCachedTrue half nodes)) (sym same) all }
-  put_keeps c c' h i (inr put) at = record {
+  put_keeps c c' h n (inl same) at = record { entries = λ all. subst (AreCached (IsCachedTrue half nodes)) (sym same) all }
+  put_keeps c c' h n (inr put) at = record {
     entries = λ all. subst (AreCached (IsCachedTrue half nodes)) (sym put.2)
-        (cached_more (IsCachedTrue half nodes) c h all put.0 (subst (λ n. IsHeldAt half nodes h (held n)) (sym put.1) at));
+        (cached_more (IsCachedTrue half nodes) c h all put.0 (subst (λ x. IsHeldAt half nodes h (held x)) (sym put.1) at));
   }
 
   pub same_keeps : (c c' : TreeCache) → c' ≡ c → KeepsCache (IsCachedTrue half nodes) c c'
@@ -139,17 +136,24 @@ module _ (half : Half) (nodes : Lookup) where
       views_from p v nonzero short (subst (ShowsAs v) (held_seen p.kind p.parent p.path p.hash (held node.value) at) shows)
 
   -- what the store was asked for, told by these nodes
-  pub looked : (tells : Bool) (s : Store) (kind : Kind) (parent : Option (List Hash)) (path : List ℕ) (h : Hash) (l : Look)
+  pub looked : (tells : Bool) (s : Store) (kind : Kind) (parent : Option (List Hash)) (path : List ℕ) (h : Hash) (v : View)
       → Tells tells half s nodes
-      → (IsReadable tells half s → LooksAs l (sight_of half (λ n. fault_of n parent kind path) (own_forms half (map.get (nodes_of s)) h)))
-      → LooksAs l (at_place half nodes kind parent path h)
-  looked tells s kind parent path h l t f =
-      subst (λ (n : Lookup). LooksAs l (sight_of half (λ x. fault_of x parent kind path) (n h))) t.same (f t.readable)
+      → (IsReadable tells half s → ShowsAs v (sight_of half (λ n. fault_of n parent kind path) (own_forms half (map.get (nodes_of s)) h)))
+      → ShowsAs v (at_place half nodes kind parent path h)
+  looked tells s kind parent path h v t f =
+      subst (λ (n : Lookup). ShowsAs v (sight_of half (λ x. fault_of x parent kind path) (n h))) t.same (f t.readable)
 
-  pub inner_held : (kind : Kind) (parent : Option (List Hash)) (path : List ℕ) (h : Hash) (l : Look) (i : Inner) → l ≡ look.Inner i
-      → LooksAs l (at_place half nodes kind parent path h) → IsHeldAt half nodes h (inner i.hashes)
-  inner_held kind parent path h l i e shows =
-      sound_held kind parent path h (inner i.hashes) (subst (λ x. LooksAs x (at_place half nodes kind parent path h)) e shows)
+  node_held : (node : Node) (hashes : List Hash) → branches_in node ≡ Some hashes → held node ≡ inner hashes
+  node_held (variant.Inner i) hashes is = let e : i.hashes ≡ hashes = cc in ap inner e
+  node_held (variant.Leaf l) hashes is = cc
+
+  pub inner_held : (kind : Kind) (parent : Option (List Hash)) (path : List ℕ) (h : Hash) (v : View) (node : Arc Node Global)
+      → v ≡ view.Below node → ShowsAs v (at_place half nodes kind parent path h) → IsHeldAt half nodes h (held node.value)
+  inner_held kind parent path h v node e shows =
+      let seen : ShowsAs (view.Below node) (at_place half nodes kind parent path h) =
+      subst (λ x. ShowsAs x (at_place half nodes kind parent path h)) e shows in
+      subst (IsHeldAt half nodes h) (sym (node_held node.value seen.hashes seen.inner_node))
+      (sound_held kind parent path h (inner seen.hashes) seen.seen)
 
 -- a mark that is used
 pub use_keeps : (m m' : Marks) (key : MarkKey) → m' ≡ after_use m key → KeepsMarks m m'

@@ -11,9 +11,10 @@ use Rattle.ledger_spec.specs.Findings.{Sight, missing, broken, sound, Met, sight
 use Rattle.ledger_spec.specs.Findings.{finding_at}
 use Rattle.std.proofs.lemmas.Bool.Decides.{nat_tests}
 use Rattle.ledger_spec.specs.Rules.{fault_of}
-use Rattle.missing_walk.specs.Sees.{is_sound_leaf, LooksAs, HasBelow}
-use Rattle.missing_walk.specs.declared.sight.Sight.{Sight as Look}
-use Rattle.missing_walk.specs.declared.sight.Sight.TheVariants as look
+use Rattle.missing_walk.specs.Sees.{is_sound_leaf}
+use Rattle.missing_walk.specs.Views.{ShowsAs, HasLevels}
+use Rattle.missing_walk.specs.declared.view.View.{View}
+use Rattle.missing_walk.specs.declared.view.View.TheVariants as view
 
 pub leaf_end : (sight : Sight) (place : Rattle.ledger_spec.specs.declared.Place.Place) → is_sound_leaf sight ≡ true
     → cons_option (finding_at place sight) [] ≡ []
@@ -48,13 +49,13 @@ no_fault true fault e = cc
 no_fault false fault e = refl
 
 -- an inner node that belongs there has levels below it
-pub has_below : (half : Half) (kind : Kind) (parent : Option (List Hash)) (path : List ℕ) (form : Option Bytes) (seen : Look)
-    → LooksAs seen (sight_of half (λ n. fault_of n parent kind path) form) → HasBelow (length path) seen
-has_below half kind parent path form look.Missing shown = tt
-has_below half kind parent path form (look.Broken fault) shown = tt
-has_below half kind parent path form (look.Inner i) shown =
-    no_fault (length path == 64) InnerAtBottom (sight_pass half (λ n. fault_of n parent kind path) form (inner i.hashes) shown)
-has_below half kind parent path form look.Leaf shown = tt
+pub has_levels : (half : Half) (kind : Kind) (parent : Option (List Hash)) (path : List ℕ) (form : Option Bytes) (seen : View)
+    → ShowsAs seen (sight_of half (λ n. fault_of n parent kind path) form) → HasLevels (length path) seen
+has_levels half kind parent path form view.Missing shown = tt
+has_levels half kind parent path form (view.Broken fault) shown = tt
+has_levels half kind parent path form (view.Below node) shown =
+    no_fault (length path == 64) InnerAtBottom (sight_pass half (λ n. fault_of n parent kind path) form (inner shown.hashes) shown.seen)
+has_levels half kind parent path form view.Nothing shown = tt
 
 pub above_bottom : (n : ℕ) → n ≤ 64 → (n == 64) ≡ false → n < 64
 above_bottom n h e = grind (arith, nat_tests)

@@ -17,8 +17,6 @@ use Rattle.ledger_spec.specs.Findings.{Sight, missing, broken, sound, walk_map, 
 use Rattle.ledger_spec.specs.Findings.{missing_of, first_broken, seen}
 use Rattle.tree_laws.specs.Walks.{finding_of}
 use Rattle.missing_walk.specs.declared.Found.{Found}
-use Rattle.missing_walk.specs.declared.sight.Sight.{Sight as Look}
-use Rattle.missing_walk.specs.declared.sight.Sight.TheVariants as look
 
 -- the missing places so far, and the broken place that ended the search
 pub record Seen : Type 0 where
@@ -71,18 +69,6 @@ without_data n = n
 abbrev pub is_sound_leaf : Sight → Bool
 is_sound_leaf (sound (leaf kind key bytes)) = true
 is_sound_leaf _ = false
-
--- what the code says of a sight; it keeps no leaf
-abbrev pub LooksAs : Look → Sight → Type 0
-LooksAs look.Missing s = s ≡ missing
-LooksAs (look.Broken fault) s = s ≡ broken fault
-LooksAs (look.Inner i) s = s ≡ sound (inner i.hashes)
-LooksAs look.Leaf s = is_sound_leaf s ≡ true
-
--- an inner node that belongs there has levels below it
-abbrev pub HasBelow : ℕ → Look → Type 0
-HasBelow depth (look.Inner i) = (depth == 64) ≡ false
-HasBelow depth _ = Unit {0}
 
 -- the findings in the two maps that a header names
 unfoldable pub found_in_maps : Half → Lookup → Bytes → List Finding

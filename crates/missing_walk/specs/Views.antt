@@ -74,6 +74,6 @@ pub record KeepsMarks (m m' : Marks) : Type 0 where
 pub record KeepsCache (P : Hash → Node → Type 0) (c c' : TreeCache) : Type 0 where
   pub entries : AreCached P c → AreCached P c'
 
--- as before, or with this inner node put under the hash
-abbrev pub MayPut : TreeCache → Hash → Inner → TreeCache → Type 0
-MayPut c h i c' = (c' ≡ c) ⊎ ((node : Arc Node Global) × (node.value ≡ nodes.Inner i) × (c' ≡ after_put c h node))
+-- as before, or with this node put under the hash
+abbrev pub MayPut : TreeCache → Hash → Node → TreeCache → Type 0
+MayPut c h n c' = (c' ≡ c) ⊎ ((node : Arc Node Global) × (node.value ≡ n) × (c' ≡ after_put c h node))

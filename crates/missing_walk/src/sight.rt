@@ -15,8 +15,11 @@ ghost use Rattle.ledger_spec.specs.Forms.{leaf, leaf_prefix, data_limit, keyed_l
 ghost use Rattle.ledger_spec.specs.Rules.{fault_of};
 ghost use Rattle.ledger_spec.specs.Findings.{seen_as, judged, held_of, sight_of, sound as belongs};
 ghost use Rattle.shamap_node.specs.Nodes.{held, held_leaf, hashes_above};
-ghost use Rattle.missing_walk.specs.Sees.{LooksAs, HasBelow, without_data};
+ghost use Rattle.shamap_node.specs.declared.Node.TheVariants as nodes;
+ghost use Rattle.missing_walk.specs.Sees.{without_data};
+ghost use Rattle.missing_walk.specs.Views.{ShowsAs, HasLevels, is_inner_node};
 
+use crate::view::View;
 use half_hash::{Blob, Hash32, NodeHash, Prefix};
 use ledger_header::Header;
 use ledger_spec::{Kind, ShapeFault};
@@ -26,16 +29,10 @@ use own_forms::own_form;
 use rotating_store::RotStore;
 use shamap_node::{DATA_LIMIT, Inner, Item, Leaf, Node, inner_of, shape};
 use std::alloc::Global;
+use std::sync::Arc;
 
-/// What is seen at a place: its hash isn't stored, it breaks a rule, or it holds what belongs there.
-pub(crate) enum Sight {
-    Missing,
-    Broken(ShapeFault),
-    Inner(Inner),
-    Leaf,
-}
-
-/// What is seen at a place below this parent, in a map of this kind, at this path.
+/// What is seen at a place below this parent, in a map of this kind, at this path. Where it is an inner node that belongs there, that
+/// takes the memory of one node.
 pub(crate) fn look<H: NodeHash, Sh: Shelf>(
     alloc: Global,
     store: &mut RotStore<Sh>,
@@ -43,59 +40,91 @@ pub(crate) fn look<H: NodeHash, Sh: Shelf>(
     parent: Option<&Inner>,
     id: &NodeId,
     hash: &Hash32,
-) -> Result<Sight, BackFault>
-    ensures sight { IsReadable Sh.B.tells H.half store.old → IfOk result (λ s. LooksAs s (sight_of H.half
+) -> Result<View, BackFault>
+    ensures sight { IsReadable Sh.B.tells H.half store.old → IfOk result (λ v. ShowsAs v (sight_of H.half
         (λ n. fault_of n (hashes_above parent.entry) kind id.now) (own_forms H.half (map.get (nodes_of store.old)) hash.now))) }
-    ensures inner { IfOk result (HasBelow (length id.now)) }
+    ensures levels { IfOk result (HasLevels (length id.now)) }
     ensures read { WasRead Sh.B.tells H.half store.old store.new }
     ensures few { store.new.gets ≤ store.old.gets + 2 }
     ensures fault { IfErr result (λ e. e ≡ BackFault.Fault → Rose store.old.faults store.new.faults) }
 {
     match own_form::<H, Sh>(alloc, store, hash)? {
-        Some(form) => Ok(judge::<H>(alloc, form.bytes(), kind, parent, id)),
-        None => Ok(Sight::Missing),
+        Some(form) => Ok(judge::<H>(alloc, form.bytes(), kind, parent, id)?),
+        None => Ok(View::Missing),
     }
 }
 
-// What is seen where this form is stored. It takes no memory: the allocator is that of the empty data of a leaf.
+// What is seen where this form is stored. A leaf takes no memory: the allocator is that of its empty data.
 fn judge<H: NodeHash>(
     alloc: Global,
     form: &[u8],
     kind: Kind,
     parent: Option<&Inner>,
     id: &NodeId,
-) -> Sight
-    ensures { LooksAs result (judged (λ n. fault_of n (hashes_above parent.entry) kind id.now) (held_of H.half form.now)) }
+) -> Result<View, BackFault>
+    ensures shows { IfOk result (λ v.
+        ShowsAs v (judged (λ n. fault_of n (hashes_above parent.entry) kind id.now) (held_of H.half form.now))) }
+    ensures memory { IfErr result (λ e. e ≡ BackFault.Memory) }
 {
     if let Some(inner) = inner_of(form) {
-        return judge_node(&Node::Inner(inner), kind, parent, id);
+        let node = shared(alloc, inner)?;
+        return Ok(judge_node(node, kind, parent, id));
     }
     if Header::from_form(form).is_some() {
-        return Sight::Broken(ShapeFault::Foreign);
+        return Ok(View::Broken(ShapeFault::Foreign));
     }
     match leaf_in::<H>(alloc, form) {
-        Some(leaf) => judge_node(&Node::Leaf(leaf), kind, parent, id),
-        None => Sight::Broken(ShapeFault::Foreign),
+        Some(leaf) => Ok(judge_leaf(leaf, kind, parent, id)),
+        None => Ok(View::Broken(ShapeFault::Foreign)),
     }
 }
 
-// What is seen where this node stands.
-fn judge_node(node: &Node, kind: Kind, parent: Option<&Inner>, id: &NodeId) -> Sight
-    ensures { LooksAs result (seen_as (held node.now) (fault_of (held node.now) (hashes_above parent.entry) kind id.now)) }
+// The inner node, to be shared.
+fn shared(alloc: Global, inner: Inner) -> Result<Arc<Node>, BackFault>
+    ensures node { IfOk result (λ node. node.value ≡ nodes.Inner inner) }
+    ensures memory { IfErr result (λ e. e ≡ BackFault.Memory) }
 {
-    match shape(node, parent, kind, id) {
-        Ok(()) => sound(node),
-        Err(fault) => Sight::Broken(fault),
+    match Arc::new(alloc, Node::Inner(inner)) {
+        Ok(node) => Ok(node),
+        Err(_) => Err(BackFault::Memory),
+    }
+}
+
+/// What is seen where this node stands.
+pub(crate) fn judge_node(node: Arc<Node>, kind: Kind, parent: Option<&Inner>, id: &NodeId) -> View
+    ensures shows { ShowsAs result (seen_as (held node.value) (fault_of (held node.value) (hashes_above parent.entry) kind id.now)) }
+    ensures levels { HasLevels (length id.now) result }
+{
+    match shape(&node, parent, kind, id) {
+        Ok(()) => below_or_nothing(node),
+        Err(fault) => View::Broken(fault),
     }
 }
 
 // What is seen where this node belongs.
-fn sound(node: &Node) -> Sight
-    ensures { LooksAs result (belongs (held node.now)) }
+fn below_or_nothing(node: Arc<Node>) -> View
+    ensures { ShowsAs result (belongs (held node.value)) }
 {
-    match node {
-        Node::Inner(inner) => Sight::Inner(*inner),
-        Node::Leaf(_) => Sight::Leaf,
+    if is_inner(&node) {
+        View::Below(node)
+    } else {
+        View::Nothing
+    }
+}
+
+fn is_inner(node: &Node) -> bool
+    ensures { result ≡ is_inner_node node.now }
+{
+    matches!(node, Node::Inner(_))
+}
+
+// What is seen where this leaf stands.
+fn judge_leaf(leaf: Leaf, kind: Kind, parent: Option<&Inner>, id: &NodeId) -> View
+    ensures { ShowsAs result (seen_as (held_leaf leaf) (fault_of (held_leaf leaf) (hashes_above parent.entry) kind id.now)) }
+{
+    match shape(&Node::Leaf(leaf), parent, kind, id) {
+        Ok(()) => View::Nothing,
+        Err(fault) => View::Broken(fault),
     }
 }
 

@@ -15,14 +15,14 @@ ghost use Rattle.missing_walk.specs.Views.{Tells, Views, ShowsAs, KeepsMarks, Ke
 ghost use Rattle.missing_walk.specs.Rests.{weight, stored_weight, Weighs};
 ghost use Rattle.shamap_node.specs.declared.Node.TheVariants as nodes;
 
-use crate::sight::{Sight, look};
+use crate::sight::{judge_node, look};
 use crate::todo::Todo;
 use full_below::Marks;
 use half_hash::{Hash32, NodeHash};
 use ledger_spec::ShapeFault;
 use node_backend::{BackFault, Shelf};
 use rotating_store::RotStore;
-use shamap_node::{Inner, Node, shape};
+use shamap_node::{Inner, Node};
 use std::alloc::Global;
 use std::sync::Arc;
 use tree_cache::TreeCache;
@@ -72,7 +72,7 @@ pub(crate) fn see<H: NodeHash, Sh: Shelf>(
         return Ok(View::Nothing);
     }
     match cached(cache, &todo.at.hash)? {
-        Some(node) => Ok(judge(node, todo)),
+        Some(node) => Ok(judge_node(node, todo.at.kind, inner_above(&todo.parent), &todo.at.id)),
         None => Ok(fetch::<H, Sh>(alloc, store, cache, todo)?),
     }
 }
@@ -89,35 +89,6 @@ fn cached(cache: &mut TreeCache, h: &Hash32) -> Result<Option<Arc<Node>>, BackFa
         Ok(node) => Ok(node),
         Err(_) => Err(BackFault::Memory),
     }
-}
-
-// What is seen where this node stands.
-fn judge(node: Arc<Node>, todo: &Todo) -> View
-    ensures shows { ShowsAs result (seen_as (held node.value)
-        (fault_of (held node.value) (above todo.now.parent) todo.now.at.kind todo.now.at.id)) }
-    ensures levels { HasLevels (length todo.now.at.id) result }
-{
-    match shape(&node, inner_above(&todo.parent), todo.at.kind, &todo.at.id) {
-        Ok(()) => below_or_nothing(node),
-        Err(fault) => View::Broken(fault),
-    }
-}
-
-// What is seen where this node belongs.
-fn below_or_nothing(node: Arc<Node>) -> View
-    ensures { ShowsAs result (sound_node (held node.value)) }
-{
-    if is_inner(&node) {
-        View::Below(node)
-    } else {
-        View::Nothing
-    }
-}
-
-fn is_inner(node: &Node) -> bool
-    ensures { result ≡ is_inner_node node.now }
-{
-    matches!(node, Node::Inner(_))
 }
 
 // The inner node above a place.
@@ -165,28 +136,18 @@ fn fetch<H: NodeHash, Sh: Shelf>(
         &todo.at.id,
         &todo.at.hash,
     )? {
-        Sight::Missing => Ok(View::Missing),
-        Sight::Broken(fault) => Ok(View::Broken(fault)),
-        Sight::Inner(inner) => Ok(View::Below(keep(alloc, cache, &todo.at.hash, inner)?)),
-        Sight::Leaf => Ok(View::Nothing),
+        View::Below(node) => Ok(View::Below(keep(cache, &todo.at.hash, node)?)),
+        other => Ok(other),
     }
 }
 
 // The inner node that is held under the hash, put into the cache where memory for that is there.
-fn keep(
-    alloc: Global,
-    cache: &mut TreeCache,
-    h: &Hash32,
-    inner: Inner,
-) -> Result<Arc<Node>, BackFault>
-    ensures node { IfOk result (λ node. node.value ≡ nodes.Inner inner) }
-    ensures cache { MayPut cache.old h.now inner cache.new }
+fn keep(cache: &mut TreeCache, h: &Hash32, node: Arc<Node>) -> Result<Arc<Node>, BackFault>
+    ensures node { IfOk result (λ kept. kept.value ≡ node.value) }
+    ensures cache { MayPut cache.old h.now node.value cache.new }
     ensures generation { cache.new.generation ≡ cache.old.generation }
     ensures fault { IfErr result (λ e. e ≡ BackFault.Memory) }
 {
-    let Ok(node) = Arc::new(alloc, Node::Inner(inner)) else {
-        return Err(BackFault::Memory);
-    };
     let Ok(again) = Arc::try_clone(&node) else {
         return Err(BackFault::Memory);
     };

@@ -14,8 +14,8 @@ use Rattle.ledger_spec.specs.Bytes.{Bytes, Hash, Half, Lookup, Nodes, zero_hash}
 use Rattle.ledger_spec.specs.Spots as way
 use Rattle.ledger_spec.specs.Spots.{spot_from, spot_of, spot_below, header_in, header_root}
 use Rattle.ledger_spec.specs.Forms.{inner_of}
-use Rattle.node_offer.specs.declared.spots.Spot.{Spot}
-use Rattle.node_offer.specs.Ways.{spot, step_down, step_of}
+use Rattle.node_offer.specs.declared.spots.Block.{Block}
+use Rattle.node_offer.specs.Ways.{blocked, step_down, step_of}
 
 -- the nibbles of a place's ID are its path, and zeros
 id_nibbles : (path : List ℕ) → IsPath path → nibbles (id_of path) ≡ path ++ replicate (64 - length path) 0
@@ -74,15 +74,15 @@ goes_on nodes path key d n parent h next at form total is lt id before nibble br
     by (Some hashes) one down = through hashes (same_Some next (slice_index_or hashes n zero_hash) one) down
 
 -- what stands in the way there
-pub ends : (nodes : Lookup) (path key : List ℕ) (d : ℕ) (parent : Option (List Hash)) (h : Hash) (at : List ℕ) (s : Spot) (total : way.Spot)
+pub ends : (nodes : Lookup) (path key : List ℕ) (d : ℕ) (parent : Option (List Hash)) (h : Hash) (at : List ℕ) (b : Block) (total : way.Spot)
     → IsPath path → d < length path → key ≡ id_of path → at ≡ take d (nibbles key)
-    → ((on : List Hash → way.Spot) → step_of (Err s) on ≡ step_down at on h (nodes h))
-    → spot_from nodes (take d path) parent h (drop d path) ≡ total → spot s ≡ total
-ends nodes path key d parent h at s total is lt id before step so_far =
-    walk_on nodes path d parent h at (λ on. spot s) total lt (before ∙ ap (λ k. take d (nibbles k)) id ∙ at_is path d is lt) step so_far
+    → ((on : List Hash → way.Spot) → step_of (Err b) on ≡ step_down at on h (nodes h))
+    → spot_from nodes (take d path) parent h (drop d path) ≡ total → blocked b ≡ total
+ends nodes path key d parent h at b total is lt id before step so_far =
+    walk_on nodes path d parent h at (λ on. blocked b) total lt (before ∙ ap (λ k. take d (nibbles k)) id ∙ at_is path d is lt) step so_far
 
 -- a step over the store as it was read on the way
-pub step_at : (half : Half) (n n' : Nodes) (at : List ℕ) (h : Hash) (r r' : Result Bytes Spot) → n' ≡ n → r ≡ r'
+pub step_at : (half : Half) (n n' : Nodes) (at : List ℕ) (h : Hash) (r r' : Result Bytes Block) → n' ≡ n → r ≡ r'
     → ((on : List Hash → way.Spot) → step_of r on ≡ step_down at on h (own_forms half (map.get n') h))
     → (on : List Hash → way.Spot) → step_of r' on ≡ step_down at on h (own_forms half (map.get n) h)
 step_at half n n' at h r r' same is step =

@@ -15,6 +15,8 @@ use Rattle.node_offer.specs.declared.store.Stored.{Stored}
 use Rattle.node_offer.specs.declared.store.Stored.TheVariants as stored
 use Rattle.node_offer.specs.declared.spots.Spot.{Spot}
 use Rattle.node_offer.specs.declared.spots.Spot.TheVariants as spots
+use Rattle.node_offer.specs.declared.spots.Block.{Block}
+use Rattle.node_offer.specs.declared.spots.Block.TheVariants as blocks
 
 -- the branches of the inner node above, if there is one
 abbrev pub hashes_of_parent : Option Inner → Option (List Hash)
@@ -28,19 +30,25 @@ spot (spots.NoParent path) = way.no_parent path
 spot (spots.EmptyBranch path) = way.empty_branch path
 spot (spots.UnderLeaf path) = way.under_leaf path
 
+-- a place behind what stands in the way
+abbrev pub blocked : Block → way.Spot
+blocked (blocks.NoParent path) = way.no_parent path
+blocked (blocks.EmptyBranch path) = way.empty_branch path
+blocked (blocks.UnderLeaf path) = way.under_leaf path
+
 -- one level down from a place with this hash, given what is stored under it
 abbrev pub step_down : List ℕ → (List Hash → way.Spot) → Hash → Option Bytes → way.Spot
 step_down path on h form = if is_zero h then way.empty_branch path else into path on form
 
 -- the same, from the form of the inner node there, or what stands in the way
-abbrev pub step_of : Result Bytes Spot → (List Hash → way.Spot) → way.Spot
+abbrev pub step_of : Result Bytes Block → (List Hash → way.Spot) → way.Spot
 step_of (Ok form) on = option_map_or on (inner_of form) way.no_base
-step_of (Err s) on = spot s
+step_of (Err b) on = blocked b
 
 -- a form there is an inner node's
-abbrev pub HasInner : Result Bytes Spot → Type 0
+abbrev pub HasInner : Result Bytes Block → Type 0
 HasInner (Ok form) = IsTrue (is_some (inner_of form))
-HasInner (Err s) = Unit {0}
+HasInner (Err b) = Unit {0}
 
 -- what became of a node that was to have this hash, and the rule that it breaks
 abbrev pub offered_as : Hash → Option ShapeFault → Stored → Offered

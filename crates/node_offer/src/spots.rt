@@ -11,7 +11,7 @@ ghost use Rattle.ledger_spec.specs.Own.{own_forms};
 ghost use Rattle.rotating_store.specs.Stores.{nodes_of};
 ghost use Rattle.own_forms.specs.Reading.{WasRead, IsReadable};
 ghost use Rattle.node_offer.specs.Stored.{IsPlain};
-ghost use Rattle.node_offer.specs.Ways.{hashes_of_parent, spot, step_down, step_of, HasInner};
+ghost use Rattle.node_offer.specs.Ways.{hashes_of_parent, spot, blocked, step_down, step_of, HasInner};
 
 use crate::fault::OfferFault;
 use half_hash::{Blob, Hash32, NodeHash};
@@ -36,6 +36,30 @@ pub enum Spot {
     EmptyBranch(NodeId),
     /// What is stored at this place, which lies on the way, is no inner node.
     UnderLeaf(NodeId),
+}
+
+/// What stands in the way to a place.
+#[derive(Clone, Copy)]
+pub(crate) enum Block {
+    /// No node is stored at this place.
+    NoParent(NodeId),
+    /// The map has nothing at this place.
+    EmptyBranch(NodeId),
+    /// What is stored at this place is no inner node.
+    UnderLeaf(NodeId),
+}
+
+impl Block {
+    // What a place behind it is.
+    fn spot(self) -> Spot
+        ensures { spot result ≡ blocked self }
+    {
+        match self {
+            Block::NoParent(at) => Spot::NoParent(at),
+            Block::EmptyBranch(at) => Spot::EmptyBranch(at),
+            Block::UnderLeaf(at) => Spot::UnderLeaf(at),
+        }
+    }
 }
 
 /// What the place is, by the nodes that are held. The first thing in the way, from the root on, is the answer. It asks each backend
@@ -116,7 +140,7 @@ fn walk<H: NodeHash, Sh: Shelf>(
                 hash = inner_branch(form.bytes(), nibble(&key, depth));
                 parent = Some(form);
             }
-            Err(spot) => return Ok(spot),
+            Err(block) => return Ok(block.spot()),
         }
     }
     if hash.is_zero() {
@@ -144,7 +168,7 @@ fn step<H: NodeHash, Sh: Shelf>(
     store: &mut RotStore<Sh>,
     hash: &Hash32,
     at: NodeId,
-) -> Result<Result<Blob, Spot>, BackFault>
+) -> Result<Result<Blob, Block>, BackFault>
     ensures step { IsReadable Sh.B.tells H.half store.old → IfOk result (λ s. (on : List Hash → way.Spot)
         → step_of s on ≡ step_down at on hash.now (own_forms H.half (map.get (nodes_of store.old)) hash.now)) }
     ensures inner { IfOk result HasInner }
@@ -153,22 +177,22 @@ fn step<H: NodeHash, Sh: Shelf>(
     ensures fault { IfErr result (λ e. e ≡ BackFault.Fault → Rose store.old.faults store.new.faults) }
 {
     if hash.is_zero() {
-        return Ok(Err(Spot::EmptyBranch(at)));
+        return Ok(Err(Block::EmptyBranch(at)));
     }
     match own_form::<H, Sh>(alloc, store, hash)? {
-        None => Ok(Err(Spot::NoParent(at))),
+        None => Ok(Err(Block::NoParent(at))),
         Some(form) => Ok(inner_at(form, at)),
     }
 }
 
 // The form, which is held at this place, where it is an inner node's, or what stands in the way there.
-fn inner_at(form: Blob, at: NodeId) -> Result<Blob, Spot>
+fn inner_at(form: Blob, at: NodeId) -> Result<Blob, Block>
     ensures way { (on : List Hash → way.Spot) → step_of result on ≡ option_map_or on (inner_form form) (way.under_leaf at) }
     ensures inner { HasInner result }
 {
     if is_inner_form(form.bytes()) {
         Ok(form)
     } else {
-        Err(Spot::UnderLeaf(at))
+        Err(Block::UnderLeaf(at))
     }
 }

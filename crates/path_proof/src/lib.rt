@@ -14,6 +14,7 @@ pub use forms::node_of_form;
 pub use laws::a_whole_map_is_read;
 pub use reading::{Answer, ReadFault, node_at, read};
 pub use source::{FetchFault, NoSource, NodeSource};
+pub use way::{Progress, Reading};
 
 /// What a path says of its key.
 #[derive(Clone, Copy, Debug, PartialEq, Eq)]

@@ -21,14 +21,14 @@ use std::sync::Arc;
 
 /// A read on its way: the place to which it came, and the nodes that lead there, root first.
 #[derive(Drop)]
-pub(crate) struct Reading {
+pub struct Reading {
     pub(crate) place: Waypoint,
     pub(crate) used: Vec<Arc<Node>>,
 }
 
 /// What a read comes to with one node more.
 #[derive(Drop)]
-pub(crate) enum Progress {
+pub enum Progress {
     /// It goes on below that node.
     More(Reading),
     /// It ends with it.
@@ -37,7 +37,7 @@ pub(crate) enum Progress {
 
 impl Reading {
     /// A read that is at a root, whose hash isn't zero.
-    pub(crate) fn at_root(alloc: Global, root: &Hash32) -> Reading
+    pub fn at_root(alloc: Global, root: &Hash32) -> Reading
         ensures { (half : List ℕ → List ℕ) (kind : Kind) (key : List ℕ) (tells : Bool) (nodes : Lookup) → is_zero root.now ≡ false
             → IsOnWay half kind root.now key tells nodes result }
     {
@@ -48,14 +48,14 @@ impl Reading {
     }
 
     /// The hash of the node that it wants.
-    pub(crate) fn wanted(&self) -> &Hash32
+    pub fn wanted(&self) -> &Hash32
         ensures { result.now ≡ wanted_by self.now }
     {
         &self.place.wanted
     }
 
     /// Goes on by what a source gave for the hash that was wanted.
-    pub(crate) fn go_on<H: NodeHash>(
+    pub fn go_on<H: NodeHash>(
         self,
         fetched: Result<Option<Arc<Node>>, FetchFault>,
         kind: Kind,

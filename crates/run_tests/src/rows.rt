@@ -19,7 +19,7 @@ use std::thread::Threads;
 
 /// What fails alone, the status that it gives, and how many calls of it two rotations with a dump make: the source, the sink, the shelf,
 /// and the backends in the order in which they are made.
-const DEVICES: [(u8, u64); 7] = [(4, 7), (5, 27), (6, 4), (6, 9), (6, 47), (6, 23), (6, 7)];
+const DEVICES: [(u8, u64); 7] = [(4, 7), (5, 27), (6, 4), (6, 9), (6, 48), (6, 23), (6, 7)];
 
 /// The calls of the shelf in that script: two open the store, and in each rotation one makes a backend and one drops the old one, which may
 /// fail. The status where the call fails, and what is printed of its rotation.

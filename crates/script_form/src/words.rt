@@ -83,9 +83,14 @@ pub(crate) fn count(word: &[u8], most: u64) -> Option<u64>
 pub fn hash_word(word: &[u8]) -> Option<Hash32>
     ensures { MatchOption result ((hash : List ℕ) → IsHexOf word.now hash → ⊥) (IsHexOf word.now) }
 {
-    match Hash32::from_hex(word) {
-        Ok(hash) => Some(hash),
-        Err(_) => None,
+    if word.len() != 64 {
+        return None;
+    }
+    let mut bytes = [0; 32];
+    if hex_digits::decode_to_slice(word, &mut bytes) {
+        Some(Hash32 { bytes })
+    } else {
+        None
     }
 }
 
@@ -105,10 +110,11 @@ pub(crate) fn id_text(word: &[u8]) -> Option<[u8; 33]>
         return None;
     }
     let mut bytes = [0; 33];
-    if hex::decode_to_slice(word, &mut bytes).is_err() {
-        return None;
+    if hex_digits::decode_to_slice(word, &mut bytes) {
+        Some(bytes)
+    } else {
+        None
     }
-    Some(bytes)
 }
 
 /// The kind of a ledger's map.

@@ -18,7 +18,9 @@ use Rattle.ledger_machine.specs.State.{State}
 use Rattle.ledger_machine.specs.Rotation.{begin_given, begin_reply, after_begin}
 use Rattle.ledger_machine.specs.Steps.{IsAfter}
 use Rattle.store_core.specs.Desks.{state_of}
-use Rattle.store_core.specs.Telling.{begin_told, BeginsBy}
+use Rattle.store_core.specs.Telling.{begin_told, BeginsBy, CountsFrom}
+use Rattle.ledger_machine.specs.declared.commands.Command.TheVariants as command
+use Rattle.ledger_machine.specs.declared.replies.Reply.TheVariants as says
 use Rattle.store_core.proofs.States.{same_shaded}
 
 -- a filtered list isn't longer
@@ -72,6 +74,13 @@ module _ (st : Store) (wanted : ForHash Acquiring) (views : ForActor Hash) (b : 
     )
     begin_few begun.NotDue after = omega (arith, ap (λ (x : Retention). length x.listed) after.0)
     begin_few begun.Busy after = omega (arith, ap (λ (x : Retention). length x.listed) after.0)
+
+    -- no slice of it was done
+    pub begin_counts : (reply : Begun) → AfterBegin b targets r reply b' r'
+        → CountsFrom command.Begin (says.Begin (begin_told reply)) r.slices r'.slices
+    begin_counts (begun.Begun seq floor) after = after.1.none_sliced
+    begin_counts begun.NotDue after = ap (λ (x : Turning). x.slices) after.1
+    begin_counts begun.Busy after = ap (λ (x : Turning). x.slices) after.1
 
     pub begin_after : (reply : Begun) → reply ≡ begun_by r.turning (due b) b.last → AfterBegin b targets r reply b' r'
         → IsAfter (after_begin s (begin_told reply)) s'

@@ -1,5 +1,5 @@
 -- A check searches by what searches share, and other commands leave that.
-use Rattle.std.proofs.Common.{◌≡◌, ◌⊎◌, inr, ⊎_elim, ℕ, suc, ◌+◌, ◌≤◌, Bool, true, IsTrue, List, [], length, Option}
+use Rattle.std.proofs.Common.{◌≡◌, ◌⊎◌, ⊎_elim, ℕ, suc, ◌+◌, ◌≤◌, Bool, IsTrue, List, [], length, Option}
 use Rattle.std.proofs.Common.{None, Some, IfSome, IsNone, IsSome, IsSomeAnd, refl, sym, ap, ◌∙◌, subst, arith}
 use Rattle.std.specs.Prelude.{slice_set}
 use Rattle.std.proofs.lemmas.List.{length-set, set-get_or, set-set}
@@ -39,15 +39,11 @@ use Rattle.ledger_machine.specs.Steps.{Step, Swaps, Does, Refused, Outcomes, IsA
 use Rattle.ledger_laws.proofs.Stored.{Goes, on, begun, swapped, row_goes}
 use Rattle.ledger_laws.proofs.SoundForms.{with_forms_grow, in_nothing}
 use Rattle.ledger_laws.proofs.SoundSteps.{outcome_cases}
-use Rattle.store_core.specs.Benches.{IsOfSessions}
-use Rattle.store_core.specs.Desks.{Desk}
-use Rattle.store_core.specs.Refusals.{IsRefusal, search_refusal}
-use Rattle.store_core.specs.Telling.{IsSlice}
-use Rattle.store_core.specs.declared.acquiring.Sought.TheVariants as sought
+use Rattle.store_core.specs.Refusals.{search_refusal}
 use Rattle.store_core.specs.declared.rotating.Part.{Part}
 use Rattle.store_core.specs.declared.rotating.Part.TheVariants as parts
-use Rattle.store_core.specs.Checking.{AreKept, AsksFew, AsksNothing, ChecksByMarks, HasFound, IsNoCheck, IsOpen, IsSliced, IsSought}
-use Rattle.store_core.specs.Checking.{KeepsSearches, LeavesSearch, SearchesBy, Shares, TurnsBy, sought_by}
+use Rattle.store_core.specs.Checking.{AreKept, AsksNothing, ChecksByMarks, HasFound, IsNoCheck, IsOpen, IsSought}
+use Rattle.store_core.specs.Checking.{KeepsSearches, LeavesMarks, LeavesSearch, SearchesBy, Shares, TurnsBy, sought_by}
 use Rattle.store_core.proofs.Tables.{IsOver, filed_over}
 
 -- what a state's store tells
@@ -209,6 +205,23 @@ module _ (half : Half) (told : Bool) (s s' : State) (a : ℕ) (c : Command) (use
   keeps_on reply journal journal' x turns step k same young more = record {
     kept = rule_on reply turns step k;
     young = omega (arith, generation_on reply turns, same, young, more);
+  }
+
+  -- what an entry leaves of the marks
+  pub marks_left : (reply : Reply) (x : Searches) → TurnsBy reply a x' x'' → x'.marks.generation ≡ x.marks.generation
+      → (IsNoCheck c → x' ≡ x) → LeavesMarks c reply x.marks x''.marks
+  marks_left (says.Swap (swaps.Swapped epoch)) x turns same idle = record {
+    turned = λ _. (
+      omega (arith, turns.turns.generation, ap (λ (m : Marks). m.generation) turns.forgets.marks, same),
+      turns.turns.marks,
+    );
+    stays = λ none. absurd (none tt);
+    idle = λ none other. absurd (none tt);
+  }
+  marks_left reply x turns same idle = record {
+    turned = λ is. absurd is;
+    stays = λ none. ap (λ (m : Marks). m.generation) turns.marks ∙ same;
+    idle = λ none other. turns.marks ∙ ap (λ (y : Searches). y.marks) (idle other);
   }
 
   -- the searches of the other actors are as they were, and none of this one is kept

@@ -110,15 +110,20 @@ fault_or_none (says.Close r) = inr refl
 fault_or_none (says.Begin r) = inr refl
 fault_or_none (says.Swap r) = inr refl
 
--- a count that rises with each fault bounds the faults; it never passes the last value of a u64
-bound_more : (es : List Entry) (e : Entry) (missed opened now now' : ℕ) → RoseBy (faults_in es + missed) opened now → now ≤ now'
-    → (e.reply ≡ says.Fault → Rose now now') → RoseBy (faults_in (es ++ e ∷ []) + missed) opened now'
-bound_more es e missed opened now now' (inr top) later cause = inr (omega arith)
-bound_more es e missed opened now now' (inl b) later cause =
+-- a count that rises with each fault bounds the faults; it never passes the last value of a u64. A fault that stood apart may be the
+-- entry's
+pub bound_more : (es : List Entry) (e : Entry) (apart apart' opened now now' : ℕ) → RoseBy (faults_in es + apart) opened now → now ≤ now'
+    → apart' ≤ apart → (e.reply ≡ says.Fault → Rose now now' ⊎ (suc apart' ≤ apart))
+    → RoseBy (faults_in (es ++ e ∷ []) + apart') opened now'
+bound_more es e apart apart' opened now now' (inr top) later fewer cause = inr (omega arith)
+bound_more es e apart apart' opened now now' (inl b) later fewer cause =
     elim (fault_or_none e.reply) [
       | inl is ↦ elim (cause is) [
-        | inl rose ↦ inl (omega (arith, faults_push es e, ap fault_count is))
-        | inr top ↦ inr (omega (arith, top))
+        | inl rise ↦ elim rise [
+          | inl rose ↦ inl (omega (arith, faults_push es e, ap fault_count is))
+          | inr top ↦ inr (omega (arith, top))
+        ]
+        | inr less ↦ inl (omega (arith, faults_push es e, ap fault_count is, less))
       ]
       | inr none ↦ inl (omega (arith, faults_push es e, none))
     ]
@@ -144,7 +149,7 @@ answers half lines s s' line e from at next is number _ step =
 
 module _ (half : Half) (records : List Record) (lines : List Line) (cursors : List ℕ) (journal : List Entry) (capacity interval : ℕ)
     (told : Bool)
-    (opened now missed : ℕ) (s : State) (k : CoreKeeps half records lines cursors journal capacity interval told opened now missed s) where
+    (opened now apart : ℕ) (s : State) (k : CoreKeeps half records lines cursors journal capacity interval told opened now apart s) where
   at_most : (a : ℕ) → a < 64 → part (λ e. e.actor) journal a ≤ part (λ l. l.actor) lines a
   at_most a lt =
       omega (arith, answered_part a journal, numbers_part a lines, ap length (k.done a lt), numbers-take-le a (slice_index cursors a) lines)
@@ -233,7 +238,7 @@ module _ (half : Half) (records : List Record) (lines : List Line) (cursors : Li
   -- a cursor may go on to a place before which the actor has no further line
   pub kept_moved : (a at : ℕ) → a < 64 → at ≤ length lines
       → numbers_of a (take at lines) ≡ numbers_of a (take (slice_index cursors a) lines)
-      → CoreKeeps half records lines (set cursors a at) journal capacity interval told opened now missed s
+      → CoreKeeps half records lines (set cursors a at) journal capacity interval told opened now apart s
   kept_moved a at lt within none = record {
     run = k.run;
     sound = k.sound;
@@ -267,7 +272,7 @@ module _ (half : Half) (records : List Record) (lines : List Line) (cursors : Li
 
   -- a slice leaves what is kept: the state is as it was, but for where forms lie
   pub kept_sliced : (s' : State) (now' : ℕ) → (IsTrue told → s' ≡ s) → KeepsRest s s' → now ≤ now'
-      → CoreKeeps half records lines cursors journal capacity interval told opened now' missed s'
+      → CoreKeeps half records lines cursors journal capacity interval told opened now' apart s'
   kept_sliced s' now' same rest later = record {
     run = λ t. subst (IsRunOf half records lines interval journal) (sym (same t)) (k.run t);
     sound = λ t. subst (Sound half) (sym (same t)) (k.sound t);
@@ -283,7 +288,7 @@ module _ (half : Half) (records : List Record) (lines : List Line) (cursors : Li
     recorded = k.recorded;
     room = k.room;
     since = omega (arith, k.since, later);
-    fault_bound = rose_by_later (faults_in journal + missed) opened now now' later k.fault_bound;
+    fault_bound = rose_by_later (faults_in journal + apart) opened now now' later k.fault_bound;
   }
 
   module _ (a at : ℕ) (lt : a < 64) (next : IsNext lines (slice_index cursors a) a at) (line : Line)
@@ -325,13 +330,13 @@ module _ (half : Half) (records : List Record) (lines : List Line) (cursors : Li
         let P : Line → Type 0 = λ x. x.after ≢ 0 → is_answered journal x.after ≡ true in
         inr (subst P same free waits)
 
-    pub kept_step : (e : Entry) (s' : State) (c now' : ℕ) → e.line ≡ line.number → e.actor ≡ a
+    pub kept_step : (e : Entry) (s' : State) (c now' apart' : ℕ) → e.line ≡ line.number → e.actor ≡ a
         → (line.after ≢ 0 → is_answered journal line.after ≡ true) → (IsTrue told → Step half s e.actor line.command e.reply (used_by e) s')
         → (IsTrue told → Sound half s') → (IsTrue told → AreTold s') → length s'.listed ≤ suc (length s.listed)
         → s'.epoch ≤ suc s.epoch → capacity ≤ c → now ≤ now'
-        → (e.reply ≡ says.Fault → Rose now now')
-        → CoreKeeps half records lines (set cursors a (at + 1)) (journal ++ e ∷ []) c interval told opened now' missed s'
-    kept_step e s' c now' number actor free step sound roots few ages more later cause = record {
+        → apart' ≤ apart → (e.reply ≡ says.Fault → Rose now now' ⊎ (suc apart' ≤ apart))
+        → CoreKeeps half records lines (set cursors a (at + 1)) (journal ++ e ∷ []) c interval told opened now' apart' s'
+    kept_step e s' c now' apart' number actor free step sound roots few ages more later fewer cause = record {
       sound = sound;
       roots = roots;
       listed_few = omega (arith, few, k.listed_few, length-append journal (e ∷ []));
@@ -373,7 +378,7 @@ module _ (half : Half) (records : List Record) (lines : List Line) (cursors : Li
       recorded = k.recorded;
       room = omega (arith, k.room);
       since = omega (arith, k.since, later);
-      fault_bound = bound_more journal e missed opened now now' k.fault_bound later cause;
+      fault_bound = bound_more journal e apart apart' opened now now' k.fault_bound later fewer cause;
     }
       where
         one : (e : Entry) → e.actor < 64 → All (λ (x : Entry). x.actor < 64) (e ∷ [])
@@ -381,10 +386,10 @@ module _ (half : Half) (records : List Record) (lines : List Line) (cursors : Li
         one e l (suc i) d in_it = absurd (omega arith)
 
   -- a section that answers no line
-  pub kept_listed : (s' : State) (now' missed' : ℕ) → (IsTrue told → s' ≡ s) → s'.listed ≡ s.listed → s'.epoch ≡ s.epoch → now ≤ now'
-      → RoseBy (faults_in journal + missed') opened now'
-      → CoreKeeps half records lines cursors journal capacity interval told opened now' missed' s'
-  kept_listed s' now' missed' same unlisted age later bound = record {
+  pub kept_listed : (s' : State) (now' apart' : ℕ) → (IsTrue told → s' ≡ s) → s'.listed ≡ s.listed → s'.epoch ≡ s.epoch → now ≤ now'
+      → RoseBy (faults_in journal + apart') opened now'
+      → CoreKeeps half records lines cursors journal capacity interval told opened now' apart' s'
+  kept_listed s' now' apart' same unlisted age later bound = record {
     run = λ t. subst (λ (x : State). IsRunOf half records lines interval journal x) (sym (same t)) (k.run t);
     sound = λ t. subst (Sound half) (sym (same t)) (k.sound t);
     roots = λ t. subst AreTold (sym (same t)) (k.roots t);
@@ -470,14 +475,14 @@ numbers_none : (a : ℕ) (lines : List Line) (n : ℕ) → n ≡ 0 → numbers_o
 numbers_none a lines n e = ap (λ (k : ℕ). numbers_of a (take k lines)) e
 
 pub kept_open : (half : Half) (records : List Record) (lines : List Line) (cursors : List ℕ) (journal : List Entry) (capacity interval : ℕ)
-    (told : Bool) (opened now : ℕ) (s : State)
+    (told : Bool) (opened now apart : ℕ) (s : State) → apart ≡ 0
     → journal ≡ [] → length cursors ≡ 64 → ((a : ℕ) → a < 64 → slice_index cursors a ≡ 0) → AreServable lines → AreRecords half records
     → length lines ≤ capacity → opened ≡ now → s.listed ≡ [] → s.turning ≡ None → s.epoch ≡ 0
     → (IsTrue told → s ≡ opening_of records interval)
-    → CoreKeeps half records lines cursors journal capacity interval told opened now 0 s
-kept_open half records lines cursors journal capacity interval told opened now s none size start_at servable recorded room same unlisted
+    → CoreKeeps half records lines cursors journal capacity interval told opened now apart s
+kept_open half records lines cursors journal capacity interval told opened now apart s nothing none size start_at servable recorded room same unlisted
     idle age start =
-    let P : List Entry → Type 0 = λ j. CoreKeeps half records lines cursors j capacity interval told opened now 0 s in
+    let P : List Entry → Type 0 = λ j. CoreKeeps half records lines cursors j capacity interval told opened now apart s in
     subst P (sym none) (record {
       run = start;
       sound = λ t. subst (Sound half) (sym (start t)) (records_are_sound half records interval recorded);
@@ -493,10 +498,17 @@ kept_open half records lines cursors journal capacity interval told opened now s
       recorded = recorded;
       room = room;
       since = omega (arith, same);
-      fault_bound = inl (omega (arith, same));
+      fault_bound = inl (omega (arith, same, nothing));
     })
 
 -- a count that stands at 0 has met no fault
 pub none_failed : (n : ℕ) → RoseBy n 0 0 → n ≡ 0
 none_failed n (inl few) = omega arith
 none_failed n (inr top) = absurd (omega arith)
+
+-- a fault that stands apart, too
+pub apart_more : (n apart apart' opened now now' : ℕ) → RoseBy (n + apart) opened now → now ≤ now' → apart' ≤ suc apart → Rose now now'
+    → RoseBy (n + apart') opened now'
+apart_more n apart apart' opened now now' (inr top) later few rose = inr (omega arith)
+apart_more n apart apart' opened now now' (inl b) later few (inl rose) = inl (omega (arith, few))
+apart_more n apart apart' opened now now' (inl b) later few (inr top) = inr (omega (arith, top))

@@ -34,3 +34,9 @@ pub mod Rotations
 pub mod Besides
 pub mod Refusing
 pub mod Sections
+pub mod Failing
+pub mod Sighting
+pub mod Pinning
+pub mod Serving
+pub mod Asking
+pub mod Handing

@@ -23,12 +23,15 @@ use Rattle.online_rotate.specs.Rotators.{Turning, AfterFinish, slices_after}
 use Rattle.online_rotate.specs.Copying.{CopiesNothing}
 use Rattle.ledger_machine.specs.declared.commands.Command.{Command}
 use Rattle.ledger_machine.specs.declared.commands.Command.TheVariants as command
+use Rattle.ledger_machine.specs.declared.replies.Reply.{Reply}
+use Rattle.ledger_machine.specs.declared.replies.Reply.TheVariants as says
+use Rattle.ledger_machine.specs.declared.replies.BeginReply.TheVariants as begins
 use Rattle.ledger_machine.specs.State.{State}
 use Rattle.store_core.specs.Journal.{CoreView}
 use Rattle.store_core.specs.Journal as journal
 use Rattle.store_core.specs.Benches.{with_open}
 use Rattle.store_core.specs.Desks.{Desk, Grows, KeepsRest, backs, behind, desk_of}
-use Rattle.store_core.specs.Telling.{CountsSlice, CopiesBy, CopiesFew, most_copied, most_slices, slice_told}
+use Rattle.store_core.specs.Telling.{CountsFrom, CountsSlice, CopiesBy, CopiesFew, most_copied, most_slices, slice_told}
 use Rattle.std.specs.Prelude.{List, slice_set}
 use Rattle.full_below.specs.declared.marks.Marks.{Marks}
 use Rattle.ledger_machine.specs.Runs.{next_line}
@@ -69,6 +72,16 @@ pub copies_by : (c : Command) (d d' : Desk) → (c ≡ command.Swap → ⊥) →
 copies_by command.Swap d d' other same = absurd (other refl)
 copies_by command.Begin d d' other same = same
 copies_by c d d' other same = same
+
+-- a command that begins no rotation leaves the count of slices
+pub steady_counts : (c : Command) (reply : Reply) (n n' : ℕ) → (c ≡ command.Begin → ⊥) → n' ≡ n → CountsFrom c reply n n'
+steady_counts command.Begin reply n n' other same = absurd (other refl)
+steady_counts c reply n n' other same = same
+
+-- and no entry raises it
+pub counts_fewer : (c : Command) (reply : Reply) (n n' : ℕ) → CountsFrom c reply n n' → n' ≤ n
+counts_fewer command.Begin (says.Begin (begins.Begun seq floor)) n n' counts = omega (arith, counts)
+counts_fewer c reply n n' counts = omega (arith, counts)
 
 -- what grows behind a slice
 module _ (d m e : Desk) (rest : KeepsRest d.state m.state) (later : d.faults ≤ m.faults) where
@@ -205,8 +218,9 @@ pub record CutBy (half : Half) (told : Bool) (a : ℕ) (c : Command) (part : Par
       → new.slices ≡ d'.slices → new.marks ≡ x'.marks → new.hunts ≡ x'.hunts.items → journal.IsSliceOf half told old a c new
 
 pub slice_of : (half : Half) (told : Bool) (a : ℕ) (c : Command) (part : Part) (d : Desk) (x : Searches) (d' : Desk) (x' : Searches)
-    → LeavesOthers a x x' → IsSliced half told a c part d x d' x' → CutBy half told a c part d x d' x'
-slice_of half told a command.Swap part d x d' x' others is = record {
+    → LeavesOthers a x x' → x'.marks.generation ≡ x.marks.generation → IsSliced half told a c part d x d' x'
+    → CutBy half told a c part d x d' x'
+slice_of half told a command.Swap part d x d' x' others same is = record {
   cut = is.0.cut;
   slice = λ old new s0 n0 m0 h0 n1 m1 h1. (
     omega (arith, n0, n1, is.0.counted),
@@ -215,13 +229,14 @@ slice_of half told a command.Swap part d x d' x' others is = record {
     h1 ∙ ap (λ (y : Searches). y.hunts.items) is.1 ∙ sym h0,
   );
 }
-slice_of half told a (command.Check t) part d x d' x' others is = record {
+slice_of half told a (command.Check t) part d x d' x' others same is = record {
   cut = is.0;
   slice = λ old new s0 n0 m0 h0 n1 m1 h1. (
     omega (arith, n0, n1, is.1),
+    ap (λ (m : Marks). m.generation) m1 ∙ same ∙ sym (ap (λ (m : Marks). m.generation) m0),
     h1 ∙ others ∙ (λ i. slice_set (sym h0 i) a (hunt_of (sym h1 i) a)),
     λ tells. subst (λ (y : State × List (Option Hunt) × Marks × List (Option Hunt)).
         SlicesSearch half y.0 t (hunt_of y.1 a) y.2 (hunt_of y.3 a)) (λ i. (sym s0 i, sym h0 i, sym m0 i, sym h1 i)) (is.2 tells),
   );
 }
-slice_of half told a c part d x d' x' others is = absurd is
+slice_of half told a c part d x d' x' others same is = absurd is

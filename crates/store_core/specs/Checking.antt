@@ -1,5 +1,5 @@
 -- What a section leaves of what searches share, and what a check asks of the store.
-use Rattle.std.specs.Prelude.{◌≡◌, ◌⊎◌, ◌+◌, ◌≤◌, ℕ, Bool, IsTrue, true, List, length, Option, None, Some, IfSome, IsSomeAnd}
+use Rattle.std.specs.Prelude.{◌≡◌, ◌⊎◌, ◌+◌, ◌≤◌, ℕ, Bool, IsTrue, true, List, [], length, Option, None, Some, IfSome, IsSomeAnd}
 use Rattle.std.specs.Bool.{⊤}
 use Rattle.ledger_spec.specs.Bytes.{Hash, Half}
 use Rattle.ledger_spec.specs.Findings.{Whole}
@@ -105,7 +105,7 @@ IsNoCheck _ = ⊤
 -- A section that leaves its command for another one: a slice of a swap leaves what searches share, and one of a check is as said above.
 abbrev pub IsSliced : Half → Bool → ℕ → Command → Part → Desk → Searches → Desk → Searches → Type 0
 IsSliced half told a command.Swap part d x d' x' = IsSlice command.Swap part d d' × (x' ≡ x)
-IsSliced half told a (command.Check t) part d x d' x' = (part ≡ parts.Slice) × (d'.slices ≤ d.slices)
+IsSliced half told a (command.Check t) part d x d' x' = (part ≡ parts.Slice) × (d'.slices ≡ d.slices)
     × (IsTrue told → SlicesSearch half d.state t (hunt_of x.hunts.items a) x.marks (hunt_of x'.hunts.items a))
 IsSliced half told a _ part d x d' x' = ⊥
 
@@ -118,6 +118,18 @@ pub record ForgetsAndTurns (a : ℕ) (x x' : Searches) : Type 0 where
 abbrev pub TurnsBy : Reply → ℕ → Searches → Searches → Type 0
 TurnsBy (says.Swap (swaps.Swapped epoch)) a x x' = ForgetsAndTurns a x x'
 TurnsBy reply a x x' = Forgets a x x'
+
+-- the answer of a swap that was done
+abbrev pub IsSwapped : Reply → Type 0
+IsSwapped (says.Swap (swaps.Swapped epoch)) = ⊤
+IsSwapped _ = ⊥
+
+-- What an entry leaves of the marks: behind a swap that was done the next generation begins, in which nothing is marked; behind every other
+-- entry the generation is the same, and the marks of a command that is no check are.
+pub record LeavesMarks (c : Command) (reply : Reply) (m m' : Marks) : Type 0 where
+  pub turned : IsSwapped reply → (m'.generation ≡ m.generation + 1) × (m'.entries.entries ≡ [])
+  pub stays : (IsSwapped reply → ⊥) → m'.generation ≡ m.generation
+  pub idle : (IsSwapped reply → ⊥) → IsNoCheck c → m' ≡ m
 
 -- what the core keeps of it: no more generations have ended than the core has entries
 pub record KeepsSearches (half : Half) (told : Bool) (s : State) (journal : List Entry) (x : Searches) : Type 0 where

@@ -72,7 +72,7 @@ pub record Stays (d d' : Desk) : Type 0 where
   pub later : d.faults ≤ d'.faults
   pub listed : d'.state.listed ≡ d.state.listed
   pub epoch : d'.state.epoch ≡ d.state.epoch
-  pub slices : d'.slices ≤ d.slices
+  pub slices : d'.slices ≡ d.slices
 
 -- and one that lists a ledger at most, and ends an epoch at most
 pub record Grows (d d' : Desk) : Type 0 where
@@ -88,6 +88,6 @@ KeepsRest s s' = s' ≡ record s { nodes = s'.nodes; born = s'.born; shaded = s'
 pub record OnlyReads (told : Bool) (d d' : Desk) : Type 0 where
   pub state : IsTrue told → d'.state ≡ d.state
   pub copies : IsTrue told → backs d' ≡ backs d
-  pub slices : d'.slices ≤ d.slices
+  pub slices : d'.slices ≡ d.slices
   pub tables : d'.state ≡ record d.state { nodes = d'.state.nodes; born = d'.state.born }
   pub later : d.faults ≤ d'.faults

@@ -10,7 +10,7 @@ use Rattle.ledger_machine.specs.declared.commands.Record.{Record}
 use Rattle.node_backend.specs.Counts.{held_sum}
 use Rattle.store_core.specs.declared.store.OpenFault.{OpenFault}
 use Rattle.store_core.specs.declared.store.OpenFault.TheVariants as faults
-use Rattle.store_core.specs.Journal.{CoreView}
+use Rattle.store_core.specs.Journal.{CoreView, CopiesAFew}
 
 -- a hash comes after another one, where there is one
 abbrev pub comes_after : Option Hash → Hash → Bool
@@ -60,8 +60,8 @@ abbrev pub GivenAfter : Option Hash → Hash → Option Hash → Type 0
 GivenAfter after h None = IsAfter after h → ⊥
 GivenAfter after h (Some given) = (given ≡ h) × Follows after given
 
--- A call for a stored record: what a core was opened with, its journal and its state are as before, but that a store that doesn't tell
--- what it holds may hold anything.
+-- A call that only reads: what a core was opened with, its journal, its state, its views, its marks and its searches are as before, but
+-- that a store that doesn't tell what it holds may hold anything. Nothing is copied.
 pub record Lists (told : Bool) (old new : CoreView) : Type 0 where
   pub records : new.records ≡ old.records
   pub lines : new.lines ≡ old.lines
@@ -71,6 +71,11 @@ pub record Lists (told : Bool) (old new : CoreView) : Type 0 where
   pub later : old.faults ≤ new.faults
   pub state : IsTrue told → new.state ≡ old.state
   pub tables : new.state ≡ record old.state { nodes = new.state.nodes; born = new.state.born }
+  pub views : new.views ≡ old.views
+  pub marks : new.marks ≡ old.marks
+  pub hunts : new.hunts ≡ old.hunts
+  pub copies : IsTrue told → CopiesAFew old new
+  pub slices : new.slices ≡ old.slices
 
 -- each fault of such a call is missed; the count holds at its last value
 abbrev pub missed_after : Result (Option Record) OpenFault → ℕ → ℕ

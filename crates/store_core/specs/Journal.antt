@@ -28,14 +28,19 @@ use Rattle.script_form.specs.Servable.{AreServable}
 use Rattle.full_below.specs.declared.marks.Marks.{Marks}
 use Rattle.ledger_searches.specs.declared.hunt.Hunt.{Hunt}
 use Rattle.ledger_searches.specs.Hunting.{hunt_of}
-use Rattle.store_core.specs.Checking.{AsksFew, SearchesBy, SlicesSearch}
+use Rattle.store_core.specs.Checking.{AsksFew, LeavesMarks, SearchesBy, SlicesSearch}
 use Rattle.store_core.specs.Desks.{KeepsRest}
+use Rattle.store_core.specs.Failing.{without}
+use Rattle.store_core.specs.Halls.{AreViews}
+use Rattle.store_core.specs.declared.jobs.View.{View}
+use Rattle.ledger_spec.specs.Maps.{ForActor}
 use Rattle.store_core.specs.Refusals.{IsRefusal}
-use Rattle.store_core.specs.Telling.{AreTold, most_slices, most_copied}
+use Rattle.store_core.specs.Telling.{AreTold, CountsFrom, most_slices, most_copied}
 
 -- what contracts see of a core: its script's records and lines, the interval, the store's count of faults at opening and now and its count
 -- of gets, how many slices of the rotation under way left something to copy, what the writable backend and the archive hold, the marks of
--- what was found whole, the search that each actor's check has begun, how many calls for a stored record failed, the journal, and the state
+-- what was found whole, the search that each actor's check has begun, how many calls for a stored record failed, the actors whose fetch
+-- failed since their last entry, the journal, the state, and the open views with the headers of their ledgers
 pub record CoreView : Type 0 where
   pub records : List Record
   pub lines : List Line
@@ -49,8 +54,10 @@ pub record CoreView : Type 0 where
   pub marks : Marks
   pub hunts : List (Option Hunt)
   pub missed : ℕ
+  pub failed : List ℕ
   pub journal : List Entry
   pub state : State
+  pub views : ForActor View
 
 -- a core of this script that has answered nothing and missed nothing
 pub record IsNew (script : List Record) (asked : List Line) (every : ℕ) (c : CoreView) : Type 0 where
@@ -59,6 +66,11 @@ pub record IsNew (script : List Record) (asked : List Line) (every : ℕ) (c : C
   pub interval : c.interval ≡ every
   pub journal : c.journal ≡ []
   pub missed : c.missed ≡ 0
+  pub failed : c.failed ≡ []
+  pub views : c.views ≡ []
+  pub slices : c.slices ≡ 0
+  pub marks : c.marks.entries.entries ≡ []
+  pub hunts : (a : ℕ) → hunt_of c.hunts a ≡ None
 
 -- how many entries answered `fault`
 abbrev pub fault_count : Reply → ℕ
@@ -77,9 +89,10 @@ RoseBy n before now = (before + n ≤ now) ⊎ (2 ^ 64 - 1 ≤ now)
 -- the rotation under way; no more ledgers are listed, and no more epochs have ended, than it has entries; each actor's cursor stands
 -- behind the lines that it has answered, and no entry before that of the line
 -- that it waits for; the journal has room for an entry of each line; the store's count of faults isn't below that at opening; and each
--- `fault`, and each call for a stored record that failed, has a rise of the count of its own.
+-- `fault` has a rise of the count of its own, and so has each of those faults that stand apart: calls for a stored record that failed, and
+-- actors whose fetch did.
 pub record CoreKeeps (half : Half) (records : List Record) (lines : List Line) (cursors : List ℕ) (journal : List Entry)
-    (capacity interval : ℕ) (told : Bool) (opened now missed : ℕ) (state : State) : Type 0 where
+    (capacity interval : ℕ) (told : Bool) (opened now apart : ℕ) (state : State) : Type 0 where
   pub run : IsTrue told → IsRunOf half records lines interval journal state
   pub sound : IsTrue told → Sound half state
   pub roots : IsTrue told → AreTold state
@@ -94,11 +107,11 @@ pub record CoreKeeps (half : Half) (records : List Record) (lines : List Line) (
   pub recorded : AreRecords half records
   pub room : length lines ≤ capacity
   pub since : opened ≤ now
-  pub fault_bound : RoseBy (faults_in journal + missed) opened now
+  pub fault_bound : RoseBy (faults_in journal + apart) opened now
 
--- One entry more, for this actor's next line and by a step of it. The store's count of faults never falls, and the entry answers `fault`
--- only where the count rose in this very section.
-pub record Advances (half : Half) (told : Bool) (old : CoreView) (a : ℕ) (new : CoreView) : Type 0 where
+-- One entry more, for this actor's next line and by a step of it. The store's count of faults never falls, no failed fetch of the actor
+-- stands behind it, and the entry answers `fault` only for this cause.
+pub record AdvancesFor (half : Half) (told : Bool) (Cause : Type 0) (old : CoreView) (a : ℕ) (new : CoreView) : Type 0 where
   pub entry : Entry
   pub line : Line
   -- it is the actor's next line, and the actor's entry
@@ -112,9 +125,10 @@ pub record Advances (half : Half) (told : Bool) (old : CoreView) (a : ℕ) (new 
   pub interval : new.interval ≡ old.interval
   pub opened : new.opened ≡ old.opened
   pub missed : new.missed ≡ old.missed
+  pub failed : new.failed ≡ without a old.failed
   -- the count of faults, and the cause of a `fault`
   pub later : old.faults ≤ new.faults
-  pub cause : entry.reply ≡ says.Fault → Rose old.faults new.faults
+  pub cause : entry.reply ≡ says.Fault → Cause
   -- a refusal leaves all that isn't stored as it was, whether the store tells what it holds or not
   pub refused : IsRefusal entry.reply → KeepsRest old.state new.state
   -- where the store tells what it holds, the state is what a step of that line leaves
@@ -124,13 +138,22 @@ pub record Advances (half : Half) (told : Bool) (old : CoreView) (a : ℕ) (new 
       → SearchesBy half old.state line.command entry.reply (hunt_of old.hunts a) old.marks old.gets new.marks new.gets
   -- no search of the actor is kept behind it, and those of the others are as they were
   pub hunts : new.hunts ≡ slice_set old.hunts a None
+  -- marks go by a swap that was done alone, and no other command but a check changes them
+  pub marks : LeavesMarks line.command entry.reply old.marks new.marks
+  -- a rotation that begins has done no slice, and no entry but that changes their count
+  pub slices : CountsFrom line.command entry.reply old.slices new.slices
+
+-- the same, where `fault` is answered only where the count rose in this very section
+abbrev pub Advances : Half → Bool → CoreView → ℕ → CoreView → Type 0
+Advances half told old a new = AdvancesFor half told (Rose old.faults new.faults) old a new
 
 -- What a slice is of. One of a swap left something to copy: it is counted, and there are at most 64 of a rotation. One of a check has begun
 -- anew where the generation had turned, at most twice, or has left at least 256 places less to look at.
 abbrev pub IsSliceOf : Half → Bool → CoreView → ℕ → Command → CoreView → Type 0
 IsSliceOf half told old a command.Swap new =
     (new.slices ≡ old.slices + 1) × (new.slices ≤ most_slices) × (new.marks ≡ old.marks) × (new.hunts ≡ old.hunts)
-IsSliceOf half told old a (command.Check t) new = (new.slices ≤ old.slices) × (new.hunts ≡ slice_set old.hunts a (hunt_of new.hunts a))
+IsSliceOf half told old a (command.Check t) new = (new.slices ≡ old.slices) × (new.marks.generation ≡ old.marks.generation)
+    × (new.hunts ≡ slice_set old.hunts a (hunt_of new.hunts a))
     × (IsTrue told → SlicesSearch half old.state t (hunt_of old.hunts a) old.marks (hunt_of new.hunts a))
 IsSliceOf half told old a _ new = ⊥
 
@@ -170,8 +193,11 @@ pub record IsLastOfSlices (c : CoreView) (a : ℕ) : Type 0 where
   pub swap : line.command ≡ command.Swap
   pub sliced : most_slices ≤ c.slices
 
+abbrev pub CopiesAFew : CoreView → CoreView → Type 0
+CopiesAFew c c' = CopiesAtMost most_copied (finite.get c.state.nodes) (finite.get c.written) (copied_to c c')
+
 abbrev pub CopiesFew : CoreView → ℕ → CoreView → Type 0
-CopiesFew c a c' = IsLastOfSlices c a ⊎ CopiesAtMost most_copied (finite.get c.state.nodes) (finite.get c.written) (copied_to c c')
+CopiesFew c a c' = IsLastOfSlices c a ⊎ CopiesAFew c c'
 
 -- a core's journal is a run of its script to its state
 abbrev pub IsRun : Half → CoreView → Type 0
@@ -216,8 +242,10 @@ pub record IsJournal (half : Half) (told : Bool) (c : CoreView) : Type 0 where
   pub known : All (λ e. e.actor < actors) c.journal
   -- the store's count of faults isn't below that at opening
   pub since : c.opened ≤ c.faults
-  -- each `fault`, and each call for a stored record that failed, has a rise of the store's count of its own
-  pub faults : RoseBy (faults_in c.journal + c.missed) c.opened c.faults
+  -- each `fault`, each call for a stored record that failed, and each actor whose fetch did, has a rise of the store's count of its own
+  pub faults : RoseBy (faults_in c.journal + (c.missed + length c.failed)) c.opened c.faults
+  -- where the store tells what it holds, each open view keeps the header that is stored under its ledger's hash
+  pub views : IsTrue told → AreViews c.state c.views
 
 -- the first line of the actor from a place on is at this place
 pub record IsNext (lines : List Line) (from a at : ℕ) : Type 0 where

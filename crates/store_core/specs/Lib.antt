@@ -10,3 +10,7 @@ pub mod Reads
 pub mod Benches
 pub mod Closing
 pub mod Telling
+pub mod Failing
+pub mod Halls
+pub mod Jobs
+pub mod Committing

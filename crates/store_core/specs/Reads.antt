@@ -1,15 +1,21 @@
 -- What the core says of reads.
-use Rattle.std.specs.Prelude.{◌≡◌, ℕ, Option, Some}
+use Rattle.std.specs.Prelude.{◌≡◌, ◌⊎◌, ℕ, List, [], Option, None, Some, Result, Ok, Err, IfOk}
+use Rattle.std.specs.declared.sync.Arc.{Arc}
+use Rattle.std.specs.declared.alloc.Global.{Global}
+use Rattle.shamap_node.specs.declared.Node.{Node}
 use Rattle.ledger_spec.specs.declared.Kind.{Kind}
 use Rattle.ledger_spec.specs.Bytes.{Hash, Half}
 use Rattle.ledger_spec.specs.Reads.{follow}
 use Rattle.path_proof.specs.declared.reading.Answer.{Answer}
+use Rattle.path_proof.specs.declared.reading.ReadFault.{ReadFault}
+use Rattle.store_core.specs.declared.jobs.ReadJob.{ReadJob}
 use Rattle.path_proof.specs.Paths.{held_nodes, outcome_by}
 use Rattle.ledger_machine.specs.declared.commands.Command.{Command}
 use Rattle.ledger_machine.specs.declared.commands.Command.TheVariants as command
 use Rattle.ledger_machine.specs.declared.replies.GetReply.{GetReply}
+use Rattle.ledger_machine.specs.declared.replies.Reply.{Reply}
 use Rattle.ledger_machine.specs.declared.replies.Reply.TheVariants as says
-use Rattle.ledger_machine.specs.Reading.{IsLast, outcome_of}
+use Rattle.ledger_machine.specs.Reading.{IsLast, IsRead, outcome_of}
 use Rattle.ledger_machine.specs.State.{State}
 use Rattle.ledger_machine.specs.Steps.{Gets, Pages, UsesNodes}
 use Rattle.store_core.specs.declared.views.Got.{Got}
@@ -26,10 +32,30 @@ abbrev pub IsFollowed : Half → Kind → Hash → Hash → Answer → Type 0
 IsFollowed half kind root key a =
     follow half kind root key (held_nodes a.used.items) ≡ Some (outcome_by (held_nodes a.used.items) a.outcome)
 
+-- an answer that a reader got for a job is the one that its nodes say
+abbrev pub IsSaid : Half → ReadJob → Result Answer ReadFault → Type 0
+IsSaid half job got = IfOk got (IsFollowed half job.kind job.root job.key)
+
+-- it has an answer whose nodes say nothing of the job's key
+abbrev pub IsUnsaid : Half → ReadJob → Result Answer ReadFault → Type 0
+IsUnsaid half job (Ok a) = follow half job.kind job.root job.key (held_nodes a.used.items) ≡ None
+IsUnsaid half job (Err why) = ⊥
+
+-- the same nodes, or the same reason
+abbrev pub IsJudged : Result Answer ReadFault → Result Answer ReadFault → Type 0
+IsJudged (Ok a) got = (b : Answer) × (got ≡ Ok b) × (b.used.items ≡ a.used.items)
+IsJudged (Err why) got = got ≡ Err why
+
 -- the reply says an answer's outcome, and its value is the last node of the path
 abbrev pub Says : Answer → GetReply → Type 0
 Says a reply = (outcome_of (says.Get reply) ≡ Some (outcome_by (held_nodes a.used.items) a.outcome))
     × IsLast (held_nodes a.used.items) (says.Get reply)
+
+-- the reply is by what an answer's path says of the key, and uses that path; or memory was refused
+abbrev pub IsReplied : Half → Kind → Hash → Hash → Answer → Reply → List (Arc Node Global) → Type 0
+IsReplied half kind root key a reply used =
+    ((reply ≡ says.Memory) × (used ≡ []))
+    ⊎ ((g : GetReply) × (reply ≡ says.Get g) × IsRead half kind key root (says.Get g) (held_nodes used) × (used ≡ a.used.items))
 
 -- what a step of the machine gets at a key below a view's root, where the view is open
 pub record IsGot (half : Half) (s : State) (kind : Kind) (key : Hash) (root : Option Hash) (s' : State) (got : Got) : Type 0 where

@@ -120,6 +120,12 @@ abbrev pub CopiesFew : Command → Desk → Desk → Type 0
 CopiesFew c d d' = ((c ≡ command.Swap) × (most_slices ≤ d.slices))
     ⊎ CopiesAtMost most_copied (finite.get d.state.nodes) (finite.get d.written) (behind d d')
 
+-- how many slices of the rotation under way left something, behind the answer to a command: none where one begins, and else as many as
+-- before
+abbrev pub CountsFrom : Command → Reply → ℕ → ℕ → Type 0
+CountsFrom command.Begin (says.Begin (begins.Begun seq floor)) n n' = n' ≡ 0
+CountsFrom c reply n n' = n' ≡ n
+
 -- a slice is counted where it left something
 abbrev pub CountsSlice : Result Left BackFault → Desk → Desk → Type 0
 CountsSlice (Ok l) d d' = d'.slices ≡ slices_after l d.slices

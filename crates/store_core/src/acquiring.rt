@@ -266,7 +266,7 @@ impl<H: NodeHash, Sh: Shelf> Machine<H, Sh> {
         ensures tells { Tells self.old.state self.new.state [] }
         ensures kept { OnErr result (KeepsRest self.old.state self.new.state) }
         ensures grows { Grows self.old self.new }
-        ensures slices { self.new.slices ≤ self.old.slices }
+        ensures slices { self.new.slices ≡ self.old.slices }
         ensures copies { IsTrue Sh.B.tells → backs self.new ≡ backs self.old }
         ensures asks { self.new.gets ≡ self.old.gets }
     {
@@ -310,7 +310,7 @@ impl<H: NodeHash, Sh: Shelf> Machine<H, Sh> {
         ensures faults { self.new.faults ≡ self.old.faults }
         ensures gets { self.new.gets ≡ self.old.gets }
         ensures epoch { self.new.state.epoch ≡ self.old.state.epoch }
-        ensures slices { self.new.slices ≤ self.old.slices }
+        ensures slices { self.new.slices ≡ self.old.slices }
         ensures copies { IsTrue Sh.B.tells → backs self.new ≡ backs self.old }
     {
         match reply {
@@ -332,7 +332,7 @@ impl<H: NodeHash, Sh: Shelf> Machine<H, Sh> {
         ensures faults { self.new.faults ≡ self.old.faults }
         ensures gets { self.new.gets ≡ self.old.gets }
         ensures epoch { self.new.state.epoch ≡ self.old.state.epoch }
-        ensures slices { self.new.slices ≤ self.old.slices }
+        ensures slices { self.new.slices ≡ self.old.slices }
         ensures copies { IsTrue Sh.B.tells → backs self.new ≡ backs self.old }
     {
         // a complete ledger isn't below the floor; only a backend that doesn't tell what it holds may show one without a header
@@ -352,7 +352,7 @@ impl<H: NodeHash, Sh: Shelf> Machine<H, Sh> {
         ensures faults { self.new.faults ≡ self.old.faults }
         ensures gets { self.new.gets ≡ self.old.gets }
         ensures epoch { self.new.state.epoch ≡ self.old.state.epoch }
-        ensures slices { self.new.slices ≤ self.old.slices }
+        ensures slices { self.new.slices ≡ self.old.slices }
         ensures copies { IsTrue Sh.B.tells → backs self.new ≡ backs self.old }
     {
         self.book.list(target, seq)?;
@@ -367,7 +367,7 @@ impl<H: NodeHash, Sh: Shelf> Machine<H, Sh> {
         ensures faults { self.new.faults ≡ self.old.faults }
         ensures gets { self.new.gets ≡ self.old.gets }
         ensures epoch { self.new.state.epoch ≡ self.old.state.epoch }
-        ensures slices { self.new.slices ≤ self.old.slices }
+        ensures slices { self.new.slices ≡ self.old.slices }
         ensures copies { IsTrue Sh.B.tells → backs self.new ≡ backs self.old }
     {
         self.wanted.remove(target);

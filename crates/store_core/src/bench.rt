@@ -2,8 +2,12 @@
 ghost use Rattle.std.specs.Prelude.{◌≤◌, ◌≡◌, ◌<◌, ◌+◌, ◌-◌, ◌^◌, [], IsTrue, IfOk, IfErr, IfSome, IsNone, IsSome, OnErr, length, map};
 ghost use Rattle.std.specs.FinMap as finite;
 ghost use Rattle.std.specs.Option.{option_copied};
+ghost use Rattle.rotating_store.specs.Stores.{merged};
 ghost use Rattle.run_io.specs.Bytes.{Rose};
 ghost use Rattle.shamap_node.specs.Nodes.{held};
+ghost use Rattle.ledger_spec.specs.Forms.{hash_of};
+ghost use Rattle.ledger_machine.specs.State.{form_in};
+ghost use Rattle.path_proof.specs.Sources.{Gives};
 ghost use Rattle.ledger_machine.specs.Scripts.{IsBeside, IsInRange};
 ghost use Rattle.ledger_machine.specs.Rotation.{Tells};
 ghost use Rattle.ledger_machine.specs.Sound.{Sound};
@@ -20,7 +24,7 @@ ghost use Rattle.ledger_machine.specs.Runs.{actors};
 ghost use Rattle.store_core.specs.Desks.{backs, IsFiled, Stays, Grows, KeepsRest, OnlyReads, over};
 ghost use Rattle.store_core.specs.Dumping.{IsNextRecord, Follows};
 ghost use Rattle.store_core.specs.Refusals.{IsRefusal};
-ghost use Rattle.store_core.specs.Telling.{TellsRoot, AreTold, Carried, IsSlice, CopiesBy, CopiesFew};
+ghost use Rattle.store_core.specs.Telling.{TellsRoot, AreTold, Carried, CountsFrom, IsSlice, CopiesBy, CopiesFew};
 
 use crate::acquiring::Sought;
 use crate::machine::{Machine, unread};
@@ -35,6 +39,7 @@ use missing_walk::{Found, SearchFault};
 use node_backend::{BackFault, Shelf};
 use online_rotate::Left;
 use open_sessions::Open;
+use path_proof::FetchFault;
 use rotating_store::RotStore;
 use shamap_node::Node;
 use std::alloc::Global;
@@ -69,11 +74,19 @@ impl<H: NodeHash, Sh: Shelf> Bench<H, Sh> {
         requires new { IsTrue Sh.B.tells → store.archive ≡ finite.empty }
         ensures state { result.state ≡ over store (opening finite.empty interval) }
         ensures faults { result.faults ≡ store.faults }
+        ensures slices { result.slices ≡ 0 }
     {
         Bench {
             machine: Machine::new(alloc, hash, interval, store),
             sessions: Open::new(alloc),
         }
+    }
+
+    /// For proofs: what is stored lies in the two backends.
+    pub(crate) fn known(&self)
+        ensures { self.now.state.nodes ≡ merged self.now.written self.now.archived }
+    {
+        self.machine.known();
     }
 
     /// How many ledgers are listed.
@@ -124,6 +137,21 @@ impl<H: NodeHash, Sh: Shelf> Bench<H, Sh> {
         Ok(next)
     }
 
+    /// The node of a hash, as the store gives it.
+    pub(crate) fn node_at(
+        &mut self,
+        alloc: Global,
+        h: &Hash32,
+    ) -> Result<Option<Arc<Node>>, FetchFault>
+        requires { IsFiled H.half Sh.B.tells self.old.state }
+        ensures hash { IfOk result (λ o. IfSome o (λ node. hash_of H.half (held node.value) ≡ h.now)) }
+        ensures exact { IsTrue Sh.B.tells → Gives H.half (form_in self.old.state h.now) result }
+        ensures reads { OnlyReads Sh.B.tells self.old self.new }
+        ensures fault { IfErr result (λ e. e ≡ FetchFault.Fault → Rose self.old.faults self.new.faults) }
+    {
+        self.machine.node_at(alloc, h)
+    }
+
     /// One step of the machine: the reply, and the nodes that it used.
     pub(crate) fn answer(
         &mut self,
@@ -143,7 +171,7 @@ impl<H: NodeHash, Sh: Shelf> Bench<H, Sh> {
         ensures told { IsTrue Sh.B.tells → AreTold self.new.state }
         ensures refused { IsRefusal result.0 → KeepsRest self.old.state self.new.state }
         ensures grows { Grows self.old self.new }
-        ensures slices { self.new.slices ≤ self.old.slices }
+        ensures slices { CountsFrom command.now result.0 self.old.slices self.new.slices }
         ensures copies { IsTrue Sh.B.tells → CopiesBy command.now self.old self.new }
         ensures fault { result.0 ≡ Reply.Fault → Rose self.old.faults self.new.faults }
     {
@@ -177,10 +205,11 @@ impl<H: NodeHash, Sh: Shelf> Bench<H, Sh> {
         ensures grows { Grows self.old self.new }
         ensures fault { IfSome result (λ r. r.0 ≡ Reply.Fault → Rose self.old.faults self.new.faults) }
         ensures more { IsNone result → IsSliced H.half Sh.B.tells actor command.now part self.old searches.old self.new searches.new }
-        ensures slices { IsSome result → self.new.slices ≤ self.old.slices }
+        ensures slices { IfSome result (λ r. CountsFrom command.now r.0 self.old.slices self.new.slices) }
         ensures few { IsTrue Sh.B.tells → part ≡ Part.Slice → CopiesFew command.now self.old self.new }
         ensures still { IsNone result → KeepsRest self.old.state self.new.state }
         ensures same { IsTrue Sh.B.tells → IsNone result → self.new.state ≡ self.old.state }
+        ensures idle { IsNoCheck command.now → searches.new ≡ searches.old }
     {
         self.machine.known();
         match command {
@@ -220,7 +249,7 @@ impl<H: NodeHash, Sh: Shelf> Bench<H, Sh> {
         ensures fault { IfSome result (λ r. r.0 ≡ Reply.Fault → Rose self.old.faults self.new.faults) }
         ensures more { IsNone result
             → IsSliced H.half Sh.B.tells actor (Command.Check target.now) part self.old searches.old self.new searches.new }
-        ensures slices { self.new.slices ≤ self.old.slices }
+        ensures slices { self.new.slices ≡ self.old.slices }
         ensures copies { IsTrue Sh.B.tells → backs self.new ≡ backs self.old }
         ensures still { IsNone result → KeepsRest self.old.state self.new.state }
         ensures same { IsTrue Sh.B.tells → IsNone result → self.new.state ≡ self.old.state }
@@ -278,7 +307,7 @@ impl<H: NodeHash, Sh: Shelf> Bench<H, Sh> {
         ensures grows { Grows self.old self.new }
         ensures fault { IfSome result (λ r. r.0 ≡ Reply.Fault → Rose self.old.faults self.new.faults) }
         ensures more { IsNone result → IsSlice command.now part self.old self.new }
-        ensures slices { IsSome result → self.new.slices ≤ self.old.slices }
+        ensures slices { IfSome result (λ r. CountsFrom command.now r.0 self.old.slices self.new.slices) }
         ensures few { IsTrue Sh.B.tells → part ≡ Part.Slice → CopiesFew command.now self.old self.new }
         ensures still { IsNone result → KeepsRest self.old.state self.new.state }
         ensures same { IsTrue Sh.B.tells → IsNone result → self.new.state ≡ self.old.state }
@@ -312,7 +341,7 @@ impl<H: NodeHash, Sh: Shelf> Bench<H, Sh> {
             → AreTold self.new.state × Carried H.half self.old.state actor command.now result.0 self.new.state }
         ensures refused { IsRefusal result.0 → KeepsRest self.old.state self.new.state }
         ensures grows { Grows self.old self.new }
-        ensures slices { self.new.slices ≤ self.old.slices }
+        ensures slices { CountsFrom command.now result.0 self.old.slices self.new.slices }
         ensures copies { IsTrue Sh.B.tells → CopiesBy command.now self.old self.new }
         ensures fault { result.0 ≡ Reply.Fault → Rose self.old.faults self.new.faults }
     {
@@ -342,7 +371,7 @@ impl<H: NodeHash, Sh: Shelf> Bench<H, Sh> {
             → AreTold self.new.state × Carried H.half self.old.state actor command.now result self.new.state }
         ensures refused { IsRefusal result → KeepsRest self.old.state self.new.state }
         ensures grows { Grows self.old self.new }
-        ensures slices { self.new.slices ≤ self.old.slices }
+        ensures slices { self.new.slices ≡ self.old.slices }
         ensures copies { IsTrue Sh.B.tells → backs self.new ≡ backs self.old }
         ensures fault { result ≡ Reply.Fault → Rose self.old.faults self.new.faults }
     {
@@ -361,7 +390,7 @@ impl<H: NodeHash, Sh: Shelf> Bench<H, Sh> {
         ensures names { IsTrue Sh.B.tells → TellsRoot self.old.state command.now result self.new.state }
         ensures refused { IsRefusal result → KeepsRest self.old.state self.new.state }
         ensures grows { Grows self.old self.new }
-        ensures slices { self.new.slices ≤ self.old.slices }
+        ensures slices { self.new.slices ≡ self.old.slices }
         ensures copies { IsTrue Sh.B.tells → backs self.new ≡ backs self.old }
         ensures fault { result ≡ Reply.Fault → Rose self.old.faults self.new.faults }
     {
@@ -412,7 +441,7 @@ impl<H: NodeHash, Sh: Shelf> Bench<H, Sh> {
             → AreTold self.new.state × Carried H.half self.old.state actor command.now result.0 self.new.state }
         ensures refused { IsRefusal result.0 → KeepsRest self.old.state self.new.state }
         ensures grows { Grows self.old self.new }
-        ensures slices { self.new.slices ≤ self.old.slices }
+        ensures slices { self.new.slices ≡ self.old.slices }
         ensures copies { IsTrue Sh.B.tells → backs self.new ≡ backs self.old }
         ensures fault { result.0 ≡ Reply.Fault → Rose self.old.faults self.new.faults }
     {

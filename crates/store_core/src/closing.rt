@@ -38,7 +38,7 @@ impl<H: NodeHash, Sh: Shelf> Bench<H, Sh> {
         ensures names { IsTrue Sh.B.tells → TellsRoot self.old.state (Command.Close id.1 given.now) result self.new.state }
         ensures refused { IsRefusal result → KeepsRest self.old.state self.new.state }
         ensures grows { Grows self.old self.new }
-        ensures slices { self.new.slices ≤ self.old.slices }
+        ensures slices { self.new.slices ≡ self.old.slices }
         ensures copies { IsTrue Sh.B.tells → backs self.new ≡ backs self.old }
         ensures fault { result ≡ Reply.Fault → Rose self.old.faults self.new.faults }
     {
@@ -84,7 +84,7 @@ impl<H: NodeHash, Sh: Shelf> Bench<H, Sh> {
         ensures names { (given : List ℕ) → TellsRoot self.old.state (Command.Close id.1 given) result self.new.state }
         ensures refused { IsRefusal result → KeepsRest self.old.state self.new.state }
         ensures grows { Grows self.old self.new }
-        ensures slices { self.new.slices ≤ self.old.slices }
+        ensures slices { self.new.slices ≡ self.old.slices }
         ensures copies { IsTrue Sh.B.tells → backs self.new ≡ backs self.old }
         ensures fault { result ≡ Reply.Fault → Rose self.old.faults self.new.faults }
     {
@@ -129,7 +129,7 @@ impl<H: NodeHash, Sh: Shelf> Bench<H, Sh> {
         ensures told { self.new.state.shaded ≡ self.old.state.shaded }
         ensures faults { self.new.faults ≡ self.old.faults }
         ensures epoch { self.new.state.epoch ≡ self.old.state.epoch }
-        ensures slices { self.new.slices ≤ self.old.slices }
+        ensures slices { self.new.slices ≡ self.old.slices }
         ensures copies { IsTrue Sh.B.tells → backs self.new ≡ backs self.old }
     {
         self.machine.list_closed(target, seq)?;
@@ -218,7 +218,7 @@ impl<H: NodeHash, Sh: Shelf> Machine<H, Sh> {
         ensures told { self.new.state.shaded ≡ self.old.state.shaded }
         ensures faults { self.new.faults ≡ self.old.faults }
         ensures epoch { self.new.state.epoch ≡ self.old.state.epoch }
-        ensures slices { self.new.slices ≤ self.old.slices }
+        ensures slices { self.new.slices ≡ self.old.slices }
         ensures copies { IsTrue Sh.B.tells → backs self.new ≡ backs self.old }
     {
         if seq < self.book.floor() {

@@ -54,8 +54,12 @@ impl<H: NodeHash, Sh: Shelf> Bench<H, Sh> {
         }
     }
 
-    // The header that is held under a ledger's hash.
-    fn header_of(&mut self, alloc: Global, target: &Hash32) -> Result<Option<Header>, BackFault>
+    /// The header that is held under a ledger's hash.
+    pub(crate) fn header_of(
+        &mut self,
+        alloc: Global,
+        target: &Hash32,
+    ) -> Result<Option<Header>, BackFault>
         requires { IsFiled H.half Sh.B.tells self.old.state }
         ensures header { IsTrue Sh.B.tells → IfOk result (λ found. IfSome found (IsHeaderOf self.old.state target.now)) }
         ensures reads { OnlyReads Sh.B.tells self.old self.new }

@@ -6,7 +6,10 @@ mod bench;
 mod closing;
 mod drafts;
 mod editing;
+mod failed;
+mod hall;
 mod heeding;
+mod jobs;
 mod laws;
 mod machine;
 mod pages;
@@ -16,5 +19,6 @@ mod store;
 mod told;
 mod views;
 
+pub use jobs::{Followed, Handed, ReadJob};
 pub use laws::what_is_wanted_charges_nobody;
 pub use store::{Core, OpenFault, Stepped};

@@ -65,6 +65,7 @@ impl<H: NodeHash, Sh: Shelf> Machine<H, Sh> {
         requires new { IsTrue Sh.B.tells → store.archive ≡ finite.empty }
         ensures state { result.state ≡ over store (opening finite.empty interval) }
         ensures faults { result.faults ≡ store.faults }
+        ensures slices { result.slices ≡ 0 }
     {
         Machine {
             hash,
@@ -153,7 +154,7 @@ impl<H: NodeHash, Sh: Shelf> Machine<H, Sh> {
         ensures names { TellsRoot self.old.state command.now result.0 self.new.state }
         ensures refused { IsRefusal result.0 → KeepsRest self.old.state self.new.state }
         ensures grows { Grows self.old self.new }
-        ensures slices { self.new.slices ≤ self.old.slices }
+        ensures slices { self.new.slices ≡ self.old.slices }
         ensures copies { IsTrue Sh.B.tells → backs self.new ≡ backs self.old }
         ensures fault { result.0 ≡ Reply.Fault → Rose self.old.faults self.new.faults }
     {
@@ -190,7 +191,7 @@ impl<H: NodeHash, Sh: Shelf> Machine<H, Sh> {
         ensures names { TellsRoot self.old.state command.now result self.new.state }
         ensures refused { IsRefusal result → KeepsRest self.old.state self.new.state }
         ensures grows { Grows self.old self.new }
-        ensures slices { self.new.slices ≤ self.old.slices }
+        ensures slices { self.new.slices ≡ self.old.slices }
         ensures copies { IsTrue Sh.B.tells → backs self.new ≡ backs self.old }
         ensures fault { result ≡ Reply.Fault → Rose self.old.faults self.new.faults }
     {

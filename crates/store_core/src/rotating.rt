@@ -13,7 +13,7 @@ ghost use Rattle.ledger_machine.specs.State.{bases as edited};
 ghost use Rattle.store_core.specs.Desks.{backs, behind, IsFiled, Stays, Grows, KeepsRest};
 ghost use Rattle.store_core.specs.Refusals.{IsRefusal};
 ghost use Rattle.store_core.specs.Telling.{most_slices, most_copied, CopiesBy, CountsSlice, IsSlice, Hears, BeginsBy, AfterSwap};
-ghost use Rattle.store_core.specs.Telling.{IsRotating, AreTold, Carried};
+ghost use Rattle.store_core.specs.Telling.{IsRotating, AreTold, Carried, CountsFrom};
 
 use crate::bench::Bench;
 use crate::machine::{Machine, unread};
@@ -65,7 +65,7 @@ impl<H: NodeHash, Sh: Shelf> Machine<H, Sh> {
         ensures told { IfOk result (λ r. BeginsBy self.old.state bases.now r self.new.state) }
         ensures err { OnErr result (self.new ≡ self.old) }
         ensures grows { Grows self.old self.new }
-        ensures slices { self.new.slices ≤ self.old.slices }
+        ensures slices { IfOk result (λ r. CountsFrom Command.Begin (Reply.Begin r) self.old.slices self.new.slices) }
         ensures copies { IsTrue Sh.B.tells → backs self.new ≡ backs self.old }
     {
         let targets = self.targets(alloc, bases)?;
@@ -117,7 +117,7 @@ impl<H: NodeHash, Sh: Shelf> Machine<H, Sh> {
         ensures err { IsTrue Sh.B.tells → OnErr result (self.new.state ≡ self.old.state) }
         ensures kept { OnErr result (KeepsRest self.old.state self.new.state) }
         ensures grows { Grows self.old self.new }
-        ensures slices { self.new.slices ≤ self.old.slices }
+        ensures slices { self.new.slices ≡ self.old.slices }
         ensures still { IsTrue Sh.B.tells → self.old.grey ≡ [] → behind self.old self.new ≡ finite.get self.old.written }
         ensures fault { IfErr result (λ e. e ≡ BackFault.Fault → Rose self.old.faults self.new.faults) }
     {
@@ -141,7 +141,7 @@ impl<H: NodeHash, Sh: Shelf> Bench<H, Sh> {
         ensures rest { KeepsRest self.old.state self.new.state }
         ensures later { self.old.faults ≤ self.new.faults }
         ensures more { result ≡ Ok Left.More → IsSlice command.now part self.old self.new }
-        ensures slices { (result ≡ Ok Left.More → ⊥) → self.new.slices ≤ self.old.slices }
+        ensures slices { (result ≡ Ok Left.More → ⊥) → self.new.slices ≡ self.old.slices }
         ensures few { IsTrue Sh.B.tells → CopiesAtMost most_copied (finite.get self.old.state.nodes) (finite.get self.old.written)
             (finite.get self.new.written) }
         ensures none { (command.now ≡ Command.Swap → ⊥) → self.new ≡ self.old }
@@ -184,7 +184,7 @@ impl<H: NodeHash, Sh: Shelf> Bench<H, Sh> {
             → AreTold self.new.state × Carried H.half self.old.state actor command.now result self.new.state }
         ensures refused { IsRefusal result → KeepsRest self.old.state self.new.state }
         ensures grows { Grows self.old self.new }
-        ensures slices { self.new.slices ≤ self.old.slices }
+        ensures slices { CountsFrom command.now result self.old.slices self.new.slices }
         ensures copies { IsTrue Sh.B.tells → CopiesBy command.now self.old self.new }
         ensures fault { result ≡ Reply.Fault → Rose self.old.faults self.new.faults }
     {
@@ -204,7 +204,7 @@ impl<H: NodeHash, Sh: Shelf> Bench<H, Sh> {
             → AreTold self.new.state × Carried H.half self.old.state actor Command.Begin result self.new.state }
         ensures refused { IsRefusal result → KeepsRest self.old.state self.new.state }
         ensures grows { Grows self.old self.new }
-        ensures slices { self.new.slices ≤ self.old.slices }
+        ensures slices { CountsFrom Command.Begin result self.old.slices self.new.slices }
         ensures copies { IsTrue Sh.B.tells → backs self.new ≡ backs self.old }
         ensures fault { result ≡ Reply.Fault → Rose self.old.faults self.new.faults }
     {
@@ -224,7 +224,7 @@ impl<H: NodeHash, Sh: Shelf> Bench<H, Sh> {
             → AreTold self.new.state × Carried H.half self.old.state actor Command.Swap result self.new.state }
         ensures refused { IsRefusal result → KeepsRest self.old.state self.new.state }
         ensures grows { Grows self.old self.new }
-        ensures slices { self.new.slices ≤ self.old.slices }
+        ensures slices { self.new.slices ≡ self.old.slices }
         ensures still { IsTrue Sh.B.tells → self.old.grey ≡ [] → behind self.old self.new ≡ finite.get self.old.written }
         ensures fault { result ≡ Reply.Fault → Rose self.old.faults self.new.faults }
     {
@@ -241,7 +241,7 @@ impl<H: NodeHash, Sh: Shelf> Bench<H, Sh> {
         ensures told { IfOk result (λ r. BeginsBy self.old.state (edited self.old.state) r self.new.state) }
         ensures err { OnErr result (self.new ≡ self.old) }
         ensures grows { Grows self.old self.new }
-        ensures slices { self.new.slices ≤ self.old.slices }
+        ensures slices { IfOk result (λ r. CountsFrom Command.Begin (Reply.Begin r) self.old.slices self.new.slices) }
         ensures copies { IsTrue Sh.B.tells → backs self.new ≡ backs self.old }
     {
         let bases = self.sessions.bases(alloc)?;
@@ -257,7 +257,7 @@ impl<H: NodeHash, Sh: Shelf> Bench<H, Sh> {
         ensures err { IsTrue Sh.B.tells → OnErr result (self.new.state ≡ self.old.state) }
         ensures kept { OnErr result (KeepsRest self.old.state self.new.state) }
         ensures grows { Grows self.old self.new }
-        ensures slices { self.new.slices ≤ self.old.slices }
+        ensures slices { self.new.slices ≡ self.old.slices }
         ensures still { IsTrue Sh.B.tells → self.old.grey ≡ [] → behind self.old self.new ≡ finite.get self.old.written }
         ensures fault { IfErr result (λ e. e ≡ BackFault.Fault → Rose self.old.faults self.new.faults) }
     {

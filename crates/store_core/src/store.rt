@@ -1,20 +1,32 @@
 //! The core: a script, the journal of what was answered, and the state after it.
 ghost use Rattle.std.specs.Prelude.{◌≡◌, ◌≢◌, ◌⊎◌, ◌↔◌, ◌+◌, ◌<◌, ◌≤◌, ◌^◌, [], ℕ, true, IsTrue, IfOk, length, count_by};
-ghost use Rattle.std.specs.Prelude.{IfErr, IfSome, MatchOption, drop, take};
+ghost use Rattle.std.specs.Prelude.{IfErr, IfSome, MatchOption, Some, drop, take};
 ghost use Rattle.std.specs.Option.{option_copied};
+ghost use Rattle.ledger_spec.specs.Forms.{hash_of};
+ghost use Rattle.ledger_machine.specs.Reading.{view_root};
 ghost use Rattle.ledger_machine.specs.Scripts.{Rises, line_of, numbers_of};
 ghost use Rattle.ledger_machine.specs.Runs.{actors, IsDone, IsBlocked, is_answered as answered, opening_of};
 ghost use Rattle.ledger_machine.specs.Records.{AreRecords};
+ghost use Rattle.ledger_machine.specs.State.{form_in};
+ghost use Rattle.path_proof.specs.Sources.{Gives};
 ghost use Rattle.script_form.specs.Servable.{AreServable};
-ghost use Rattle.store_core.specs.Checking.{TurnsBy};
+ghost use Rattle.shamap_node.specs.Nodes.{held};
 ghost use Rattle.ledger_searches.specs.Sharing.{IsPaired};
-ghost use Rattle.store_core.specs.Journal.{Advances, Slices, ChecksFew, CopiesFew, IsJournal, IsNew, IsNext, AllBefore, AllFrom};
 ghost use Rattle.run_io.specs.Bytes.{Rose};
 ghost use Rattle.rotating_store.specs.Stores.{Store, nodes_of};
+ghost use Rattle.store_core.specs.Checking.{TurnsBy};
+ghost use Rattle.store_core.specs.Committing.{Commits};
 ghost use Rattle.store_core.specs.Dumping.{HoldsOf, IsNextRecord, Follows, Lists, missed_after};
+ghost use Rattle.store_core.specs.Failing.{is_among, failed_after, with_fault};
+ghost use Rattle.store_core.specs.Halls.{root_by};
+ghost use Rattle.store_core.specs.Jobs.{job_in, TakesIn, HandsFault};
+ghost use Rattle.store_core.specs.Journal.{Advances, AdvancesFor, Slices, ChecksFew, CopiesFew, IsJournal, IsNew, IsNext};
+ghost use Rattle.store_core.specs.Journal.{AllBefore, AllFrom};
 ghost use Rattle.store_core.specs.Totals.{totals_of, is_complete as completes, is_closed as closes};
 
-use crate::bench::Bench;
+use crate::failed::Failed;
+use crate::hall::Hall;
+use crate::jobs::{Followed, Handed, ReadJob};
 use crate::records::put_records;
 use crate::rotating::Part;
 use half_hash::{Hash32, NodeHash, known_half};
@@ -23,9 +35,12 @@ use ledger_machine::{
 };
 use ledger_searches::Searches;
 use node_backend::{BackFault, Shelf};
+use path_proof::{Answer, FetchFault, ReadFault};
 use rotating_store::{RotStore, Unopened};
+use shamap_node::Node;
 use std::alloc::Global;
 use std::marker::Model;
+use std::sync::Arc;
 
 /// How many actors there are, numbered from 0.
 const ACTORS: usize = 64;
@@ -61,15 +76,17 @@ pub struct Core<H: NodeHash, Sh: Shelf> {
     interval: u32,
     opened: u64,
     missed: u64,
+    /// The actors whose fetch failed since their last entry.
+    failed: Failed,
     cursors: Vec<usize>,
     journal: Vec<Entry>,
-    bench: Bench<H, Sh>,
+    hall: Hall<H, Sh>,
     /// What searches share, turned where a swap may have lost what it is true of.
     searches: Searches,
 }
 
 impl<H: NodeHash, Sh: Shelf> Model for Core<H, Sh> {
-    ghost use Rattle.std.specs.Prelude.{vec_capacity};
+    ghost use Rattle.std.specs.Prelude.{◌+◌, length, vec_capacity};
     ghost use Rattle.std.specs.Coded.{codes};
     ghost use Rattle.ledger_spec.specs.Maps.{map_code, set_code};
     ghost use Rattle.store_core.specs.Checking.{KeepsSearches};
@@ -84,21 +101,23 @@ impl<H: NodeHash, Sh: Shelf> Model for Core<H, Sh> {
       lines = c.script.lines.items;
       interval = c.interval;
       opened = c.opened;
-      faults = c.bench.faults;
-      gets = c.bench.gets;
-      slices = c.bench.slices;
-      written = c.bench.written;
-      archived = c.bench.archived;
+      faults = c.hall.desk.faults;
+      gets = c.hall.desk.gets;
+      slices = c.hall.desk.slices;
+      written = c.hall.desk.written;
+      archived = c.hall.desk.archived;
       marks = c.searches.marks;
       hunts = c.searches.hunts.items;
       missed = c.missed;
+      failed = c.failed;
       journal = c.journal.items;
-      state = c.bench.state;
+      state = c.hall.desk.state;
+      views = c.hall.views;
     } };
 
     ghost invariant = { λ c. CoreKeeps H.half c.script.records.items c.script.lines.items c.cursors.items c.journal.items
-        (vec_capacity c.journal) c.interval Sh.B.tells c.opened c.bench.faults c.missed c.bench.state
-        × KeepsSearches H.half Sh.B.tells c.bench.state c.journal.items c.searches };
+        (vec_capacity c.journal) c.interval Sh.B.tells c.opened c.hall.desk.faults (c.missed + length c.failed) c.hall.desk.state
+        × KeepsSearches H.half Sh.B.tells c.hall.desk.state c.journal.items c.searches };
 }
 
 impl<H: NodeHash, Sh: Shelf> Core<H, Sh> {
@@ -140,15 +159,19 @@ impl<H: NodeHash, Sh: Shelf> Core<H, Sh> {
         let Ok(searches) = Searches::new(alloc) else {
             return Err(Unopened::Memory);
         };
-        let bench = Bench::new(alloc, hash, interval, store);
+        let Ok(failed) = Failed::new(alloc) else {
+            return Err(Unopened::Memory);
+        };
+        let hall = Hall::new(alloc, hash, interval, store);
         Ok(Core {
             script,
             interval,
             opened,
             missed: 0,
+            failed,
             cursors,
             journal,
-            bench,
+            hall,
             searches,
         })
     }
@@ -167,7 +190,7 @@ impl<H: NodeHash, Sh: Shelf> Core<H, Sh> {
         ensures unchanged { (result ≡ Stepped.Blocked) ⊎ (result ≡ Stepped.Finished) → self.new ≡ self.old }
         ensures few { length self.new.journal ≤ length self.new.lines }
     {
-        self.advance(alloc, actor, Part::Slice)
+        self.advance(alloc, actor, None, Part::Slice)
     }
 
     /// Answers the actor's next line, as `step` does, but in one section: neither what a swap has to copy nor what a check looks at is cut
@@ -181,12 +204,55 @@ impl<H: NodeHash, Sh: Shelf> Core<H, Sh> {
         ensures unchanged { (result ≡ Stepped.Blocked) ⊎ (result ≡ Stepped.Finished) → self.new ≡ self.old }
         ensures few { length self.new.journal ≤ length self.new.lines }
     {
-        self.advance(alloc, actor, Part::Whole)
+        self.advance(alloc, actor, None, Part::Whole)
     }
 
-    // One section of the actor's next line.
-    fn advance(&mut self, alloc: Global, actor: u8, part: Part) -> Stepped
-        ensures answered { result ≡ Stepped.Answered → Advances H.half Sh.B.tells self.old actor self.new }
+    /// The same, for a reader that went down the path of a `get` outside of the core's lock and hands in what it got. Where the job is the
+    /// one that the actor's next line asks for now, its answer is the reply if `follow` accepts it, and a fault is the reply if the actor's
+    /// fetch failed. In every other case this does what `step` does.
+    pub fn commit_read(
+        &mut self,
+        alloc: Global,
+        actor: u8,
+        job: &ReadJob,
+        got: Result<Answer, ReadFault>,
+    ) -> Stepped
+        ensures does { Commits H.half Sh.B.tells self.old actor got result self.new }
+        // the reader's answer is what is recorded, exactly where its nodes are a path to the key below the view's root
+        ensures takes { job_in (root_by self.old.views) self.old.lines self.old.journal actor ≡ Some job.now
+            → TakesIn H.half job.now got self.old.journal self.new.journal }
+        ensures blocked { (result ≡ Stepped.Blocked) ↔ IsBlocked self.old.lines self.old.journal actor }
+        ensures finished { (result ≡ Stepped.Finished) ↔ IsDone self.old.lines self.old.journal actor }
+        ensures few { length self.new.journal ≤ length self.new.lines }
+    {
+        let handed = Followed::judged(job, got);
+        self.advance(alloc, actor, handed, Part::Slice)
+    }
+
+    /// The same, where the answer is known to be what its nodes say, so that none of them is hashed in this section.
+    pub fn commit_followed(&mut self, alloc: Global, actor: u8, handed: Followed<H>) -> Stepped
+        ensures does { Commits H.half Sh.B.tells self.old actor handed.got result self.new }
+        ensures takes { job_in (root_by self.old.views) self.old.lines self.old.journal actor ≡ Some handed.job
+            → TakesIn H.half handed.job handed.got self.old.journal self.new.journal }
+        ensures blocked { (result ≡ Stepped.Blocked) ↔ IsBlocked self.old.lines self.old.journal actor }
+        ensures finished { (result ≡ Stepped.Finished) ↔ IsDone self.old.lines self.old.journal actor }
+        ensures few { length self.new.journal ≤ length self.new.lines }
+    {
+        self.advance(alloc, actor, Some(handed), Part::Slice)
+    }
+
+    // One section of the actor's next line, by what a reader hands in where that serves.
+    fn advance(
+        &mut self,
+        alloc: Global,
+        actor: u8,
+        handed: Option<Followed<H>>,
+        part: Part,
+    ) -> Stepped
+        ensures answered { result ≡ Stepped.Answered → AdvancesFor H.half Sh.B.tells
+            (Rose self.old.faults self.new.faults ⊎ (HandsFault handed × IsTrue (is_among actor self.old.failed))) self.old actor self.new }
+        ensures takes { (h : Handed) → handed ≡ Some h → job_in (root_by self.old.views) self.old.lines self.old.journal actor ≡ Some h.job
+            → TakesIn H.half h.job h.got self.old.journal self.new.journal }
         ensures more { result ≡ Stepped.More → (part ≡ Part.Slice) × Slices H.half Sh.B.tells self.old actor self.new }
         ensures copies { IsTrue Sh.B.tells → part ≡ Part.Slice → CopiesFew self.old actor self.new }
         ensures asks { part ≡ Part.Slice → ChecksFew self.old actor self.new }
@@ -210,10 +276,17 @@ impl<H: NodeHash, Sh: Shelf> Core<H, Sh> {
             self.cursors[actor as usize] = at;
             return Stepped::Blocked;
         }
+        let failed = self.failed.has(actor);
         let line = &self.script.lines[at];
-        let Some((reply, used)) = self
-            .bench
-            .section(alloc, &mut self.searches, actor, &line.command, part)
+        let Some((reply, used)) = self.hall.section(
+            alloc,
+            &mut self.searches,
+            actor,
+            line,
+            handed,
+            failed,
+            part,
+        )
         else {
             self.cursors[actor as usize] = at;
             return Stepped::More;
@@ -226,8 +299,58 @@ impl<H: NodeHash, Sh: Shelf> Core<H, Sh> {
             used,
         };
         self.journal.push(entry).unwrap();
+        self.failed.forget(actor);
         self.cursors[actor as usize] = at + 1;
         Stepped::Answered
+    }
+
+    /// The read that the actor's next line asks for: none where that is no `get`, or is blocked, or its view isn't open. It takes no
+    /// memory.
+    pub fn read_job(&self, actor: u8) -> Option<ReadJob>
+        ensures exact { result ≡ job_in (root_by self.now.views) self.now.lines self.now.journal actor }
+        // the root is that of the view's map in the state
+        ensures told { IsTrue Sh.B.tells → result ≡ job_in (view_root self.now.state) self.now.lines self.now.journal actor }
+    {
+        self.hall.known();
+        if actor as usize >= self.cursors.len() {
+            return None;
+        }
+        let from = self.cursors[actor as usize];
+        let Some(at) = next_of(&self.script.lines, from, actor) else {
+            return None;
+        };
+        let after = self.script.lines[at].after;
+        if after != 0 && !self.is_answered(after) {
+            return None;
+        }
+        let line = &self.script.lines[at];
+        self.hall.job_of(actor, line)
+    }
+
+    /// The node of a hash, as the store gives it: none where the hash isn't held. A fault is noted for the actor, until its next entry.
+    pub fn node_at(
+        &mut self,
+        alloc: Global,
+        actor: u8,
+        h: &Hash32,
+    ) -> Result<Option<Arc<Node>>, FetchFault>
+        ensures hash { IfOk result (λ o. IfSome o (λ node. hash_of H.half (held node.value) ≡ h.now)) }
+        ensures exact { IsTrue Sh.B.tells → Gives H.half (form_in self.old.state h.now) result }
+        ensures lists { Lists Sh.B.tells self.old self.new }
+        ensures missed { self.new.missed ≡ self.old.missed }
+        ensures failed { self.new.failed ≡ failed_after actor self.old.failed result }
+        ensures fault { IfErr result (λ e. e ≡ FetchFault.Fault → Rose self.old.faults self.new.faults) }
+    {
+        self.hall.known();
+        match self.hall.node_at(alloc, h) {
+            Ok(found) => Ok(found),
+            Err(fault) => Err(noted(&mut self.failed, actor, fault)),
+        }
+    }
+
+    /// The hash that nodes are stored under.
+    pub fn hash(&self) -> H {
+        self.hall.hash()
     }
 
     /// Whether the actor has no line left.
@@ -271,6 +394,7 @@ impl<H: NodeHash, Sh: Shelf> Core<H, Sh> {
         ensures few { length self.now.journal ≤ length self.now.lines }
     {
         known_half::<H>();
+        self.hall.known();
         &self.journal
     }
 
@@ -292,9 +416,11 @@ impl<H: NodeHash, Sh: Shelf> Core<H, Sh> {
         ensures follows { IfOk result (λ r. IfSome r (λ r. Follows (option_copied after.entry) r.hash)) }
         ensures lists { Lists Sh.B.tells self.old self.new }
         ensures missed { self.new.missed ≡ missed_after result self.old.missed }
+        ensures failed { self.new.failed ≡ self.old.failed }
         ensures fault { IfErr result (λ e. e ≡ OpenFault.Fault → Rose self.old.faults self.new.faults) }
     {
-        match self.bench.next_stored(alloc, after) {
+        self.hall.known();
+        match self.hall.next_stored(alloc, after) {
             Ok(next) => Ok(next),
             Err(BackFault::Fault) => {
                 self.missed = self.missed.saturating_add(1);
@@ -315,16 +441,30 @@ impl<H: NodeHash, Sh: Shelf> Core<H, Sh> {
     pub fn totals(&self) -> Totals
         ensures { result ≡ totals_of self.now.journal self.now.state }
     {
-        let listed = self.bench.listed() as u32;
+        let listed = self.hall.listed() as u32;
         let journal = self.journal();
         Totals {
             complete: complete_in(journal) as u32,
             closed: closed_in(journal) as u32,
             listed,
-            floor: self.bench.floor(),
-            last: self.bench.last(),
-            epoch: self.bench.epoch(),
+            floor: self.hall.floor(),
+            last: self.hall.last(),
+            epoch: self.hall.epoch(),
         }
+    }
+}
+
+// The fault of an actor's fetch, which is noted. Where that can't be for want of memory, this is the answer.
+fn noted(failed: &mut Failed, actor: u8, fault: FetchFault) -> FetchFault
+    ensures failed { failed.new ≡ with_fault actor failed.old result }
+    ensures same { (result ≡ fault) ⊎ (result ≡ FetchFault.Memory) }
+{
+    match fault {
+        FetchFault::Fault => match failed.add(actor) {
+            Ok(()) => FetchFault::Fault,
+            Err(_) => FetchFault::Memory,
+        },
+        other => other,
     }
 }
 

@@ -1,5 +1,10 @@
 //! Views, which pin a ledger under a number of an actor's, and reads of them.
-ghost use Rattle.std.specs.Prelude.{◌≡◌, IsTrue, OnErr, IfErr, IfOk};
+ghost use Rattle.std.specs.Prelude.{◌≡◌, ◌≤◌, IsTrue, OnErr, IfErr, IfOk, IfSome};
+ghost use Rattle.std.specs.FinMap as map;
+ghost use Rattle.ledger_spec.specs.Forms.{hash_of};
+ghost use Rattle.ledger_machine.specs.State.{form_in};
+ghost use Rattle.path_proof.specs.Sources.{Gives};
+ghost use Rattle.shamap_node.specs.Nodes.{held};
 ghost use Rattle.std.specs.List.{list_any};
 ghost use Rattle.std.specs.Map.{values_of};
 ghost use Rattle.ledger_spec.specs.Bytes.{Hash, Half, same_bytes};
@@ -17,7 +22,7 @@ use half_hash::{Hash32, Memory, NodeHash};
 use ledger_machine::{GetReply, Reply, ViewReply};
 use node_backend::{BackFault, Shelf};
 use node_offer::root_in;
-use path_proof::{Answer, Outcome, ReadFault, read};
+use path_proof::{Answer, FetchFault, NodeSource, Outcome, ReadFault, read};
 use rotating_store::RotStore;
 use shamap_node::{Kind, Node};
 use std::alloc::Global;
@@ -125,6 +130,21 @@ impl<H: NodeHash, Sh: Shelf> Machine<H, Sh> {
         }
     }
 
+    /// The node of a hash, as the store gives it.
+    pub(crate) fn node_at(
+        &mut self,
+        alloc: Global,
+        h: &Hash32,
+    ) -> Result<Option<Arc<Node>>, FetchFault>
+        requires { IsFiled H.half Sh.B.tells self.old.state }
+        ensures hash { IfOk result (λ o. IfSome o (λ node. hash_of H.half (held node.value) ≡ h.now)) }
+        ensures exact { IsTrue Sh.B.tells → Gives H.half (form_in self.old.state h.now) result }
+        ensures reads { OnlyReads Sh.B.tells self.old self.new }
+        ensures fault { IfErr result (λ e. e ≡ FetchFault.Fault → Rose self.old.faults self.new.faults) }
+    {
+        fetched::<H, RotStore<Sh>>(alloc, &mut self.store, h)
+    }
+
     // Reads a key in the map below a root.
     fn read(
         &mut self,
@@ -146,6 +166,22 @@ impl<H: NodeHash, Sh: Shelf> Machine<H, Sh> {
     }
 }
 
+// What a source gives for a hash.
+fn fetched<H: NodeHash, S: NodeSource<H>>(
+    alloc: Global,
+    source: &mut S,
+    h: &Hash32,
+) -> Result<Option<Arc<Node>>, FetchFault>
+    ensures hash { IfOk result (λ o. IfSome o (λ node. hash_of H.half (held node.value) ≡ h.now)) }
+    ensures exact { IsTrue S.tells → Gives H.half (map.get (S.stored source.old) h.now) result }
+    ensures same { IsTrue S.tells → S.stored source.new ≡ S.stored source.old }
+    ensures rest { S.rest source.new ≡ S.rest source.old }
+    ensures later { S.faults source.old ≤ S.faults source.new }
+    ensures fault { IfErr result (λ e. e ≡ FetchFault.Fault → Rose (S.faults source.old) (S.faults source.new)) }
+{
+    source.fetch(alloc, h)
+}
+
 // Whether a view pins the ledger.
 fn is_pinned(views: &BTreeMap<(u8, u16), Hash32>, target: &Hash32) -> bool
     ensures { result ≡ list_any (same_bytes target.now) (values_of views.now.entries) }
@@ -153,10 +189,11 @@ fn is_pinned(views: &BTreeMap<(u8, u16), Hash32>, target: &Hash32) -> bool
     views.values().any(|pinned| target.equals(pinned))
 }
 
-// The reply that an answer gives, with its path.
-fn answered(answer: Answer) -> Result<Got, BackFault>
+/// The reply that an answer gives, with its path.
+pub(crate) fn answered(answer: Answer) -> Result<Got, BackFault>
     ensures got { (half : Half) (kind : the_kind) (root key : Hash) → IsFollowed half kind root key answer
         → IfOk result (λ got. IsRead half kind key root (Reply.Get got.reply) (held_nodes got.used.items)) }
+    ensures used { IfOk result (λ got. got.used ≡ answer.used) }
     ensures memory { IfErr result (λ e. e ≡ BackFault.Memory) }
 {
     match said(&answer) {

@@ -1,10 +1,10 @@
 -- What a map keeps while items are set, hashes are added and changes are taken, and what it tells.
-use Rattle.std.proofs.Common.{◌≡◌, ◌≢◌, ℕ, zero, suc, ◌<◌, ◌≤◌, List, [], ◌∷◌, ◌++◌, length, map, Option, None, Some, refl}
+use Rattle.std.proofs.Common.{◌≡◌, ◌≢◌, ℕ, zero, suc, ◌<◌, ◌≤◌, List, [], ◌∷◌, ◌++◌, length, map, Option, None, Some, refl, Bool, true, false}
 use Rattle.std.proofs.Common.{sym, ap, ◌∙◌, subst, arith, length-append, ◌⊎◌, inl, inr}
-use Rattle.std.specs.Prelude.{IfSome}
+use Rattle.std.specs.Prelude.{IfSome, MatchBool, not}
 use Rattle.std.specs.List.{slice_get}
 use Rattle.ledger_spec.specs.declared.Kind.{Kind}
-use Rattle.ledger_spec.specs.Bytes.{Bytes, Hash, Half, Items}
+use Rattle.ledger_spec.specs.Bytes.{Bytes, Hash, Half, Items, same_bytes}
 use Rattle.ledger_spec.specs.Forms.{form_of, hash_of, hash_or_zero}
 use Rattle.ledger_spec.specs.Maps.{hash_cmp, insert_in}
 use Rattle.ledger_spec.specs.Tree.{Entry, form_of_part, form_at, root_of}
@@ -28,9 +28,10 @@ use Rattle.swarm_gen.specs.Swarm.{root_blob}
 use Rattle.swarm_gen.specs.Trees as shared
 use Rattle.swarm_gen.specs.Walks.{shared_nodes, placed_at}
 use Rattle.swarm_gen.specs.Tracking.{place_of, link_hash, node_at, kid_at, entries_at, items_at, AreHashes, AreClosed, Tracking, Keeps}
-use Rattle.swarm_gen.specs.Tracking.{leaves_in, items_in, shown_in}
+use Rattle.swarm_gen.specs.Tracking.{leaves_in, items_in, shown_in, HaveTwoHashes}
 use Rattle.swarm_gen.proofs.Closing.{none_closed, closed_more}
 use Rattle.swarm_gen.proofs.Linking.{hash_is, link_grows}
+use Rattle.swarm_gen.proofs.Making.{same_is}
 use Rattle.swarm_gen.proofs.Sharing.{some_within, nothing_there, hash_law, share_law, entries_law}
 use Rattle.swarm_gen.proofs.Standings.{shared_map}
 use Rattle.swarm_gen.proofs.Walking.{shared_say}
@@ -355,6 +356,28 @@ next_told half kind nodes bodies hashes at here low form bytes is same h e = (
   subst (λ n. n < length nodes) here low,
   e ∙ ap half (same ∙ is) ∙ sym (known_hash half kind nodes bodies at low) ∙ ap (λ n. link_hash half kind nodes (Own n)) here,
 )
+
+-- what isn't equal is two
+pub are_two : (P Q : Type 0) (same : Bool) → MatchBool same P Q → not same ≡ true → Q
+are_two P Q true one t = cc
+are_two P Q false two t = two
+
+-- nodes of two hashes have two forms
+pub two_forms : (half : Half) (kind : Kind) (nodes : List Body) → AreBodies nodes → (hashes : List (Option Hash)) (i j : ℕ)
+    → HaveTwoHashes hashes i j → AreHashes half kind nodes hashes
+    → false ≡ same_bytes (form_of (node_at half kind nodes i)) (form_of (node_at half kind nodes j))
+two_forms half kind nodes bodies hashes i j two are = by (same_bytes (form_of (node_at half kind nodes i))
+    (form_of (node_at half kind nodes j))) refl
+  where
+    hash_at : (n : ℕ) (h : Hash) → slice_get hashes n ≡ Some (Some h) → h ≡ half (form_of (node_at half kind nodes n))
+    hash_at n h is = are.each n h is ∙ known_hash half kind nodes bodies n (are.within n h is)
+
+    by : (t : Bool) → same_bytes (form_of (node_at half kind nodes i)) (form_of (node_at half kind nodes j)) ≡ t
+        → false ≡ same_bytes (form_of (node_at half kind nodes i)) (form_of (node_at half kind nodes j))
+    by false e = sym e
+    by true e = absurd (two.apart (hash_at i two.own.0 two.own.1
+        ∙ ap half (same_is (form_of (node_at half kind nodes i)) (form_of (node_at half kind nodes j)) e)
+        ∙ sym (hash_at j two.others.0 two.others.1)))
 
 -- a hash more, where it is that of the next node
 pub hash_more : (half : Half) (kind : Kind) (nodes : List Body) (hashes : List (Option Hash)) (hash : Option Hash)

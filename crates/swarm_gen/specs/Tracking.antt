@@ -1,5 +1,5 @@
 -- A map that knows what it was when it was last asked for its changes, and the hashes of its nodes.
-use Rattle.std.specs.Prelude.{◌≡◌, ℕ, zero, suc, ◌<◌, List, [], ◌∷◌, map, length, Option, None, Some}
+use Rattle.std.specs.Prelude.{◌≡◌, ◌≢◌, ℕ, zero, suc, ◌<◌, List, [], ◌∷◌, map, length, Option, None, Some}
 use Rattle.std.specs.List.{flat_map, slice_get}
 use Rattle.ledger_spec.specs.declared.Kind.{Kind}
 use Rattle.ledger_spec.specs.Bytes.{Half, Hash, Items}
@@ -47,6 +47,12 @@ kid_at nodes i b = place_of (branch_in b (slice_get nodes i))
 -- the hash at a place is known
 abbrev pub IsKnown : List (Option Hash) → ℕ → Type 0
 IsKnown hashes i = (h : Hash) × (slice_get hashes i ≡ Some (Some h))
+
+-- the hashes at two places are known, and two
+pub record HaveTwoHashes (hashes : List (Option Hash)) (i j : ℕ) : Type 0 where
+  pub own : IsKnown hashes i
+  pub others : IsKnown hashes j
+  pub apart : own.0 ≢ others.0
 
 -- so are those to which the branches of the node at a place lead
 abbrev pub KnowsKids : List Body → List (Option Hash) → ℕ → Type 0

@@ -1,6 +1,6 @@
 //! The hashes of the nodes that a map has made since it was last hashed. Those that its top reaches are hashed, each once; a node that
 //! a later edit has replaced is passed over, and so is each that had its hash before. So the cost of a ledger is that of its edits.
-ghost use Rattle.std.specs.Prelude.{◌≡◌, ◌<◌, ℕ, length, Some, IfOk, IfSome, OnOk};
+ghost use Rattle.std.specs.Prelude.{◌≡◌, ◌<◌, ◌+◌, ℕ, true, length, Some, IfOk, IfSome, IsSome, OnOk};
 ghost use Rattle.cow_map.specs.declared.link.Link.TheVariants.{Own as own_link};
 ghost use Rattle.swarm_gen.specs.Tracking.{place_of, link_hash, AreHashes, AreClosed, IsKnown, KnowsKids, KnowsAll};
 
@@ -64,6 +64,7 @@ fn next_hash<H: NodeHash>(
     ensures hash { IfOk result (λ hash. IfSome hash (λ h. (length hashes.now < length map.now.nodes)
         × (h ≡ link_hash H.half map.now.kind map.now.nodes (own_link (length hashes.now))))) }
     ensures kids { IfOk result (λ hash. IfSome hash (λ _. KnowsKids map.now.nodes hashes.now (length hashes.now))) }
+    ensures wanted { IfOk result (λ hash. is_wanted ≡ true → length hashes.now < length map.now.nodes → IsSome hash) }
 {
     map.known();
     let at = hashes.len();
@@ -85,6 +86,7 @@ fn add_hash<H: NodeHash>(
     requires closed { AreClosed map.now.nodes hashes.old.items }
     ensures hashes { AreHashes H.half map.now.kind map.now.nodes hashes.new.items }
     ensures closed { AreClosed map.now.nodes hashes.new.items }
+    ensures one { OnOk result (length hashes.new.items ≡ length hashes.old.items + 1) }
 {
     let hash = next_hash::<H>(alloc, map, hashes, is_wanted)?;
     hashes.push(hash)?;

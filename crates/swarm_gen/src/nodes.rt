@@ -1,5 +1,5 @@
 //! The nodes of a map of links, with the hashes of their links from a list that has them by their places.
-ghost use Rattle.std.specs.Prelude.{◌≡◌, ◌<◌, ℕ, List, map, length, Some, IfOk};
+ghost use Rattle.std.specs.Prelude.{◌≡◌, ◌<◌, ℕ, List, map, length, Some, IfOk, true};
 ghost use Rattle.std.specs.List.{slice_get, slice_index_or};
 ghost use Rattle.ledger_spec.specs.declared.Kind.{Kind as KindOf};
 ghost use Rattle.ledger_spec.specs.Bytes.{Half, same_bytes};
@@ -8,7 +8,7 @@ ghost use Rattle.ledger_spec.specs.Forms as held;
 ghost use Rattle.ledger_spec.specs.Wire.{wire_of};
 ghost use Rattle.cow_map.specs.Bodies.{Body};
 ghost use Rattle.cow_map.specs.declared.link.Link.TheVariants.{Empty as empty_link};
-ghost use Rattle.swarm_gen.specs.Tracking.{place_of, link_hash, node_at, kid_at, AreHashes, IsKnown, KnowsKids};
+ghost use Rattle.swarm_gen.specs.Tracking.{place_of, link_hash, node_at, kid_at, AreHashes, IsKnown, KnowsKids, HaveTwoHashes};
 
 use cow_map::{Cow, CowMap, Link, Links};
 use half_hash::{Blob, Hash32, Memory, Prefix};
@@ -30,6 +30,9 @@ const SET_TYPE: u8 = 0;
 
 /// The length of an inner node's form.
 const INNER_FORM: usize = 516;
+
+/// The most bytes beside the data of a leaf's form or wire form: a key, and a prefix or a type byte.
+const BESIDE_DATA: usize = 36;
 
 /// The place in the list of nodes to which a link leads.
 pub(crate) fn place(link: &Link) -> Option<usize>
@@ -112,7 +115,8 @@ fn inner_form(alloc: Global, below: &[Hash32]) -> Result<Blob, Memory>
 fn leaf_form(alloc: Global, kind: Kind, item: &Item) -> Result<Blob, Memory>
     ensures { IfOk result (λ form. form ≡ form_of_leaf kind item.now.key item.now.value) }
 {
-    let mut bytes = Vec::from_slice(alloc, &kind.prefix().bytes())?;
+    let mut bytes = Vec::with_capacity(alloc, item.data().len().saturating_add(BESIDE_DATA))?;
+    bytes.extend_from_slice(&kind.prefix().bytes())?;
     bytes.extend_from_slice(item.data())?;
     match kind {
         Kind::Set => Ok(Blob::new(bytes)),
@@ -165,7 +169,8 @@ fn inner_wire(alloc: Global, below: &[Hash32]) -> Result<Blob, Memory>
 fn leaf_wire(alloc: Global, kind: Kind, item: &Item) -> Result<Blob, Memory>
     ensures { IfOk result (λ blob. blob ≡ wire_of (held.leaf kind item.now.key item.now.value)) }
 {
-    let mut bytes = Vec::from_slice(alloc, item.data())?;
+    let mut bytes = Vec::with_capacity(alloc, item.data().len().saturating_add(BESIDE_DATA))?;
+    bytes.extend_from_slice(item.data())?;
     match kind {
         Kind::Set => bytes.push(SET_TYPE)?,
         Kind::State => {
@@ -201,7 +206,16 @@ pub(crate) fn wire(
     }
 }
 
-/// Whether the nodes at two places have one form.
+// Whether the nodes at two places have two hashes.
+fn have_two_hashes(hashes: &[Option<Hash32>], at: usize, other: usize) -> Result<bool, Memory>
+    ensures { IfOk result (λ two. two ≡ true → HaveTwoHashes hashes.now at other) }
+{
+    let own = known(hashes, at)?;
+    let others = known(hashes, other)?;
+    Ok(!own.equals(&others))
+}
+
+/// Whether the nodes at two places have one form. Where their hashes are two, no form is made.
 pub(crate) fn have_one_form(
     alloc: Global,
     map: &CowMap,
@@ -213,6 +227,11 @@ pub(crate) fn have_one_form(
         same ≡ same_bytes (form_of (node_at half map.now.kind map.now.nodes at))
         (form_of (node_at half map.now.kind map.now.nodes other))) }
 {
+    map.known();
+    let two = have_two_hashes(hashes, at, other)?;
+    if two {
+        return Ok(false);
+    }
     let own = form(alloc, map, hashes, at)?;
     let others = form(alloc, map, hashes, other)?;
     Ok(own.bytes() == others.bytes())

@@ -1,11 +1,11 @@
 //! Maps of items that tell which of their nodes are others than when they were last asked.
-ghost use Rattle.std.specs.Prelude.{◌≡◌, ◌≢◌, [], map, IfOk, OnOk, OnErr, MatchOption};
+ghost use Rattle.std.specs.Prelude.{◌≡◌, ◌≢◌, ℕ, [], map, IfOk, OnOk, OnErr, MatchOption};
 ghost use Rattle.ledger_spec.specs.Maps.{hash_cmp, insert_in, IsMap};
 ghost use Rattle.cow_map.specs.Edits.{GrowsBy, SetsItem};
 ghost use Rattle.cow_map.specs.Gathered.{nothing_held, entries_of};
 ghost use Rattle.swarm_gen.specs.Placed.{nodes_of, changed};
 ghost use Rattle.swarm_gen.specs.Given.{given, IsRoot};
-ghost use Rattle.swarm_gen.specs.Tracking.{leaves_in, items_in, shown_in};
+ghost use Rattle.swarm_gen.specs.Tracking.{leaves_in, items_in, shown_in, KnowsAll};
 
 use crate::hashing::fill;
 use crate::nodes::{have_one_form, kid, known, place, wire};
@@ -154,6 +154,8 @@ impl<H: NodeHash> TrackedMap<H> {
     fn hash_nodes(&mut self, alloc: Global) -> Result<(), Memory>
         ensures tree { self.new.tree ≡ self.old.tree }
         ensures last { self.new.last ≡ self.old.last }
+        // then the hash at each place that the top reaches is known
+        ensures all { OnOk result ((steps : ℕ) → KnowsAll self.new.tree.nodes self.new.hashes steps self.new.tree.top) }
     {
         fill::<H>(alloc, &self.tree, &mut self.hashes)
     }

@@ -1,6 +1,6 @@
 //! A walk of two maps at once that share nodes: a branch at which both have one node is passed over whole.
 ghost use Rattle.std.specs.Prelude.{◌≡◌, ◌<◌, ◌≤◌, ◌++◌, ◌∷◌, [], ℕ, List, Option, None, Some, map, length};
-ghost use Rattle.std.specs.Prelude.{if◌then◌else◌, IfOk, OnOk, IsTrue};
+ghost use Rattle.std.specs.Prelude.{if◌then◌else◌, ◌≢◌, IfOk, OnOk, MatchBool};
 ghost use Rattle.std.specs.List.{flat_map};
 ghost use Rattle.ledger_spec.specs.Bytes.{branches, same_bytes};
 ghost use Rattle.ledger_spec.specs.Forms.{Held, form_of};
@@ -69,13 +69,14 @@ fn list_itself<H: NodeHash, T: Shared<H>>(
 
 /// Whether both maps have one node here, or none.
 fn is_shared(new: Option<usize>, old: Option<usize>) -> bool
-    ensures { IsTrue result → new ≡ old }
+    ensures { MatchBool result (new ≡ old) (new ≢ old) }
 {
     new == old
 }
 
 /// Lists the nodes of a map, at a place and below it, whose place holds another node or none in
 /// another map, in pre-order. What both share isn't looked at.
+#[cycle(walk)]
 pub(crate) fn walk<H: NodeHash, T: Shared<H>>(
     alloc: Global,
     tree: &T,
@@ -97,16 +98,33 @@ pub(crate) fn walk<H: NodeHash, T: Shared<H>>(
     place.known();
     list_itself(alloc, tree, node, old, place, out)?;
     for b in 0..16 {
-        if let Some(below) = place.child(b) {
-            walk(
-                alloc,
-                tree,
-                tree.child(node, b),
-                old_child(tree, old, b),
-                below,
-                out,
-            )?;
-        }
+        walk_branch(alloc, tree, node, old, place, b, out)?;
     }
     Ok(())
+}
+
+// The same for the places below a branch of a node. Where the map has no node there, nothing more is looked at.
+#[cycle(walk)]
+fn walk_branch<H: NodeHash, T: Shared<H>>(
+    alloc: Global,
+    tree: &T,
+    node: usize,
+    old: Option<usize>,
+    place: NodeId,
+    b: u8,
+    out: &mut Vec<PlacedNode>,
+) -> Result<(), Memory>
+    requires { b < 16 }
+    ensures { OnOk result (out.new.items ≡ out.old.items ++ map (given H.half) (changed
+        (shared_nodes (T.held tree.now) (T.kid tree.now) (old_kid (T.kid tree.now) old b) (place ++ b ∷ []))
+        (shared_nodes (T.held tree.now) (T.kid tree.now) (T.kid tree.now node b) (place ++ b ∷ [])))) }
+{
+    let Some(new) = tree.child(node, b) else {
+        return Ok(());
+    };
+    let Some(below) = place.child(b) else {
+        return Ok(());
+    };
+    let before = old_child(tree, old, b);
+    walk(alloc, tree, Some(new), before, below, out)
 }

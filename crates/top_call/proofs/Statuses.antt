@@ -1,6 +1,6 @@
 -- The status of a journal without faults.
 use Rattle.std.proofs.Common.{◌≡◌, ℕ, List, [], ◌∷◌, Bool, true, false, cond, if◌then◌else◌, Option, Some, Contains}
-use Rattle.std.proofs.Common.{refl, sym, ◌∙◌, subst, arith, inl, inr, ◌<◌, ◌-◌, ◌^◌, ◌+◌}
+use Rattle.std.proofs.Common.{length, refl, sym, ◌∙◌, subst, arith, inl, inr, ◌<◌, ◌-◌, ◌^◌, ◌+◌}
 use Rattle.std.proofs.lemmas.Bool.{ne_eqb}
 use Rattle.std.specs.Prelude.{◌||◌, ◌==◌, nat_lt}
 use Rattle.run_io.specs.Bytes.{Rose}
@@ -76,7 +76,7 @@ calm_free : (half : Half) (told : Bool) (handed : ℕ) (c : CoreView) → IsJour
     → IsOneOf (status_of c.journal c.missed) (FINE ∷ CLASHED ∷ NO_MEMORY ∷ [])
 calm_free half told handed c kept from calm =
     let still : c.faults ≡ c.opened = omega (arith, from.0, from.1, calm.0) in
-    let none = calm_faults (faults_in c.journal + c.missed) c.opened c.faults kept.faults still calm.1 in
+    let none = calm_faults (faults_in c.journal + (c.missed + length c.failed)) c.opened c.faults kept.faults still calm.1 in
     fault_free c.journal c.missed (omega (arith, none)) (omega (arith, none))
 
 -- what isn't a clash

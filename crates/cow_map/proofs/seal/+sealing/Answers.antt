@@ -51,9 +51,9 @@ inner_form-loop-b-preserved g t c = (
       (Ok c.in_ok-hash.hash)) c.get.ensures c.in_ok-hash.ensures.seals)
       stored left (path ++ c.loop-b.b ∷ []) (kids c.loop-b.b) (stand c.loop-b.b c.loop-b-test.true) in
       front_more g.H.NodeHash.half c.args.kind c.args.arena.now c.args.links.now c.args.forms.now.items stored left c.loop-b.forms.items
-      c.seal_link.new.forms.items c.loop-b.bytes.items c.extend_from_slice.new.self.items c.in_ok-hash.hash c.loop-b.b low
+      c.seal_link.new.forms.items c.loop-b.bytes.items c.extend_from_slice-in-loop-b.new.self.items c.in_ok-hash.hash c.loop-b.b low
       (c.loop-b.invariant.0 stored left path kids stand) step
-      (c.in_ok-extend_from_slice.ensures.items ∙ ap (λ (h : List ℕ). c.loop-b.bytes.items ++ h) c.hash.view_is)),
+      (c.in_ok-extend_from_slice-2.ensures.items ∙ ap (λ (h : List ℕ). c.loop-b.bytes.items ++ h) c.hash.view_is)),
   (λ named. c.in_ok-hash.ensures.named (c.loop-b.invariant.1 named)),
 )
 

@@ -1,12 +1,12 @@
-use Rattle.std.proofs.Common.{◌-◌, ◌∙◌, length, refl, ap, subst, arith, Option, true, false, Some}
+use Rattle.std.proofs.Common.{◌-◌, ◌∙◌, ◌++◌, ◌∷◌, [], ◌≡◌, length, refl, sym, ap, subst, arith, true, false, Some}
 use Rattle.std.specs.FinMap as map
 use Rattle.shamap_node.specs.Nodes.{held, hashes_above}
-use Rattle.shamap_node.specs.declared.parts.Inner.{Inner}
 use Rattle.ledger_spec.specs.Pages.{page_from}
-use Rattle.path_proof.specs.Paths.{hashes_kept}
+use Rattle.std.specs.List.{slice_index_or}
+use Rattle.ledger_spec.specs.Bytes.{is_zero, zero_hash}
 use Rattle.map_cursor.specs.Shown.{shown, Takes}
-use Rattle.map_cursor.specs.Visits.{branch_reading}
-use Rattle.map_cursor.proofs.Visiting.{skip_is, skip_visited, place_refused, memory_refused, handed_on, no_fault, leaf_visited}
+use Rattle.map_cursor.specs.Visits.{Visits, branch_reading}
+use Rattle.map_cursor.proofs.Visiting.{skip_is, skip_visited, zero_skipped, place_refused, memory_refused, handed_on, no_fault, leaf_visited}
 use Rattle.map_cursor.proofs.Visiting.{inner_visited, inner_refused, nothing_done, branch_visited, branch_refused, reading_is, level_of}
 use Rattle.map_cursor.proofs.visits.+visits.Goals as goal
 
@@ -51,58 +51,58 @@ visit-returns-in_err-take-clause-fault g t c =
     no_fault _ c.in_err-take.field-0.0 _ c.from_residual-in_err-take.ensures c.in_err-take.ensures.memory
 
 -- the inner node fits and what follows is its branches' turn, so what they want is wanted here
-pub visit-returns-in_err-visit_branches-in-Some-clause-visited : goal.visit-returns-in_err-visit_branches-in-Some-clause-visited
-visit-returns-in_err-visit_branches-in-Some-clause-visited g t c =
+pub visit-returns-in_err-visit_branches-clause-visited : goal.visit-returns-in_err-visit_branches-clause-visited
+visit-returns-in_err-visit_branches-clause-visited g t c =
     let takes : Takes c.args.query.now.after (held c.in_ok-node.node.value) (shown c.args.page.now) (shown c.take.new.self)
-    (Some c.in-Some.inner.hashes) =
-    subst (λ (b : Option Inner). Takes c.args.query.now.after (held c.in_ok-node.node.value) (shown c.args.page.now)
-    (shown c.take.new.self) (hashes_kept b)) c.in-Some.is c.in_ok-take.ensures.taken in
+    (Some c.in-Some.inner.now.hashes) =
+    subst (Takes c.args.query.now.after (held c.in_ok-node.node.value) (shown c.args.page.now) (shown c.take.new.self))
+    (sym c.inner_in.ensures ∙ ap hashes_above c.in-Some.is) c.in_ok-take.ensures.taken in
     handed_on g.H.NodeHash.half c.args.query.now.kind g.S.NodeSource.tells (map.get (g.S.NodeSource.stored c.args.source.now))
     (page_from g.H.NodeHash.half c.args.query.now.kind c.args.query.now.after (64 - length c.args.id.now) (hashes_above c.args.parent)
-    c.args.id.now c.args.wanted.now) c.args.query.now.most (shown c.args.page.now) _ _ c.in_err-visit_branches-in-Some.field-0.0
-    c.from_residual-in_err-visit_branches-in-Some.ensures
+    c.args.id.now c.args.wanted.now) c.args.query.now.most (shown c.args.page.now) _ _ c.in_err-visit_branches.field-0.0
+    c.from_residual-in_err-visit_branches.ensures
     (inner_refused g.H.NodeHash.half c.args.query.now.kind g.S.NodeSource.tells (map.get (g.S.NodeSource.stored c.args.source.now))
     (map.get (g.S.NodeSource.stored c.node_at.new.source)) (λ told. ap map.get (c.in_ok-node.ensures.same told))
     c.args.query.now.after (64 - length c.args.id.now) (63 - length c.args.id.now) (hashes_above c.args.parent) c.args.id.now
     c.args.wanted.now c.args.query.now.most (shown c.args.page.now) (shown c.take.new.self) (held c.in_ok-node.node.value)
-    c.in-Some.inner.hashes
+    c.in-Some.inner.now.hashes
     (level_of g.H.NodeHash.half c.args.query.now.kind (hashes_above c.args.parent) c.args.id.now c.args.wanted.now
-    (held c.in_ok-node.node.value) c.in-Some.inner.hashes c.known.ensures.short c.in_ok-node.ensures.fits takes.below_is)
+    (held c.in_ok-node.node.value) c.in-Some.inner.now.hashes c.known.ensures.short c.in_ok-node.ensures.fits takes.below_is)
     (skip_is false c.skips.result c.args.query.now.after c.args.id.now c.args.wanted.now c.args.query.now.most c.len.result
     c.args.page.now.leaves.items c.if-skips.false c.skips.ensures (c.len.ensures ∙ c.args.page.now.leaves.ok.0))
-    c.in_ok-node.ensures.fits c.in_ok-node.ensures.held takes c.in_err-visit_branches-in-Some.field-0.0
-    c.in_err-visit_branches-in-Some.ensures.visited)
+    c.in_ok-node.ensures.fits c.in_ok-node.ensures.held takes c.in_err-visit_branches.field-0.0
+    c.in_err-visit_branches.ensures.visited)
 
 -- the node fits and is a leaf, so the place says its item, if that is behind the key, and no more
-pub visit-returns-in-None-clause-visited : goal.visit-returns-in-None-clause-visited
-visit-returns-in-None-clause-visited g t c =
+pub visit-returns-in_default-clause-visited : goal.visit-returns-in_default-clause-visited
+visit-returns-in_default-clause-visited g t c =
     leaf_visited g.H.NodeHash.half c.args.query.now.kind g.S.NodeSource.tells (map.get (g.S.NodeSource.stored c.args.source.now))
     c.args.query.now.after (64 - length c.args.id.now) (hashes_above c.args.parent) c.args.id.now c.args.wanted.now
     c.args.query.now.most (shown c.args.page.now) (held c.in_ok-node.node.value) (shown c.take.new.self)
     (skip_is false c.skips.result c.args.query.now.after c.args.id.now c.args.wanted.now c.args.query.now.most c.len.result
     c.args.page.now.leaves.items c.if-skips.false c.skips.ensures (c.len.ensures ∙ c.args.page.now.leaves.ok.0))
     c.in_ok-node.ensures.fits c.in_ok-node.ensures.held
-    (subst (λ (b : Option Inner). Takes c.args.query.now.after (held c.in_ok-node.node.value) (shown c.args.page.now)
-    (shown c.take.new.self) (hashes_kept b)) c.in-None.is c.in_ok-take.ensures.taken)
+    (subst (Takes c.args.query.now.after (held c.in_ok-node.node.value) (shown c.args.page.now) (shown c.take.new.self))
+    (sym c.inner_in.ensures ∙ ap hashes_above c.in_default.is) c.in_ok-take.ensures.taken)
 
 -- the inner node fits, and a place with one says what its branches say in turn
-pub visit-returns-in_ok-visit_branches-in-Some-clause-visited : goal.visit-returns-in_ok-visit_branches-in-Some-clause-visited
-visit-returns-in_ok-visit_branches-in-Some-clause-visited g t c =
+pub visit-returns-clause-visited : goal.visit-returns-clause-visited
+visit-returns-clause-visited g t c =
     let takes : Takes c.args.query.now.after (held c.in_ok-node.node.value) (shown c.args.page.now) (shown c.take.new.self)
-    (Some c.in-Some.inner.hashes) =
-    subst (λ (b : Option Inner). Takes c.args.query.now.after (held c.in_ok-node.node.value) (shown c.args.page.now)
-    (shown c.take.new.self) (hashes_kept b)) c.in-Some.is c.in_ok-take.ensures.taken in
+    (Some c.in-Some.inner.now.hashes) =
+    subst (Takes c.args.query.now.after (held c.in_ok-node.node.value) (shown c.args.page.now) (shown c.take.new.self))
+    (sym c.inner_in.ensures ∙ ap hashes_above c.in-Some.is) c.in_ok-take.ensures.taken in
     inner_visited g.H.NodeHash.half c.args.query.now.kind g.S.NodeSource.tells (map.get (g.S.NodeSource.stored c.args.source.now))
     (map.get (g.S.NodeSource.stored c.node_at.new.source)) (λ told. ap map.get (c.in_ok-node.ensures.same told))
     c.args.query.now.after (64 - length c.args.id.now) (63 - length c.args.id.now) (hashes_above c.args.parent) c.args.id.now
     c.args.wanted.now c.args.query.now.most (shown c.args.page.now) (shown c.take.new.self) (held c.in_ok-node.node.value)
-    c.in-Some.inner.hashes
+    c.in-Some.inner.now.hashes
     (level_of g.H.NodeHash.half c.args.query.now.kind (hashes_above c.args.parent) c.args.id.now c.args.wanted.now
-    (held c.in_ok-node.node.value) c.in-Some.inner.hashes c.known.ensures.short c.in_ok-node.ensures.fits takes.below_is)
+    (held c.in_ok-node.node.value) c.in-Some.inner.now.hashes c.known.ensures.short c.in_ok-node.ensures.fits takes.below_is)
     (skip_is false c.skips.result c.args.query.now.after c.args.id.now c.args.wanted.now c.args.query.now.most c.len.result
     c.args.page.now.leaves.items c.if-skips.false c.skips.ensures (c.len.ensures ∙ c.args.page.now.leaves.ok.0))
     c.in_ok-node.ensures.fits c.in_ok-node.ensures.held takes _
-    c.in_ok-visit_branches-in-Some.ensures.visited
+    c.in_ok-visit_branches.ensures.visited
 
 -- no branch was visited, so nothing was added, and no branches in turn say nothing
 pub visit_branches-loop-b-init : goal.visit_branches-loop-b-init
@@ -117,19 +117,17 @@ visit_branches-loop-b-init g t c =
     }
 
 -- the branches before it have said their items, so what this branch wants is what all want in turn
-pub visit_branches-returns-in_err-visit-clause-visited : goal.visit_branches-returns-in_err-visit-clause-visited
-visit_branches-returns-in_err-visit-clause-visited g t c =
+pub visit_branches-returns-in_err-visit_branch-clause-visited : goal.visit_branches-returns-in_err-visit_branch-clause-visited
+visit_branches-returns-in_err-visit_branch-clause-visited g t c =
     handed_on g.H.NodeHash.half c.args.query.now.kind g.S.NodeSource.tells (map.get (g.S.NodeSource.stored c.args.source.now)) _
-    c.args.query.now.most (shown c.args.page.now) _ _ c.in_err-visit.field-0.0 c.from_residual.ensures
+    c.args.query.now.most (shown c.args.page.now) _ _ c.in_err-visit_branch.field-0.0 c.from_residual.ensures
     (branch_refused g.H.NodeHash.half c.args.query.now.kind g.S.NodeSource.tells (map.get (g.S.NodeSource.stored c.args.source.now))
     (map.get (g.S.NodeSource.stored c.loop-b.source)) (λ told. ap map.get (c.loop-b.invariant.same told))
     (branch_reading g.H.NodeHash.half c.args.query.now.kind c.args.query.now.after (63 - length c.args.id.now) c.args.inner.now.hashes
     c.args.id.now) c.args.query.now.most c.loop-b.b (shown c.args.page.now)
-    (shown c.loop-b.page) c.loop-b.invariant.visited _
-    (reading_is g.H.NodeHash.half c.args.query.now.kind c.args.query.now.after c.args.inner.now.hashes c.args.id.now c.in-Some.below
-    c.loop-b.b c.branch-inner.result c.requires c.in-Some.ensures.below c.branch-inner.ensures) c.loop-b-test.true
-    c.in_err-visit.field-0.0
-    c.in_err-visit.ensures.visited)
+    (shown c.loop-b.page) c.loop-b.invariant.visited _ refl c.loop-b-test.true
+    c.in_err-visit_branch.field-0.0
+    c.in_err-visit_branch.ensures.visited)
 
 -- what one branch more adds comes behind what the branches before it have added
 pub visit_branches-loop-b-preserved : goal.visit_branches-loop-b-preserved
@@ -139,12 +137,32 @@ visit_branches-loop-b-preserved g t c = record {
       (map.get (g.S.NodeSource.stored c.loop-b.source)) (λ told. ap map.get (c.loop-b.invariant.same told))
       (branch_reading g.H.NodeHash.half c.args.query.now.kind c.args.query.now.after (63 - length c.args.id.now)
       c.args.inner.now.hashes c.args.id.now) c.args.query.now.most c.loop-b.b (shown c.args.page.now)
-      (shown c.loop-b.page) c.loop-b.invariant.visited _
-      (reading_is g.H.NodeHash.half c.args.query.now.kind c.args.query.now.after c.args.inner.now.hashes c.args.id.now c.in-Some.below
-      c.loop-b.b c.branch-inner.result c.requires c.in-Some.ensures.below c.branch-inner.ensures) _
-      c.in_ok-visit.ensures.visited;
-  further = λ all. c.in_ok-visit.ensures.further (c.loop-b.invariant.further all);
-  same = λ told. c.in_ok-visit.ensures.same told ∙ c.loop-b.invariant.same told;
-  rest = c.in_ok-visit.ensures.rest ∙ c.loop-b.invariant.rest;
+      (shown c.loop-b.page) c.loop-b.invariant.visited _ refl _
+      c.in_ok-visit_branch.ensures.visited;
+  further = λ all. c.in_ok-visit_branch.ensures.further (c.loop-b.invariant.further all);
+  same = λ told. c.in_ok-visit_branch.ensures.same told ∙ c.loop-b.invariant.same told;
+  rest = c.in_ok-visit_branch.ensures.rest ∙ c.loop-b.invariant.rest;
   later = omega arith;
 }
+
+-- an empty branch is skipped
+pub visit_branch-returns-then-is_zero-clause-visited : goal.visit_branch-returns-then-is_zero-clause-visited
+visit_branch-returns-then-is_zero-clause-visited g t c =
+    let zero : is_zero (slice_index_or c.args.inner.now.hashes c.args.b zero_hash) ≡ true =
+    ap is_zero (sym c.branch-wanted.ensures) ∙ sym c.if-is_zero.ensures in
+    skip_visited g.H.NodeHash.half c.args.query.now.kind g.S.NodeSource.tells (map.get (g.S.NodeSource.stored c.args.source.now))
+    c.args.query.now.after (63 - length c.args.id.now) (Some c.args.inner.now.hashes) (c.args.id.now ++ c.args.b ∷ [])
+    (slice_index_or c.args.inner.now.hashes c.args.b zero_hash) c.args.query.now.most (shown c.args.page.now)
+    (zero_skipped c.args.query.now.after (c.args.id.now ++ c.args.b ∷ [])
+    (slice_index_or c.args.inner.now.hashes c.args.b zero_hash) (c.args.query.now.most - length (shown c.args.page.now).items)
+    zero)
+
+-- what is said of the place below is what is said of the branch
+pub visit_branch-returns-clause-visited : goal.visit_branch-returns-clause-visited
+visit_branch-returns-clause-visited g t c =
+    subst (λ reading. Visits g.H.NodeHash.half c.args.query.now.kind g.S.NodeSource.tells
+    (map.get (g.S.NodeSource.stored c.args.source.now)) reading c.args.query.now.most (shown c.args.page.now) (shown c.visit.new.page)
+    c.visit.result)
+    (reading_is g.H.NodeHash.half c.args.query.now.kind c.args.query.now.after c.args.inner.now.hashes c.args.id.now c.in-Some.below
+    c.args.b c.branch-wanted.result c.requires.levels c.in-Some.ensures.below c.branch-wanted.ensures)
+    c.visit.ensures.visited

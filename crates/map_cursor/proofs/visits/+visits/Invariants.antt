@@ -6,12 +6,15 @@ use Rattle.map_cursor.specs.Shown.{shown, HasFurther}
 use Rattle.map_cursor.specs.Visits.{Visited, branch_reading}
 use Rattle.map_cursor.proofs.visits.+visits.Given as goal
 
--- twice the levels below, and one more for the loop over the branches, which lie a level lower
+-- thrice the levels below, and more for the loop over the branches, which lie a level lower, and for one of them
 abbrev pub decreases-visit : goal.decreases-visit
-decreases-visit g l = 2 * (64 - length l.id.now)
+decreases-visit g l = 3 * (64 - length l.id.now)
 
 abbrev pub decreases-visit_branches : goal.decreases-visit_branches
-decreases-visit_branches g l = 2 * (63 - length l.id.now) + 1
+decreases-visit_branches g l = 3 * (63 - length l.id.now) + 2
+
+abbrev pub decreases-visit_branch : goal.decreases-visit_branch
+decreases-visit_branch g l = 3 * (63 - length l.id.now) + 1
 
 -- the branches so far
 abbrev pub invariant-visit_branches-loop-b : goal.invariant-visit_branches-loop-b

@@ -1,4 +1,8 @@
-use Rattle.std.proofs.Common.{sym, ◌∙◌}
+use Rattle.std.proofs.Common.{sym, subst, ◌∙◌}
+use Rattle.ledger_spec.specs.Findings.{seen_as}
+use Rattle.ledger_spec.specs.Rules.{fault_of}
+use Rattle.shamap_node.specs.Nodes.{held}
+use Rattle.missing_walk.specs.Views.{ShowsAs}
 use Rattle.missing_walk.specs.Pending.{pending_of, above}
 use Rattle.missing_walk.proofs.Seeing.{zero_found, views_marked, views_cached, views_from, use_keeps, same_keeps, get_keeps, keeps_then}
 use Rattle.missing_walk.proofs.Passing.{use_still}
@@ -37,8 +41,10 @@ returns-in_err-fetch-in-None-clause-marks g c = use_keeps c.args.marks.now c.is_
 -- a cached node is held, so what is seen of it is what is seen in the store
 pub returns-in-Some-clause-view : goal.returns-in-Some-clause-view
 returns-in-Some-clause-view g c nodes t marked cached =
-    views_cached g.H.NodeHash.half nodes c.args.cache.now (pending_of c.args.todo.now) c.in_ok-node.field-0 c.in-Some.node c.judge.result
-    cached c.in_ok-node.ensures.value c.in-Some.is (sym c.if-is_zero.ensures) c.known.ensures.short c.judge.ensures.shows
+    views_cached g.H.NodeHash.half nodes c.args.cache.now (pending_of c.args.todo.now) c.in_ok-node.field-0 c.in-Some.node c.judge_node.result
+    cached c.in_ok-node.ensures.value c.in-Some.is (sym c.if-is_zero.ensures) c.known.ensures.short (subst (λ p. ShowsAs c.judge_node.result
+    (seen_as (held c.in-Some.node.value) (fault_of (held c.in-Some.node.value) p c.args.todo.now.at.kind c.args.todo.now.at.id)))
+    c.inner_above.ensures c.judge_node.ensures.shows)
 
 pub returns-in-Some-clause-cache : goal.returns-in-Some-clause-cache
 returns-in-Some-clause-cache g c nodes t =
@@ -75,8 +81,10 @@ returns-then-is_full-clause-weighs g c nodes t marked cached nonzero =
 
 pub returns-in-Some-clause-weighs : goal.returns-in-Some-clause-weighs
 returns-in-Some-clause-weighs g c nodes t marked cached nonzero =
-    weighs_cached g.H.NodeHash.half nodes c.args.cache.now (pending_of c.args.todo.now) c.in_ok-node.field-0 c.in-Some.node c.judge.result
-    cached c.in_ok-node.ensures.value c.in-Some.is nonzero c.known.ensures.short c.judge.ensures.shows
+    weighs_cached g.H.NodeHash.half nodes c.args.cache.now (pending_of c.args.todo.now) c.in_ok-node.field-0 c.in-Some.node c.judge_node.result
+    cached c.in_ok-node.ensures.value c.in-Some.is nonzero c.known.ensures.short (subst (λ p. ShowsAs c.judge_node.result
+    (seen_as (held c.in-Some.node.value) (fault_of (held c.in-Some.node.value) p c.args.todo.now.at.kind c.args.todo.now.at.id)))
+    c.inner_above.ensures c.judge_node.ensures.shows)
 
 pub returns-in_ok-fetch-in-None-clause-weighs : goal.returns-in_ok-fetch-in-None-clause-weighs
 returns-in_ok-fetch-in-None-clause-weighs g c nodes t marked cached nonzero =

@@ -6,7 +6,7 @@ use Rattle.store_core.specs.Desks.{Desk}
 use Rattle.ledger_spec.specs.Retaining.{Retention}
 use Rattle.online_rotate.specs.Rotators.{Turning}
 use Rattle.store_core.specs.Telling.{KeepsTurning}
-use Rattle.store_core.proofs.Beginning.{begin_said, begin_after, begin_by, begin_few}
+use Rattle.store_core.proofs.Beginning.{begin_said, begin_after, begin_by, begin_counts, begin_few}
 use Rattle.store_core.proofs.Turns.{keeps_begin}
 use Rattle.store_core.proofs.machine.Machine.begin.Goals as goal
 
@@ -59,3 +59,10 @@ returns-clause-grows g c = record {
   );
   ages = omega (arith, ap (λ (d : Desk). d.state.epoch) c.self.view_is);
 }
+
+-- a rotation that begins has done no slice
+pub returns-clause-slices : goal.returns-clause-slices
+returns-clause-slices g c =
+    rw c.begin_told.ensures (rw (← c.self.view_is) (begin_counts c.self.inside.store c.self.inside.wanted.entries
+    c.self.inside.views.entries c.self.inside.book c.self.inside.rotator _ c.begin.new.book c.begin.new.self
+    c.in_ok-begun.begun c.in_ok-begun.ensures.after))

@@ -11,8 +11,13 @@ use Rattle.store_core.proofs.Waiting.{done_free, next_left, blocked_by, blocked_
 use Rattle.store_core.proofs.Sections.{core_same}
 use Rattle.ledger_searches.specs.Hunting.{hunt_of}
 use Rattle.store_core.specs.Journal.{CoreView}
-use Rattle.store_core.proofs.Checks.{hunts_on, keeps_on, keeps_sliced, search_on}
-use Rattle.store_core.proofs.Sections.{asked_few, asked_none, slice_of}
+use Rattle.store_core.proofs.Checks.{hunts_on, keeps_on, keeps_sliced, marks_left, search_on}
+use Rattle.store_core.proofs.Sections.{asked_few, asked_none, counts_fewer, slice_of}
+use Rattle.ledger_spec.specs.Maps.{ForActor}
+use Rattle.store_core.specs.Halls.{root_by}
+use Rattle.store_core.specs.declared.jobs.View.{View}
+use Rattle.store_core.proofs.Asking.{blocked_jobless, done_jobless, job_next, takes_in, takes_none}
+use Rattle.store_core.proofs.Failing.{without_few, without_fewer}
 use Rattle.store_core.proofs.store.Core.advance.Goals as goal
 use Rattle.store_core.proofs.store.Core.advance.Goals.{else-after-ne0-via-then-after-ne0+else-not-is_answered}
 use Rattle.store_core.proofs.store.Core.advance.Goals.{else-after-ne0-via-else-after-ne0}
@@ -179,14 +184,14 @@ invariant_of-self-in_default-section g c =
     let k = c.self.invariant.0 in
     let next = moved c.self.inside.cursors.items c.deref.ensures.value c.index-from.ensures
     c.self.inside.cursors.ok.0 c.len.ensures c.if-actor-len.false c.in-Some.ensures in
-    let shares = c.section.ensures.shares in (
+    let shares = c.in_default-section.ensures.does.shares in (
       kept_moved _ _ _ _ _ _ _ _ _ _ _ _
-          (kept_sliced _ _ _ _ _ _ _ _ _ _ _ _ k c.section.new.self.state c.section.new.self.faults
-          (λ told. c.in_default-section.ensures.same told refl) (c.in_default-section.ensures.still refl) c.section.ensures.grows.later)
+          (kept_sliced _ _ _ _ _ _ _ _ _ _ _ _ k c.section.new.self.desk.state c.section.new.self.desk.faults
+          (c.in_default-section.ensures.does.same) (c.in_default-section.ensures.does.still) c.in_default-section.ensures.does.grows.later)
           c.args.actor _ (omega (arith, k.cursor_count, c.len.ensures, c.if-actor-len.false)) (omega (arith, next.within)) next.none,
-      keeps_sliced g.H.NodeHash.half g.Sh.B.Backend.tells c.self.inside.bench.state c.section.new.self.state c.self.inside.journal.items
+      keeps_sliced g.H.NodeHash.half g.Sh.B.Backend.tells c.self.inside.hall.desk.state c.section.new.self.desk.state c.self.inside.journal.items
           c.self.inside.searches c.section.new.searches shares.kept shares.generation
-          (λ told. c.in_default-section.ensures.same told refl) c.self.invariant.1.young,
+          (c.in_default-section.ensures.does.same) c.self.invariant.1.young,
     )
 
 -- a slice of the actor's next line
@@ -200,46 +205,50 @@ returns-in_default-section-clause-more g c _ =
       lines = c.self.inside.script.lines.items;
       interval = c.self.inside.interval;
       opened = c.self.inside.opened;
-      faults = c.self.inside.bench.faults;
-      gets = c.self.inside.bench.gets;
-      slices = c.self.inside.bench.slices;
-      written = c.self.inside.bench.written;
-      archived = c.self.inside.bench.archived;
+      faults = c.self.inside.hall.desk.faults;
+      gets = c.self.inside.hall.desk.gets;
+      slices = c.self.inside.hall.desk.slices;
+      written = c.self.inside.hall.desk.written;
+      archived = c.self.inside.hall.desk.archived;
       marks = c.self.inside.searches.marks;
       hunts = c.self.inside.searches.hunts.items;
       missed = c.self.inside.missed;
+      failed = c.self.inside.failed;
       journal = c.self.inside.journal.items;
-      state = c.self.inside.bench.state;
+      state = c.self.inside.hall.desk.state;
+      views = c.self.inside.hall.views;
     } in
     let behind : CoreView = record {
       records = c.self.inside.script.records.items;
       lines = c.self.inside.script.lines.items;
       interval = c.self.inside.interval;
       opened = c.self.inside.opened;
-      faults = c.section.new.self.faults;
-      gets = c.section.new.self.gets;
-      slices = c.section.new.self.slices;
-      written = c.section.new.self.written;
-      archived = c.section.new.self.archived;
+      faults = c.section.new.self.desk.faults;
+      gets = c.section.new.self.desk.gets;
+      slices = c.section.new.self.desk.slices;
+      written = c.section.new.self.desk.written;
+      archived = c.section.new.self.desk.archived;
       marks = c.section.new.searches.marks;
       hunts = c.section.new.searches.hunts.items;
       missed = c.self.inside.missed;
+      failed = c.self.inside.failed;
       journal = c.self.inside.journal.items;
-      state = c.section.new.self.state;
+      state = c.section.new.self.desk.state;
+      views = c.section.new.self.views;
     } in
     let sliced = slice_of g.H.NodeHash.half g.Sh.B.Backend.tells c.args.actor c.index-line.result.now.command c.args.part
-    c.self.inside.bench c.self.inside.searches c.section.new.self c.section.new.searches c.section.ensures.shares.others
-    (c.in_default-section.ensures.more refl) in (
+    c.self.inside.hall.desk c.self.inside.searches c.section.new.self.desk c.section.new.searches c.in_default-section.ensures.does.shares.others
+    c.in_default-section.ensures.does.shares.generation c.in_default-section.ensures.does.more in (
       sliced.cut,
       rw (← c.self.view_is) (record {
         line = c.index-line.result.now;
         next = kept_next _ _ _ _ _ _ _ _ _ _ _ _ k c.args.actor _
             (omega (arith, k.cursor_count, c.len.ensures, c.if-actor-len.false)) next c.index-line.result.now c.index-line.ensures;
         slice = sliced.slice before behind refl refl refl refl refl refl refl;
-        later = c.section.ensures.grows.later;
-        state = λ told. c.in_default-section.ensures.same told refl;
-        still = c.in_default-section.ensures.still refl;
-        rest = refl;
+        later = c.in_default-section.ensures.does.grows.later;
+        state = λ told. c.in_default-section.ensures.does.same told;
+        still = c.in_default-section.ensures.does.still;
+        rest = ap (λ (v : ForActor View). record behind { views = v }) (c.in_default-section.ensures.views refl);
       }),
     )
 
@@ -260,17 +269,20 @@ invariant_of-self-2 g c =
           ∙ (sym (rw (← c.self.view_is) at w.is_answered.ensures) ∙ w.if-not-is_answered.false)
       | else-after-ne0-via-else-after-ne0 w ↦ absurd (waits (ap (λ (l : Line). l.after) same ∙ w.if-after-ne0.false))
     ]) in
-    let step = c.in-Some-section.ensures.step in
+    let step = c.in-Some-section.ensures.does.serves.step in
     let items = pushed c.push.result _ _ _ _ c.push.ensures.items c.unwrap.ensures in
-    let shares = c.section.ensures.shares in (
+    let shares = c.in-Some-section.ensures.does.shares in (
       rw (pushed c.push.result _ _ _ _ c.push.ensures.items c.unwrap.ensures)
           (kept_step _ _ _ _ _ _ _ _ _ _ _ _ k c.args.actor _ (omega (arith, k.cursor_count, c.len.ensures, c.if-actor-len.false)) next
-          c.index-line.result.now c.index-line.ensures _ _ _ _ refl refl free step
+          c.index-line.result.now c.index-line.ensures _ _ _ _ _ refl refl free step
           (λ t. step_sound _ c.known_half.ensures _ _ _ _ _ _ range (k.sound t) (step t))
-          c.section.ensures.told c.section.ensures.grows.few c.section.ensures.grows.ages
-          c.push.ensures.capacity c.section.ensures.grows.later
-          c.in-Some-section.ensures.fault),
-      keeps_on g.H.NodeHash.half g.Sh.B.Backend.tells c.self.inside.bench.state c.section.new.self.state c.args.actor
+          c.in-Some-section.ensures.does.serves.told c.in-Some-section.ensures.does.serves.grows.few c.in-Some-section.ensures.does.serves.grows.ages
+          c.push.ensures.capacity c.in-Some-section.ensures.does.serves.grows.later
+          (rw c.forget.ensures (omega (arith, without_few c.args.actor c.self.inside.failed)))
+          (λ e. ⊎_elim (λ rose. inl rose)
+          (λ by. inr (rw c.forget.ensures (omega (arith, without_fewer c.args.actor c.self.inside.failed (sym c.has-failed.ensures ∙ by.1)))))
+          (c.in-Some-section.ensures.does.serves.fault e))),
+      keeps_on g.H.NodeHash.half g.Sh.B.Backend.tells c.self.inside.hall.desk.state c.section.new.self.desk.state c.args.actor
           c.index-line.result.now.command _ c.section.new.searches c.end_search.new.searches c.in-Some-section.reply
           c.self.inside.journal.items _ c.self.inside.searches c.end_search.ensures step shares.kept shares.generation
           c.self.invariant.1.young (omega (arith, ap length items, simp length-append at (ap length items))),
@@ -300,19 +312,25 @@ returns-clause-answered g c _ =
       missed = refl;
       journal = pushed c.push.result _ _ _ _ c.push.ensures.items c.unwrap.ensures;
       actor = refl;
-      later = c.section.ensures.grows.later;
-      cause = c.in-Some-section.ensures.fault;
-      refused = c.in-Some-section.ensures.refused;
-      step = λ t. answers g.H.NodeHash.half c.self.inside.script.lines.items c.self.inside.bench.state c.section.new.self.state
+      later = c.in-Some-section.ensures.does.serves.grows.later;
+      failed = c.forget.ensures;
+      cause = λ e. ⊎_elim (λ rose. inl rose) (λ by. inr (by.0, sym c.has-failed.ensures ∙ by.1))
+          (c.in-Some-section.ensures.does.serves.fault e);
+      refused = c.in-Some-section.ensures.does.serves.refused;
+      step = λ t. answers g.H.NodeHash.half c.self.inside.script.lines.items c.self.inside.hall.desk.state c.section.new.self.desk.state
           c.index-line.result.now _ _ _ next c.index-line.ensures refl refl
-          (c.in-Some-section.ensures.step t);
-      search = λ t. search_on g.H.NodeHash.half c.self.inside.bench.state c.args.actor c.section.new.searches c.end_search.new.searches
-          c.index-line.result.now.command c.in-Some-section.reply c.section.new.self.state _
-          (hunt_of c.self.inside.searches.hunts.items c.args.actor) c.self.inside.searches.marks c.self.inside.bench.gets
-          c.section.new.self.gets (c.in-Some-section.ensures.step t) c.end_search.ensures (c.in-Some-section.ensures.search t);
-      hunts = hunts_on g.H.NodeHash.half g.Sh.B.Backend.tells c.self.inside.bench.state c.section.new.self.state c.args.actor
+          (c.in-Some-section.ensures.does.serves.step t);
+      search = λ t. search_on g.H.NodeHash.half c.self.inside.hall.desk.state c.args.actor c.section.new.searches c.end_search.new.searches
+          c.index-line.result.now.command c.in-Some-section.reply c.section.new.self.desk.state _
+          (hunt_of c.self.inside.searches.hunts.items c.args.actor) c.self.inside.searches.marks c.self.inside.hall.desk.gets
+          c.section.new.self.desk.gets (c.in-Some-section.ensures.does.serves.step t) c.end_search.ensures (c.in-Some-section.ensures.does.search t);
+      hunts = hunts_on g.H.NodeHash.half g.Sh.B.Backend.tells c.self.inside.hall.desk.state c.section.new.self.desk.state c.args.actor
           c.index-line.result.now.command [] c.section.new.searches c.end_search.new.searches c.in-Some-section.reply c.self.inside.searches
-          c.end_search.ensures c.section.ensures.shares.others;
+          c.end_search.ensures c.in-Some-section.ensures.does.shares.others;
+      slices = c.in-Some-section.ensures.does.serves.slices;
+      marks = marks_left g.H.NodeHash.half g.Sh.B.Backend.tells c.self.inside.hall.desk.state c.section.new.self.desk.state c.args.actor
+          c.index-line.result.now.command [] c.section.new.searches c.end_search.new.searches c.in-Some-section.reply c.self.inside.searches
+          c.end_search.ensures c.in-Some-section.ensures.does.shares.generation c.in-Some-section.ensures.does.idle;
     })
 
 pub returns-in_default-clause-few : goal.returns-in_default-clause-few
@@ -376,7 +394,7 @@ returns-in_default-section-clause-copies g c told part =
     rw (← c.self.view_is) (⊎_elim
     (λ last. inl (record { line = c.index-line.result.now; next = is; swap = last.0; sliced = last.1 }))
     (λ copied. inr copied)
-    (c.section.ensures.few told part))
+    (c.in_default-section.ensures.does.few told part))
 
 pub returns-clause-copies : goal.returns-clause-copies
 returns-clause-copies g c told part =
@@ -388,7 +406,7 @@ returns-clause-copies g c told part =
     rw (← c.self.view_is) (⊎_elim
     (λ last. inl (record { line = c.index-line.result.now; next = is; swap = last.0; sliced = last.1 }))
     (λ copied. inr copied)
-    (c.section.ensures.few told part))
+    (c.in-Some-section.ensures.does.few told part))
 
 pub returns-in_default-clause-copies : goal.returns-in_default-clause-copies
 returns-in_default-clause-copies g c told part = core_same c.args.actor _ _ c.self.view_is
@@ -404,7 +422,7 @@ pub section-requires-clause-searches : goal.section-requires-clause-searches
 section-requires-clause-searches g c _ _ = c.self.invariant.1.kept
 
 pub end_search-requires-clause-paired : goal.end_search-requires-clause-paired
-end_search-requires-clause-paired g c = c.section.ensures.shares.kept.paired
+end_search-requires-clause-paired g c = c.in-Some-section.ensures.does.shares.kept.paired
 
 -- no more generations have ended than there are entries
 pub end_search-requires-clause-room : goal.end_search-requires-clause-room
@@ -414,7 +432,7 @@ end_search-requires-clause-room g c =
     c.self.inside.cursors.ok.0 c.len.ensures c.if-actor-len.false c.in-Some.ensures in
     let less = kept_less _ _ _ _ _ _ _ _ _ _ _ _ k c.args.actor _
     (omega (arith, k.cursor_count, c.len.ensures, c.if-actor-len.false)) next c.index-line.result.now c.index-line.ensures in
-    omega (arith, c.section.ensures.shares.generation, c.self.invariant.1.young, less, k.servable.few)
+    omega (arith, c.in-Some-section.ensures.does.shares.generation, c.self.invariant.1.young, less, k.servable.few)
 
 -- the actor is a known one
 pub section-requires-clause-known : goal.section-requires-clause-known
@@ -433,8 +451,8 @@ returns-in_default-section-clause-asks g c part =
     (omega (arith, k.cursor_count, c.len.ensures, c.if-actor-len.false)) next c.index-line.result.now c.index-line.ensures in
     rw (← c.self.view_is)
     (asked_few c.self.inside.script.lines.items c.self.inside.journal.items c.args.actor
-    (hunt_of c.self.inside.searches.hunts.items c.args.actor) c.self.inside.searches.marks.generation c.self.inside.bench.gets
-    c.section.new.self.gets c.index-line.result.now is (c.section.ensures.shares.few part))
+    (hunt_of c.self.inside.searches.hunts.items c.args.actor) c.self.inside.searches.marks.generation c.self.inside.hall.desk.gets
+    c.section.new.self.desk.gets c.index-line.result.now is (c.in_default-section.ensures.does.shares.few part))
 
 pub returns-clause-asks : goal.returns-clause-asks
 returns-clause-asks g c part =
@@ -445,8 +463,8 @@ returns-clause-asks g c part =
     (omega (arith, k.cursor_count, c.len.ensures, c.if-actor-len.false)) next c.index-line.result.now c.index-line.ensures in
     rw (← c.self.view_is)
     (asked_few c.self.inside.script.lines.items c.self.inside.journal.items c.args.actor
-    (hunt_of c.self.inside.searches.hunts.items c.args.actor) c.self.inside.searches.marks.generation c.self.inside.bench.gets
-    c.section.new.self.gets c.index-line.result.now is (c.section.ensures.shares.few part))
+    (hunt_of c.self.inside.searches.hunts.items c.args.actor) c.self.inside.searches.marks.generation c.self.inside.hall.desk.gets
+    c.section.new.self.desk.gets c.index-line.result.now is (c.in-Some-section.ensures.does.shares.few part))
 
 pub returns-in_default-clause-asks : goal.returns-in_default-clause-asks
 returns-in_default-clause-asks g c part = asked_none c.args.actor _ _ c.self.view_is
@@ -456,3 +474,71 @@ returns-then-not-is_answered-clause-asks g c part = asked_none c.args.actor _ _ 
 
 pub returns-then-actor-len-clause-asks : goal.returns-then-actor-len-clause-asks
 returns-then-actor-len-clause-asks g c part = asked_none c.args.actor c.args.self.now c.args.self.now refl
+
+-- ---- what a reader hands in
+-- it is taken where the line asks for that job, and the entry is of that line
+pub returns-clause-takes : goal.returns-clause-takes
+returns-clause-takes g c h is asked =
+    let k = c.self.invariant.0 in
+    let next = moved c.self.inside.cursors.items c.deref.ensures.value c.index-from.ensures
+    c.self.inside.cursors.ok.0 c.len.ensures c.if-actor-len.false c.in-Some.ensures in
+    let free : c.index-line.result.now.after ≢ 0 → is_answered c.self.inside.journal.items c.index-line.result.now.after ≡ true =
+    (let same = same_line c.self.inside.script.lines.items _ c.index-line.result.now c.index.result.now next.within c.index-line.ensures
+    c.index.ensures in λ waits.
+    elim c.else-after-ne0.branch [
+      | else-after-ne0-via-then-after-ne0+else-not-is_answered w ↦
+          ap (λ (l : Line). is_answered c.self.inside.journal.items l.after) same
+          ∙ (sym (rw (← c.self.view_is) at w.is_answered.ensures) ∙ w.if-not-is_answered.false)
+      | else-after-ne0-via-else-after-ne0 w ↦ absurd (waits (ap (λ (l : Line). l.after) same ∙ w.if-after-ne0.false))
+    ]) in
+    let job = job_next (root_by c.self.inside.hall.views) c.self.inside.script.lines.items c.self.inside.journal.items c.args.actor
+    c.index-line.result.now
+    (kept_next _ _ _ _ _ _ _ _ _ _ _ _ k c.args.actor _
+    (omega (arith, k.cursor_count, c.len.ensures, c.if-actor-len.false)) next c.index-line.result.now c.index-line.ensures) free in
+    rw (← c.self.view_is)
+    (takes_in g.H.NodeHash.half h.job h.got c.self.inside.journal.items _ _
+    (pushed c.push.result _ _ _ _ c.push.ensures.items c.unwrap.ensures)
+    (c.in-Some-section.ensures.takes h is (sym job ∙ rw (← c.self.view_is) at asked)))
+
+-- a section that leaves something took nothing
+pub returns-in_default-section-clause-takes : goal.returns-in_default-section-clause-takes
+returns-in_default-section-clause-takes g c h is asked =
+    let k = c.self.invariant.0 in
+    let next = moved c.self.inside.cursors.items c.deref.ensures.value c.index-from.ensures
+    c.self.inside.cursors.ok.0 c.len.ensures c.if-actor-len.false c.in-Some.ensures in
+    let free : c.index-line.result.now.after ≢ 0 → is_answered c.self.inside.journal.items c.index-line.result.now.after ≡ true =
+    (let same = same_line c.self.inside.script.lines.items _ c.index-line.result.now c.index.result.now next.within c.index-line.ensures
+    c.index.ensures in λ waits.
+    elim c.else-after-ne0.branch [
+      | else-after-ne0-via-then-after-ne0+else-not-is_answered w ↦
+          ap (λ (l : Line). is_answered c.self.inside.journal.items l.after) same
+          ∙ (sym (rw (← c.self.view_is) at w.is_answered.ensures) ∙ w.if-not-is_answered.false)
+      | else-after-ne0-via-else-after-ne0 w ↦ absurd (waits (ap (λ (l : Line). l.after) same ∙ w.if-after-ne0.false))
+    ]) in
+    let job = job_next (root_by c.self.inside.hall.views) c.self.inside.script.lines.items c.self.inside.journal.items c.args.actor
+    c.index-line.result.now
+    (kept_next _ _ _ _ _ _ _ _ _ _ _ _ k c.args.actor _
+    (omega (arith, k.cursor_count, c.len.ensures, c.if-actor-len.false)) next c.index-line.result.now c.index-line.ensures) free in
+    takes_none g.H.NodeHash.half h.job h.got _ _
+    (c.in_default-section.ensures.takes h is (sym job ∙ rw (← c.self.view_is) at asked))
+
+-- an actor that is done or blocked asks for no read
+pub returns-in_default-clause-takes : goal.returns-in_default-clause-takes
+returns-in_default-clause-takes g c h is asked =
+    absurd (done_jobless (root_by c.args.self.now.views) c.args.self.now.lines c.args.self.now.journal c.args.actor h.job
+    ((returns-in_default-clause-finished g c).0 refl) asked)
+
+pub returns-then-actor-len-clause-takes : goal.returns-then-actor-len-clause-takes
+returns-then-actor-len-clause-takes g c h is asked =
+    absurd (done_jobless (root_by c.args.self.now.views) c.args.self.now.lines c.args.self.now.journal c.args.actor h.job
+    ((returns-then-actor-len-clause-finished g c).0 refl) asked)
+
+pub returns-then-not-is_answered-clause-takes : goal.returns-then-not-is_answered-clause-takes
+returns-then-not-is_answered-clause-takes g c h is asked =
+    absurd (blocked_jobless (root_by c.args.self.now.views) c.args.self.now.lines c.args.self.now.journal c.args.actor h.job
+    ((returns-then-not-is_answered-clause-blocked g c).0 refl) asked)
+
+-- no entry raises the count of slices
+pub returns-clause-slices : goal.returns-clause-slices
+returns-clause-slices g c _ =
+    rw (← c.self.view_is) (counts_fewer c.index-line.result.now.command c.in-Some-section.reply _ _ c.in-Some-section.ensures.does.serves.slices)

@@ -34,4 +34,5 @@ returns-clause-kept g c =
       known = k.known;
       since = k.since;
       faults = k.fault_bound;
+      views = c.known.ensures.views;
     })

@@ -1,0 +1,160 @@
+-- A core may go to another thread, and so may the lock that it lies under.
+use denote.RattleType.{RattleType}
+use denote.Param.Send.{IsSend, IsSync, sendable, AllSend, recorded_send, struct_send}
+use denote.Struct.Declared.{shape, fields}
+use Rattle.std.proofs.Crossing.{crosses, send, frees}
+use Rattle.std.proofs.MapsCrossing.{crosses as maps, HashMap-send}
+use Rattle.std.proofs.MapsCrossingOver.{BTreeSet-send, HashSet-send}
+use Rattle.lru.proofs.Crosses.{KeyRef-send, List-send, Deed-send}
+use Rattle.std.specs.contracts.sync.Mutex as Mutex
+use Rattle.half_hash.specs.declared.NodeHash as hashes
+use Rattle.half_hash.proofs.Crossing.{Hash32-send, Hash32-sync}
+use Rattle.shamap_node.proofs.Crossing.{Node-send, Node-sync}
+use Rattle.node_backend.specs.declared.back.Shelf as shelves
+use Rattle.node_backend.specs.declared.back.Backend as backends
+use Rattle.tree_cache.specs.contracts.cache.TreeCache as TreeCache
+use Rattle.full_below.specs.contracts.marks.Marks as Marks
+use Rattle.ledger_searches.specs.contracts.hunt.Hunt as Hunt
+use Rattle.ledger_searches.specs.contracts.searches.Searches as Searches
+use Rattle.rotating_store.specs.contracts.notes.Notes as Notes
+use Rattle.rotating_store.specs.contracts.store.RotStore as RotStore
+use Rattle.rotating_store.specs.contracts.store.RotStore.TheInside as RotStoreIn
+use Rattle.acquire_core.specs.contracts.acquire.Acquire as Acquire
+use Rattle.online_rotate.specs.contracts.rotator.Rotator as Rotator
+use Rattle.retain_book.specs.contracts.Book as Book
+use Rattle.open_sessions.specs.contracts.open.Open as Open
+use Rattle.store_core.specs.contracts.machine.Machine as Machine
+use Rattle.store_core.specs.contracts.machine.Machine.TheInside as MachineIn
+use Rattle.store_core.specs.contracts.bench.Bench as Bench
+use Rattle.store_core.specs.contracts.bench.Bench.TheInside as BenchIn
+use Rattle.store_core.specs.contracts.hall.Hall as Hall
+use Rattle.store_core.specs.contracts.hall.Hall.TheInside as HallIn
+use Rattle.store_core.specs.contracts.store.Core as Core
+use Rattle.store_core.specs.contracts.store.Core.TheInside as CoreIn
+use Rattle.actor_pool.specs.declared.shared.Pinned as pins
+use Rattle.actor_pool.specs.contracts.shared.Shared as Shared
+
+TreeCache-send : IsSend (TreeCache.the_field).row
+TreeCache-send =
+    search (
+      Hash32-send,
+      Hash32-sync,
+      Node-send,
+      Node-sync,
+      KeyRef-send,
+      List-send,
+      Deed-send,
+      HashMap-send,
+      frees,
+      send,
+      crosses,
+      sendable,
+    ) depth 40
+
+Marks-send : IsSend (Marks.the_field).row
+Marks-send = search (Hash32-send, Hash32-sync, KeyRef-send, List-send, Deed-send, HashMap-send, frees, send, crosses, sendable) depth 40
+
+Hunt-send : IsSend Hunt.the_row
+Hunt-send = search (Hash32-send, Node-send, Node-sync, frees, send, crosses, maps, sendable) depth 60 fits 100000
+
+Notes-send : IsSend Notes.the_row
+Notes-send = search (Hash32-send, HashSet-send, HashMap-send, frees, send, crosses, maps, sendable) depth 40
+
+Acquire-send : IsSend Acquire.the_row
+Acquire-send = search (Hash32-send, crosses, maps, sendable) depth 40
+
+Rotator-send : IsSend Rotator.the_row
+Rotator-send = search (Hash32-send, HashSet-send, HashMap-send, frees, send, crosses, maps, sendable) depth 40
+
+Book-send : IsSend Book.the_row
+Book-send = search (Hash32-send, crosses, maps, sendable) depth 40
+
+Open-send : IsSend Open.the_row
+Open-send = search (Hash32-send, Node-send, Node-sync, frees, send, crosses, maps, sendable) depth 60 fits 100000
+
+Searches-send : IsSend (Searches.the_field).row
+Searches-send =
+    let all : AllSend (fields Searches.the_type) =
+    (TreeCache-send, (Marks-send, (search (Hunt-send, crosses, send, sendable) depth 20, tt))) in
+    let i : IsSend Searches.the_row = recorded_send _ _ _ Searches.the_type.to_one (struct_send (shape Searches.the_type) all) in
+    search sendable depth 20
+
+module _ (Sh B : RattleType) (s : shelves.Ghosts Sh.Denot B.Denot) (b : backends.Ghosts B.Denot) where
+  RotStore-send : IsSend Sh → IsSend B → IsSend (RotStore.the_row Sh B s b)
+  RotStore-send y q =
+      let all : AllSend (fields (RotStoreIn.the_type Sh B s b)) =
+      (y, (q, (q, (search (q, crosses, sendable) depth 10, (search sendable, (search sendable, (search sendable, (Notes-send, tt)))))))) in
+      let i : IsSend (RotStoreIn.the_row Sh B s b) =
+      recorded_send _ _ _ (RotStoreIn.the_type Sh B s b).to_one (struct_send (shape (RotStoreIn.the_type Sh B s b)) all) in
+      search sendable depth 20
+
+module _ (H Sh B : RattleType) (h : hashes.Ghosts H.Denot) (s : shelves.Ghosts Sh.Denot B.Denot) (b : backends.Ghosts B.Denot) where
+  Machine-send : IsSend H → IsSend Sh → IsSend B → IsSend (Machine.the_row H Sh B h s b)
+  Machine-send x y q =
+      let all : AllSend (fields (MachineIn.the_type H Sh B h s b)) = (
+        x,
+        (
+          RotStore-send Sh B s b y q,
+          (
+            search (Hash32-send, Acquire-send, crosses, maps, send, sendable) depth 40,
+            (
+              search (Hash32-send, crosses, maps, send, sendable) depth 40,
+              (Book-send, (Rotator-send, tt)),
+            ),
+          ),
+        ),
+      ) in
+      let i : IsSend (MachineIn.the_row H Sh B h s b) =
+      recorded_send _ _ _ (MachineIn.the_type H Sh B h s b).to_one (struct_send (shape (MachineIn.the_type H Sh B h s b)) all) in
+      search sendable depth 20
+
+  Bench-send : IsSend H → IsSend Sh → IsSend B → IsSend (Bench.the_row H Sh B h s b)
+  Bench-send x y q =
+      let all : AllSend (fields (BenchIn.the_type H Sh B h s b)) =
+      (Machine-send x y q, (Open-send, tt)) in
+      let i : IsSend (BenchIn.the_row H Sh B h s b) =
+      recorded_send _ _ _ (BenchIn.the_type H Sh B h s b).to_one (struct_send (shape (BenchIn.the_type H Sh B h s b)) all) in
+      search sendable depth 20
+
+  Hall-send : IsSend H → IsSend Sh → IsSend B → IsSend (Hall.the_row H Sh B h s b)
+  Hall-send x y q =
+      let all : AllSend (fields (HallIn.the_type H Sh B h s b)) =
+      (Bench-send x y q, (search (Hash32-send, crosses, maps, send, sendable) depth 40, tt)) in
+      let i : IsSend (HallIn.the_row H Sh B h s b) =
+      recorded_send _ _ _ (HallIn.the_type H Sh B h s b).to_one (struct_send (shape (HallIn.the_type H Sh B h s b)) all) in
+      search sendable depth 20
+
+  pub Core-send : IsSend H → IsSend Sh → IsSend B → IsSend (Core.the_row H Sh B h s b)
+  Core-send x y q =
+      let all : AllSend (fields (CoreIn.the_type H Sh B h s b)) = (
+        search (Hash32-send, Node-send, Node-sync, crosses, send, sendable) depth 60 fits 100000,
+        (
+          search sendable,
+          (
+            search sendable,
+            (
+              search sendable,
+              (
+                search (crosses, sendable) depth 40,
+                (
+                  search (crosses, sendable) depth 40,
+                  (
+                    search (Hash32-send, Node-send, Node-sync, crosses, send, sendable) depth 60 fits 100000,
+                    (Hall-send x y q, (Searches-send, tt)),
+                  ),
+                ),
+              ),
+            ),
+          ),
+        ),
+      ) in
+      let i : IsSend (CoreIn.the_row H Sh B h s b) =
+      recorded_send _ _ _ (CoreIn.the_type H Sh B h s b).to_one (struct_send (shape (CoreIn.the_type H Sh B h s b)) all) in
+      search sendable depth 20
+
+  module _ (J : RattleType) (p : pins.Ghosts J.Denot) where
+    pub Shared-sync : IsSend H → IsSend Sh → IsSend B → IsSend J → IsSync (Mutex.the_row (Shared.the_row H Sh J B h s b p))
+    Shared-sync x y q z =
+        let core = Core-send x y q in
+        let shared : IsSend (Shared.the_row H Sh J B h s b p) = search sendable depth 20 in
+        search crosses depth 5

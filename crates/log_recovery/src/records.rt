@@ -1,0 +1,44 @@
+//! The records of the live logs that are found on the disks of a room.
+ghost use Rattle.std.specs.Prelude.{◌≡◌, ◌≢◌, ◌++◌, IsTrue, IfOk, OnErr};
+ghost use Rattle.run_io.specs.Bytes.{Rose};
+ghost use Rattle.ledger_machine.specs.Records.{AreRecords};
+ghost use Rattle.log_recovery.specs.Records.{records_of, AreRecovered};
+
+use crate::StoredForms;
+use half_hash::{Memory, NodeHash, known_half};
+use ledger_machine::Record;
+use log_shelf::{Disk, Found, RecoverFault, Room, recover_where};
+use std::alloc::Global;
+
+/// The records of the live logs, hashes rising, each hash once: the last in the greatest log that has it. A live log that has no disk has
+/// no entries, and an entry that is no record is left out.
+pub fn recover<H: NodeHash, R: Room>(
+    alloc: Global,
+    room: &mut R,
+) -> Result<Vec<Record>, RecoverFault<R::D>>
+    ensures records { IsTrue R.tells → IfOk result (λ records. AreRecovered H.half (R.files room.old) records.items) }
+    ensures fit { IsTrue R.tells → IfOk result (λ records. AreRecords H.half records.items) }
+    ensures same { IsTrue R.tells → R.files room.new ≡ R.files room.old }
+    ensures calm { IsTrue (R.is_calm room.old) → IsTrue (R.is_calm room.new) × OnErr result (result ≡ Err RecoverFault.Memory) }
+    ensures room { result ≡ Err RecoverFault.Room → Rose (R.faults room.old) (R.faults room.new) }
+    ensures disk { (d : R.D) → result ≡ Err (RecoverFault.Disk d) → R.D.faults d ≢ 0 }
+{
+    known_half::<H>();
+    let found = recover_where::<R, StoredForms<H>>(alloc, room)?;
+    match records_in(alloc, found) {
+        Ok(records) => Ok(records),
+        Err(Memory) => Err(RecoverFault::Memory),
+    }
+}
+
+// The pairs that were found, as records.
+fn records_in(alloc: Global, found: Found) -> Result<Vec<Record>, Memory>
+    ensures { IfOk result (λ records. records.items ≡ records_of found) }
+{
+    let mut found = found;
+    let mut records = Vec::new(alloc);
+    while let Some((hash, form)) = found.pop_first() {
+        records.push(Record { hash, form })?;
+    }
+    Ok(records)
+}

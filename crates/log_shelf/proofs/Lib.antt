@@ -1,0 +1,15 @@
+pub mod Entries
+pub mod Ranges
+pub mod Logs
+pub mod Steps
+pub mod Indexes
+pub mod Backends
+pub mod MemDisks
+pub mod Manifests
+pub mod Recovery
+pub mod Pending
+pub mod Rooms
+pub mod Parsing
+pub mod Stopped
+pub mod Rest
+pub mod Popping

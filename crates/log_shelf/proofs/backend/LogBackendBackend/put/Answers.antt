@@ -1,0 +1,5 @@
+use Rattle.log_shelf.proofs.Backends.{log-withstands}
+use Rattle.log_shelf.proofs.backend.LogBackendBackend.put.Goals as goal
+
+pub returns-clause-stop : goal.returns-clause-stop
+returns-clause-stop g c = log-withstands c.store_pair-outcome.new.log

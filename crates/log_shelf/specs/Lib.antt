@@ -1,0 +1,13 @@
+pub mod Disks
+pub mod Entries
+pub mod Logs
+pub mod Places
+pub mod Backends
+pub mod Stops
+pub mod MemDisks
+pub mod Outcomes
+pub mod Manifests
+pub mod Rooms
+pub mod Shelves
+pub mod Recovery
+pub mod Images

@@ -1,0 +1,10 @@
+//! A write that was not synced yet.
+
+/// Bytes that were written at a place.
+#[derive(Drop)]
+pub struct Span {
+    /// The first of them.
+    pub at: u64,
+    /// The bytes.
+    pub bytes: Vec<u8>,
+}

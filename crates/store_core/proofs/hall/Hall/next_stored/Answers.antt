@@ -1,0 +1,8 @@
+use Rattle.std.proofs.Common.{sym, subst}
+use Rattle.store_core.specs.Desks.{IsFiled}
+use Rattle.store_core.specs.Halls.{HallView}
+use Rattle.store_core.proofs.hall.Hall.next_stored.Goals as goal
+
+pub next_stored-requires-after_bounds : goal.next_stored-requires-after_bounds
+next_stored-requires-after_bounds g c κs within =
+    subst (λ (x : HallView). IsFiled g.H.NodeHash.half g.Sh.B.Backend.tells x.desk.state) (sym c.self.view_is) c.requires
