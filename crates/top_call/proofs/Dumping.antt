@@ -22,7 +22,7 @@ use Rattle.std.specs.Result.{IsErrAnd}
 use Rattle.run_io.specs.declared.io.AllFault.{AllFault}
 use Rattle.run_io.specs.declared.io.AllFault.TheVariants as sinks
 use Rattle.top_call.specs.declared.dump.DumpFault.{DumpFault}
-use Rattle.top_call.specs.Dump.{dump_text, of_sink, AreRising, AreLines, AreFront, IsDumped, Dumps}
+use Rattle.top_call.specs.Dump.{dump_text, of_sink, AreRising, AreLines, AreFront, IsDumped, Dumps, LeavesCore}
 use Rattle.top_call.specs.declared.dump.DumpEnd.TheVariants as ends
 use Rattle.top_call.proofs.Printing.{prefix_self}
 
@@ -135,7 +135,7 @@ module _ (told : Bool) (nodes : Nodes) (last : Option Hash) (held now : Option B
         (prefix_self (going.text ++ record_text r) (going.text ++ record_text r) refl),
   )
 
-pub lists_none : (told : Bool) (c : CoreView) → Lists told c c
+pub lists_none : (told : Bool) (c : CoreView) → LeavesCore told c c
 lists_none told c = record {
   records = refl;
   lines = refl;
@@ -145,9 +145,14 @@ lists_none told c = record {
   later = omega arith;
   state = λ t. refl;
   tables = refl;
+  views = refl;
+  marks = refl;
+  hunts = refl;
+  slices = refl;
 }
 
-pub lists_then : (told : Bool) (a b c : CoreView) → Lists told a b → Lists told b c → Lists told a c
+-- one call for a record more
+pub lists_then : (told : Bool) (a b c : CoreView) → LeavesCore told a b → Lists told b c → LeavesCore told a c
 lists_then told a b c p q = record {
   records = q.records ∙ p.records;
   lines = q.lines ∙ p.lines;
@@ -157,6 +162,10 @@ lists_then told a b c p q = record {
   later = omega (arith, p.later, q.later);
   state = λ t. q.state t ∙ p.state t;
   tables = q.tables ∙ ap (λ (s : State). record s { nodes = c.state.nodes; born = c.state.born }) p.tables;
+  views = q.views ∙ p.views;
+  marks = q.marks ∙ p.marks;
+  hunts = q.hunts ∙ p.hunts;
+  slices = q.slices ∙ p.slices;
 }
 
 -- what a core says of its next record, said of the first core and of other names
@@ -183,7 +192,7 @@ cut_by told nodes held now (Err y) e is cut = subst (λ (x : DumpFault). Dumps t
     at sinks.Memory = cut
 
 -- what is printed before a dump is as it was
-pub text_same : (told quiet : Bool) (c c' : CoreView) → Lists told c c' → text_of quiet c' ≡ text_of quiet c
+pub text_same : (told quiet : Bool) (c c' : CoreView) → LeavesCore told c c' → text_of quiet c' ≡ text_of quiet c
 text_same told quiet c c' lists =
     ap (λ (s : State). output quiet c'.lines c'.journal (totals_of c'.journal s)) lists.tables
     ∙ ap (λ (ls : List Line). output quiet ls c'.journal (totals_of c'.journal c.state)) lists.lines

@@ -9,11 +9,10 @@ use Rattle.ledger_machine.specs.State.{State}
 use Rattle.run_io.specs.Bytes.{Wrote, WrotePart}
 use Rattle.run_io.proofs.Bytes.{rose_later, wrote_nothing, wrote_more, wrote_part, wrote_front}
 use Rattle.store_core.specs.Journal.{CoreView}
-use Rattle.store_core.specs.Dumping.{Lists}
 use Rattle.top_call.specs.declared.status.TheConstants.{FINE, SINK_FAILED, STORE_FAILED, CLASHED, NO_MEMORY}
 use Rattle.top_call.specs.declared.dump.DumpEnd.{DumpEnd}
 use Rattle.top_call.specs.declared.dump.DumpEnd.TheVariants as ends
-use Rattle.top_call.specs.Dump.{dump_text, IsDumped, IsUncut}
+use Rattle.top_call.specs.Dump.{dump_text, IsDumped, IsUncut, LeavesCore}
 use Rattle.top_call.specs.Top.{IsOneOf, text_of, HasPrinted, HasDumped, HasSaid, PrintsMore}
 use Rattle.top_call.proofs.Printing.{prefix_self}
 use Rattle.top_call.proofs.Dumping.{text_same, none_front}
@@ -31,7 +30,7 @@ dumped_as told nodes nodes' ends.Cut text same is =
 
 -- behind the text of the journal
 pub printed_behind : (told quiet asked : Bool) (c c' : CoreView) (held mid now : Option Bytes) (n : ℕ) (dump : DumpEnd)
-    → Lists told c c'
+    → LeavesCore told c c'
     → Wrote held mid (text_of quiet c) → PrintsMore told c.state.nodes mid now n dump → HasDumped asked n dump c'
     → HasPrinted told quiet asked held now n dump c'
 printed_behind told quiet asked c c' held mid now n dump lists wrote more dumped =

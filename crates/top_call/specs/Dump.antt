@@ -1,5 +1,5 @@
 -- What is printed of a dump.
-use Rattle.std.specs.Prelude.{◌≡◌, ℕ, Bool, IsTrue, List, [], ◌∷◌, flat_map, Option, None, Some, Result, Ok, Err}
+use Rattle.std.specs.Prelude.{◌≡◌, ◌≤◌, ℕ, Bool, IsTrue, List, [], ◌∷◌, flat_map, Option, None, Some, Result, Ok, Err}
 use mathlib.Core.List.{IsPrefix}
 use Rattle.ledger_spec.specs.Bytes.{Bytes, Hash, Nodes}
 use Rattle.ledger_machine.specs.declared.commands.Record.{Record}
@@ -11,6 +11,7 @@ use Rattle.journal_text.specs.Text.{record_text}
 use Rattle.store_core.specs.declared.store.OpenFault.{OpenFault}
 use Rattle.store_core.specs.declared.store.OpenFault.TheVariants as opens
 use Rattle.store_core.specs.Dumping.{records_of, Follows}
+use Rattle.store_core.specs.Journal.{CoreView}
 use Rattle.top_call.specs.declared.dump.DumpEnd.{DumpEnd}
 use Rattle.top_call.specs.declared.dump.DumpEnd.TheVariants as ends
 use Rattle.top_call.specs.declared.dump.DumpFault.{DumpFault}
@@ -28,6 +29,22 @@ of_open opens.Memory = faults.Memory
 abbrev pub of_sink : AllFault → DumpFault
 of_sink sinks.Fault = faults.Sink
 of_sink sinks.Memory = faults.Memory
+
+-- What a dump leaves of its core: what that was opened with, its journal, its state, its views, its marks, its searches and the count of
+-- slices, but that a store that doesn't tell what it holds may hold anything.
+pub record LeavesCore (told : Bool) (old new : CoreView) : Type 0 where
+  pub records : new.records ≡ old.records
+  pub lines : new.lines ≡ old.lines
+  pub interval : new.interval ≡ old.interval
+  pub opened : new.opened ≡ old.opened
+  pub journal : new.journal ≡ old.journal
+  pub later : old.faults ≤ new.faults
+  pub state : IsTrue told → new.state ≡ old.state
+  pub tables : new.state ≡ record old.state { nodes = new.state.nodes; born = new.state.born }
+  pub views : new.views ≡ old.views
+  pub marks : new.marks ≡ old.marks
+  pub hunts : new.hunts ≡ old.hunts
+  pub slices : new.slices ≡ old.slices
 
 -- how many calls were missed, one more where the store failed
 abbrev pub missed_by : Result (Unit {0}) DumpFault → ℕ → ℕ

@@ -2,8 +2,7 @@
 ghost use Rattle.std.specs.Prelude.{◌≡◌, ◌≤◌, IfErr, OnOk, OnErr};
 ghost use Rattle.run_io.specs.Bytes.{Rose, Wrote, WrotePart};
 ghost use Rattle.journal_text.specs.Text.{record_text};
-ghost use Rattle.store_core.specs.Dumping.{Lists};
-ghost use Rattle.top_call.specs.Dump.{Dumps, missed_by};
+ghost use Rattle.top_call.specs.Dump.{Dumps, LeavesCore, missed_by};
 
 use half_hash::{Hash32, NodeHash};
 use journal_text::stored;
@@ -86,7 +85,7 @@ pub(crate) fn print_records<H: NodeHash, Sh: Shelf, K: Sink>(
     sink: &mut K,
 ) -> Result<(), DumpFault>
     ensures dumps { Dumps Sh.B.tells core.old.state.nodes (K.held sink.old) (K.held sink.new) result }
-    ensures lists { Lists Sh.B.tells core.old core.new }
+    ensures lists { LeavesCore Sh.B.tells core.old core.new }
     ensures missed { core.new.missed ≡ missed_by result core.old.missed }
     ensures later { K.faults sink.old ≤ K.faults sink.new }
     ensures cause { IfErr result (λ e. e ≡ DumpFault.Sink → Rose (K.faults sink.old) (K.faults sink.new)) }

@@ -5,12 +5,12 @@ ghost use Rattle.run_io.specs.Bytes.{Rose, Wrote, WrotePart};
 ghost use Rattle.rotating_store.specs.Stores.{Store};
 ghost use Rattle.run_words.specs.declared.words.Words.{Words as Said};
 ghost use Rattle.top_call.specs.declared.status.TheConstants.{REFUSED, NO_MEMORY};
+ghost use Rattle.top_call.specs.Dump.{LeavesCore};
 ghost use Rattle.top_call.specs.Output.{entry_line, entry_lines, refused_text, status_of, shows_clash as clash_shown};
 ghost use Rattle.top_call.specs.Output.{met_fault as fault_met, wanted_memory as memory_wanted};
 ghost use Rattle.top_call.specs.Asking.{Asks, quiet_in, dump_in, IsRead, WasRead};
 ghost use Rattle.top_call.specs.Top.{IsOneOf, WroteOrFailed, text_of, IsRunOfInput, HasPrinted, HasDumped};
 ghost use Rattle.top_call.specs.Top.{HasStatus, HasSaid, PrintsMore, CountsFrom, IsCalm, EndsWell};
-ghost use Rattle.store_core.specs.Dumping.{Lists};
 ghost use Rattle.top_call.specs.Top.{IsUsage, IsScriptRefusal, HasCause, HasNotOpened};
 
 use crate::asking::{asked_for, has_dump, interval_of, is_quiet, script_for};
@@ -119,7 +119,7 @@ fn print_all<H: NodeHash, Sh: Shelf, K: Sink>(
     asked: bool,
 ) -> (u8, DumpEnd)
     requires { core.old.missed ≡ 0 }
-    ensures lists { Lists Sh.B.tells core.old core.new }
+    ensures lists { LeavesCore Sh.B.tells core.old core.new }
     ensures printed { HasPrinted Sh.B.tells quiet asked (K.held sink.old) (K.held sink.new) result.0 result.1 core.new }
     ensures said { HasSaid result.0 core.new (K.faults sink.old) (K.faults sink.new) }
     ensures later { K.faults sink.old ≤ K.faults sink.new }
@@ -139,7 +139,7 @@ fn print_dump<H: NodeHash, Sh: Shelf, K: Sink>(
     asked: bool,
 ) -> (u8, DumpEnd)
     requires { core.old.missed ≡ 0 }
-    ensures lists { Lists Sh.B.tells core.old core.new }
+    ensures lists { LeavesCore Sh.B.tells core.old core.new }
     ensures printed { PrintsMore Sh.B.tells core.old.state.nodes (K.held sink.old) (K.held sink.new) result.0 result.1 }
     ensures dumped { HasDumped asked result.0 result.1 core.new }
     ensures said { HasSaid result.0 core.new (K.faults sink.old) (K.faults sink.new) }
