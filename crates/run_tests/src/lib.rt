@@ -7,8 +7,6 @@ mod actors;
 #[cfg(test)]
 mod endings;
 #[cfg(test)]
-mod reads;
-#[cfg(test)]
 mod rows;
 #[cfg(test)]
 mod scripts;
