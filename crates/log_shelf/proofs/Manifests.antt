@@ -321,3 +321,23 @@ pub fresh-log : {B : Type 0} (room room' manifest manifest' made : ℕ) → Rose
     → FreshFailed room room' manifest manifest' made B
 fresh-log room room' manifest manifest' made (inl rose) = inl rose
 fresh-log room room' manifest manifest' made (inr broken) = inr (inr (inr broken))
+
+-- a shelf without logs
+nothing : Manifested [] [] 0 true [] None
+nothing = record {
+  live_made = refl;
+  undone_made = refl;
+  positive = λ n h. absurd (cc);
+  told_live = λ n h. absurd (cc);
+  doubt_live = λ n h. absurd (cc);
+  told_named = λ n h. absurd (cc);
+  doubt_named = λ n h. absurd (cc);
+}
+
+pub manifest-new : (live undone : List ℕ) (told : List (List ℕ)) (doubt : Option (List ℕ)) → live ≡ [] → undone ≡ [] → told ≡ []
+    → doubt ≡ None → Manifested live undone 0 true told doubt
+manifest-new live undone told doubt l u t d =
+    subst (λ (xs : List ℕ). Manifested xs undone 0 true told doubt) (sym l)
+    (subst (λ (xs : List ℕ). Manifested [] xs 0 true told doubt) (sym u)
+    (subst (λ (es : List (List ℕ)). Manifested [] [] 0 true es doubt) (sym t)
+    (subst (λ (o : Option (List ℕ)). Manifested [] [] 0 true [] o) (sym d) nothing)))

@@ -135,6 +135,10 @@ impl<D: Disk + Send> Backend for LogBackend<D> {
 
     ghost doubt = { λ b. doubt_of b };
 
+    fn is_telling() -> bool {
+        true
+    }
+
     fn get(&mut self, alloc: Global, h: &Hash32) -> Result<Option<Blob>, BackFault>
         ensures same { held_of self.new ≡ held_of self.old }
         ensures found { IfOk result (λ b. b ≡ map.get (held_of self.old) h.now) }

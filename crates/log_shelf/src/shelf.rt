@@ -115,10 +115,12 @@ impl<R: Room> LogShelf<R> {
     ghost use Rattle.std.specs.Prelude.{None, IsSomeAnd};
     ghost use Rattle.std.specs.FinMap as map;
     ghost use Rattle.log_shelf.specs.Stops.{held_of, doubt_of};
+    ghost use Rattle.log_shelf.specs.Shelves.{StandsLive};
 
     /// A shelf without backends, in a room. It makes the manifest.
     pub fn new(alloc: Global, room: R) -> Result<LogShelf<R>, Unmade<R>>
         ensures lists { IfOk result (λ s. (s.live.items ≡ []) × (s.spent.items ≡ []) × (s.made ≡ 0) × (s.faults ≡ 0)) }
+        ensures stop { IfOk result (λ s. StandsLive s) }
         ensures room { (r : R) → result ≡ Err (Unmade.Room r) → Rose (R.faults room) (R.faults r) }
         ensures manifest { (r : R) (d : R.D) → result ≡ Err (Unmade.Manifest r d) → R.D.faults d ≢ 0 }
     {

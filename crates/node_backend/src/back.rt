@@ -71,6 +71,10 @@ pub trait Backend: Send + Drop {
     /// A pair of which the device does not know whether it is stored.
     ghost doubt: { Self → Option Pair };
 
+    /// Whether values of this type tell what they hold.
+    fn is_telling() -> bool
+        ensures { result ≡ tells };
+
     /// The form of a hash.
     fn get(&mut self, alloc: Global, h: &Hash32) -> Result<Option<Blob>, BackFault>
         ensures same { IsTrue tells → held self.new ≡ held self.old }

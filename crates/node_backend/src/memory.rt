@@ -71,6 +71,10 @@ impl Backend for MemBackend {
 
     ghost doubt = { λ _. None };
 
+    fn is_telling() -> bool {
+        true
+    }
+
     fn get(&mut self, alloc: Global, h: &Hash32) -> Result<Option<Blob>, BackFault>
         ensures same { self.new.map ≡ self.old.map }
         ensures found { IfOk result (λ b. b ≡ map.get self.old.map h.now) }

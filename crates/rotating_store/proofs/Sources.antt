@@ -1,12 +1,13 @@
 -- What a store gives as a source of nodes.
-use Rattle.std.proofs.Common.{◌≡◌, Bool, true, false, cond, is_some, if◌then◌else◌, Option, Some, None, refl, sym, ap, subst, ◌∙◌}
+use Rattle.std.proofs.Common.{◌≡◌, Bool, IsTrue, true, false, cond, is_some, if◌then◌else◌, Option, Some, None, refl, sym, ap, subst, ◌∙◌}
 use Rattle.std.specs.FinMap as finite
 use Rattle.std.specs.FinMap.{get-retain_keys}
 use Rattle.ledger_spec.specs.Bytes.{Bytes, Hash, Half, Nodes}
 use Rattle.ledger_spec.specs.Own.{is_own, own_form}
 use Rattle.node_backend.proofs.Tables.{hashes_antisymmetric}
 use Rattle.path_proof.specs.Sources.{Fetched, Gives}
-use Rattle.rotating_store.specs.Sources.{own_nodes}
+use Rattle.rotating_store.specs.Stores.{Store, nodes_of}
+use Rattle.rotating_store.specs.Sources.{AreFiled, own_nodes}
 
 kept : (t : Bool) (form : Bytes) → cond (is_some (if t then Some form else None)) (Some form) None ≡ (if t then Some form else None)
 kept true form = refl
@@ -31,3 +32,8 @@ given_at half nodes h form r is gives =
 
 pub none_at : (half : Half) (nodes : Nodes) (h : Hash) → None ≡ finite.get nodes h → finite.get (own_nodes half nodes) h ≡ None
 none_at half nodes h is = own_at half nodes h ∙ ap (own_form half h) (sym is)
+
+-- a form that is stored where all that is told is filed has the hash that it stands under
+pub filed_hash : (half : Half) (tells : Bool) (s : Store) (h : Hash) (form bytes : Bytes) → AreFiled half tells s → IsTrue tells
+    → Some form ≡ finite.get (nodes_of s) h → bytes ≡ form → half bytes ≡ h
+filed_hash half tells s h form bytes filed told is same = ap half same ∙ sym (filed told h form (sym is))

@@ -1,13 +1,17 @@
 -- What a store is as a source of nodes.
-use Rattle.std.specs.Prelude.{Bool, is_some, if◌then◌else◌}
+use Rattle.std.specs.Prelude.{◌≡◌, Bool, IsTrue, Some, is_some, if◌then◌else◌}
 use Rattle.std.specs.FinMap as finite
-use Rattle.ledger_spec.specs.Bytes.{Half, Nodes}
+use Rattle.ledger_spec.specs.Bytes.{Bytes, Half, Hash, Nodes}
 use Rattle.ledger_spec.specs.Own.{own_form}
 use Rattle.node_backend.specs.declared.back.BackFault.{BackFault}
 use Rattle.node_backend.specs.declared.back.BackFault.TheVariants as back
 use Rattle.path_proof.specs.declared.source.FetchFault.{FetchFault}
 use Rattle.path_proof.specs.declared.source.FetchFault.TheVariants.{Fault, Memory}
-use Rattle.rotating_store.specs.Stores.{Store}
+use Rattle.rotating_store.specs.Stores.{Store, nodes_of}
+
+-- where a store tells what it holds, each form of it stands under its own hash
+abbrev pub AreFiled : Half → Bool → Store → Type 0
+AreFiled half tells s = IsTrue tells → (h : Hash) (form : Bytes) → finite.get (nodes_of s) h ≡ Some form → h ≡ half form
 
 -- of what is stored, the forms that stand under their own hashes
 abbrev pub own_nodes : Half → Nodes → Nodes

@@ -7,4 +7,5 @@ mod pair;
 mod source;
 mod store;
 
+pub use source::Filed;
 pub use store::{Moved, Parts, Put, RotStore, StoreFault, Unopened};

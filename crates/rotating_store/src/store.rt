@@ -80,6 +80,7 @@ pub struct RotStore<Sh: Shelf> {
 }
 
 /// The very shelf and backends of a store.
+#[derive(Drop)]
 pub struct Parts<'a, Sh: Shelf> {
     /// The shelf.
     pub shelf: &'a Sh,
