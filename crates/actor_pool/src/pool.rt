@@ -8,8 +8,8 @@ ghost use Rattle.actor_pool.specs.Order.{IsOf, IsSameRun, AreAnswered, AreOfOne}
 use crate::gate::{Gate, Point};
 use crate::reading::read_outside;
 use crate::shared::{
-    Pinned, Shared, answered_locked, commit_locked, is_left_locked, job_locked, step_locked,
-    unlocked,
+    Pinned, Section, Shared, answered_locked, commit_locked, is_left_locked, job_locked,
+    step_locked, unlocked,
 };
 use half_hash::NodeHash;
 use ledger_machine::Line;
@@ -20,7 +20,7 @@ use std::marker::Brand;
 use std::sync::{Mutex, Wait};
 use std::thread;
 use std::thread::Threads;
-use store_core::{Core, Stepped};
+use store_core::{Core, ReadJob, Stepped};
 
 /// How many actors there are, numbered from 0.
 const ACTORS: u8 = 64;
@@ -86,10 +86,11 @@ fn run_workers<R: Threads + Wait + Sync, H: NodeHash, Sh: Shelf, G: Gate, J: Pin
         return core;
     };
     let lines = core.script().lines.len();
+    let actors = actors_of(&core.script().lines);
     let mut answered = core.journal().len();
     let shared: Mutex<Shared<H, Sh, J>> = Mutex::new(Shared::new(core));
     while answered < lines {
-        run_round(rt, alloc, &shared, &cache, gate, lines);
+        run_round(rt, alloc, &shared, &cache, gate, &actors, lines);
         let now = answered_locked(rt, &shared);
         if now <= answered {
             break;
@@ -97,6 +98,17 @@ fn run_workers<R: Threads + Wait + Sync, H: NodeHash, Sh: Shelf, G: Gate, J: Pin
         answered = now;
     }
     unlocked(shared)
+}
+
+// Which actors have lines at all, so that those who have none aren't asked for in each round.
+fn actors_of(lines: &[Line]) -> [bool; ACTORS as usize] {
+    let mut actors = [false; ACTORS as usize];
+    for line in lines {
+        if line.actor < ACTORS {
+            actors[line.actor as usize] = true;
+        }
+    }
+    actors
 }
 
 /// Runs one worker for each actor that has a line left, and waits for them. One that can't be
@@ -107,11 +119,12 @@ fn run_round<R: Threads + Wait + Sync, H: NodeHash, Sh: Shelf, G: Gate, J: Pinne
     shared: &Mutex<Shared<H, Sh, J>>,
     cache: &ReadCache<H>,
     gate: &G,
+    actors: &[bool; ACTORS as usize],
     lines: usize,
 ) {
     thread::scope(thread::scope_env(), rt, |scope| {
         for actor in 0..ACTORS {
-            if is_left_locked(rt, shared, actor) {
+            if actors[actor as usize] && is_left_locked(rt, shared, actor) {
                 let _ = scope.spawn(move || work(rt, alloc, shared, cache, gate, actor, lines));
             }
         }
@@ -129,14 +142,17 @@ fn work<R: Wait, H: NodeHash, Sh: Shelf, G: Gate, J: Pinned>(
     actor: u8,
     lines: usize,
 ) {
+    let mut job = job_locked(rt, shared, actor);
     for _ in 0..lines {
-        if !answer(rt, alloc, shared, cache, gate, actor) {
-            break;
+        match answer(rt, alloc, shared, cache, gate, actor, job) {
+            Some(next) => job = next,
+            None => break,
         }
     }
 }
 
-/// Tries the actor's next line until it is answered. False where there is none, or it still waits.
+/// Tries the actor's next line until it is answered, at first as the read that it is known to ask for. It gives the read that the line
+/// behind it asks for, if any; none where there is no line, or it still waits.
 fn answer<R: Wait, H: NodeHash, Sh: Shelf, G: Gate, J: Pinned>(
     rt: &R,
     alloc: Global,
@@ -144,18 +160,24 @@ fn answer<R: Wait, H: NodeHash, Sh: Shelf, G: Gate, J: Pinned>(
     cache: &ReadCache<H>,
     gate: &G,
     actor: u8,
-) -> bool {
+    job: Option<ReadJob>,
+) -> Option<Option<ReadJob>> {
+    let mut job = job;
     for _ in 0..TRIES {
-        match try_line(rt, alloc, shared, cache, gate, actor) {
+        let Section { stepped, next } = try_line(rt, alloc, shared, cache, gate, actor, job);
+        match stepped {
             Stepped::Answered => {
                 gate.pass(actor, Point::Answered);
-                return true;
+                return Some(next);
             }
-            Stepped::Blocked | Stepped::More => thread::yield_now(),
-            Stepped::Finished => return false,
+            Stepped::Blocked | Stepped::More => {
+                thread::yield_now();
+                job = job_locked(rt, shared, actor);
+            }
+            Stepped::Finished => return None,
         }
     }
-    false
+    None
 }
 
 /// Does sections of the actor's next line as long as each is a slice of a swap or of a check.
@@ -166,17 +188,24 @@ fn try_line<R: Wait, H: NodeHash, Sh: Shelf, G: Gate, J: Pinned>(
     cache: &ReadCache<H>,
     gate: &G,
     actor: u8,
-) -> Stepped {
+    job: Option<ReadJob>,
+) -> Section {
+    let mut job = job;
     for _ in 0..SECTIONS {
-        match section(rt, alloc, shared, cache, gate, actor) {
+        let done = section(rt, alloc, shared, cache, gate, actor, job);
+        match done.stepped {
             Stepped::More => gate.pass(actor, Point::BetweenSlices),
-            stepped => return stepped,
+            _ => return done,
         }
+        job = done.next;
     }
-    Stepped::More
+    Section {
+        stepped: Stepped::More,
+        next: None,
+    }
 }
 
-/// One section of the actor's next line. A `get` is read outside of the core's lock, and what that gives is handed in.
+/// One section of the actor's next line. A read is done outside of the core's lock, and what that gives is handed in.
 fn section<R: Wait, H: NodeHash, Sh: Shelf, G: Gate, J: Pinned>(
     rt: &R,
     alloc: Global,
@@ -184,8 +213,9 @@ fn section<R: Wait, H: NodeHash, Sh: Shelf, G: Gate, J: Pinned>(
     cache: &ReadCache<H>,
     gate: &G,
     actor: u8,
-) -> Stepped {
-    let Some(job) = job_locked(rt, shared, actor) else {
+    job: Option<ReadJob>,
+) -> Section {
+    let Some(job) = job else {
         gate.pass(actor, Point::BeforeCommit);
         return step_locked(rt, alloc, shared, actor);
     };

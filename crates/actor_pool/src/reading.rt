@@ -1,7 +1,7 @@
-//! Reads outside the core's lock. Each node of the path comes from the cache of readers or, where that lacks it, from the core in a
-//! section of its own: no two locks are held at once, and none between two nodes. A node that comes either way has the hash that was asked
-//! for, so what the path says is known here, and nothing of it is hashed as it is handed in.
-ghost use Rattle.std.specs.Prelude.{◌≡◌, false, IfOk, IfSome};
+//! Reads outside the core's lock. Each node of the path comes from the cache of readers or, where that lacks it, is made here of the bytes
+//! that the core gives in a section of its own: no two locks are held at once, and none between two nodes. A node that comes either way
+//! has the hash that was asked for, so what the path says is known here, and nothing of it is hashed as it is handed in.
+ghost use Rattle.std.specs.Prelude.{◌≡◌, false, IfOk, IfSome, IsTrue};
 ghost use Rattle.ledger_spec.specs.Bytes.{is_zero};
 ghost use Rattle.ledger_spec.specs.Forms.{hash_of};
 ghost use Rattle.path_proof.specs.Sources.{HasHash};
@@ -9,10 +9,10 @@ ghost use Rattle.shamap_node.specs.Nodes.{held};
 ghost use Rattle.store_core.specs.Reads.{IsFollowed, IsSaid};
 
 use crate::gate::{Gate, Point};
-use crate::shared::{Pinned, Shared, node_locked};
+use crate::shared::{Pinned, Shared, form_locked};
 use half_hash::{Hash32, NodeHash};
-use node_backend::Shelf;
-use path_proof::{Answer, FetchFault, Outcome, Progress, ReadFault, Reading};
+use node_backend::{Backend, Shelf};
+use path_proof::{Answer, FetchFault, Outcome, Progress, ReadFault, Reading, node_of_form};
 use read_cache::ReadCache;
 use shamap_node::Node;
 use std::alloc::Global;
@@ -63,7 +63,7 @@ fn go_down<R: Wait, H: NodeHash, Sh: Shelf, G: Gate, J: Pinned>(
     }
 }
 
-// The node of a hash: the one that the cache has, or that of the core, which is put into the cache.
+// The node of a hash: the one that the cache has, or that of the bytes which the core gives, which is put into the cache.
 fn node_of<R: Wait, H: NodeHash, Sh: Shelf, G: Gate, J: Pinned>(
     rt: &R,
     alloc: Global,
@@ -79,12 +79,33 @@ fn node_of<R: Wait, H: NodeHash, Sh: Shelf, G: Gate, J: Pinned>(
         return Ok(Some(node));
     }
     gate.pass(actor, Point::BeforeFetch);
-    let fetched = node_locked(rt, alloc, shared, actor, h);
+    let form = form_locked(rt, alloc, shared, actor, h);
     gate.pass(actor, Point::AfterFetch);
-    if let Ok(Some(node)) = &fetched {
-        keep(rt, cache, node);
+    let Some(form) = form? else {
+        return Ok(None);
+    };
+    let node = decoded::<H, Sh>(alloc, h, form.bytes());
+    if let Ok(Some(node)) = &node {
+        keep(rt, cache, h, node);
     }
-    fetched
+    node
+}
+
+// The node of the bytes that are stored under a hash. They are hashed where the store doesn't tell what it holds; where it does they have
+// the hash.
+fn decoded<H: NodeHash, Sh: Shelf>(
+    alloc: Global,
+    h: &Hash32,
+    form: &[u8],
+) -> Result<Option<Arc<Node>>, FetchFault>
+    requires { IsTrue Sh.B.tells → H.half form.now ≡ h.now }
+    ensures { HasHash H.half h.now result }
+{
+    if Sh::B::is_telling() {
+        node_of_form(alloc, h, h, form)
+    } else {
+        node_of_form(alloc, h, &H::half(form), form)
+    }
 }
 
 // The node that the cache has; want of memory is passed over.
@@ -97,9 +118,11 @@ fn cached<R: Wait, H: NodeHash>(rt: &R, cache: &ReadCache<H>, h: &Hash32) -> Opt
     }
 }
 
-// Puts a node that was fetched into the cache; want of memory is passed over.
-fn keep<R: Wait, H: NodeHash>(rt: &R, cache: &ReadCache<H>, node: &Arc<Node>) {
+// Puts a node that was fetched under this hash into the cache; want of memory is passed over.
+fn keep<R: Wait, H: NodeHash>(rt: &R, cache: &ReadCache<H>, h: &Hash32, node: &Arc<Node>)
+    requires { hash_of H.half (held node.now.value) ≡ h.now }
+{
     if let Ok(node) = Arc::try_clone(node) {
-        let _ = cache.put(rt, node);
+        let _ = cache.put_hashed(rt, h, node);
     }
 }

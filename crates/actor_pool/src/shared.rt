@@ -1,15 +1,13 @@
 //! A core under one lock, tied to what it was opened with.
-ghost use Rattle.std.specs.Prelude.{◌≡◌};
-ghost use Rattle.path_proof.specs.Sources.{HasHash};
+ghost use Rattle.std.specs.Prelude.{◌≡◌, IfOk, IfSome, IsTrue};
 ghost use Rattle.actor_pool.specs.Order.{IsOf};
 
-use half_hash::{Hash32, NodeHash};
-use node_backend::Shelf;
+use half_hash::{Blob, Hash32, NodeHash};
+use node_backend::{Backend, Shelf};
 use path_proof::FetchFault;
-use shamap_node::Node;
 use std::alloc::Global;
 use std::marker::{Brand, Model, PhantomData};
-use std::sync::{Arc, Mutex, Wait};
+use std::sync::{Mutex, Wait};
 use store_core::{Core, Followed, ReadJob, Stepped};
 
 /// Which run it is: the script, the interval, the count of faults at opening and what was missed. Each
@@ -24,6 +22,14 @@ impl Pinned for Brand {
     ghost use Rattle.std.specs.Prelude.{[]};
 
     ghost run = { record { records = []; lines = []; interval = 0; opened = 0; missed = 0 } };
+}
+
+/// What a section of an actor's next line came to, and the read that the line behind it asks for, if it asks for one. That is taken in
+/// the same section, so that a reader needs no other one for it.
+#[derive(Clone, Copy, Debug)]
+pub(crate) struct Section {
+    pub(crate) stepped: Stepped,
+    pub(crate) next: Option<ReadJob>,
 }
 
 /// A core of the pinned run.
@@ -59,8 +65,18 @@ impl<H: NodeHash, Sh: Shelf, J: Pinned> Shared<H, Sh, J> {
         }
     }
 
-    pub(crate) fn step(&mut self, alloc: Global, actor: u8) -> Stepped {
-        self.core.step(alloc, actor)
+    /// One section for the actor's next line.
+    pub(crate) fn step(&mut self, alloc: Global, actor: u8) -> Section {
+        let stepped = self.core.step(alloc, actor);
+        self.section(actor, stepped)
+    }
+
+    // A section that came to this, with the read that is asked for behind it.
+    fn section(&self, actor: u8, stepped: Stepped) -> Section {
+        Section {
+            stepped,
+            next: self.core.read_job(actor),
+        }
     }
 
     /// The read that the actor's next line asks for.
@@ -68,21 +84,22 @@ impl<H: NodeHash, Sh: Shelf, J: Pinned> Shared<H, Sh, J> {
         self.core.read_job(actor)
     }
 
-    /// The node of a hash.
-    pub(crate) fn node_at(
+    /// The bytes that are stored under a hash.
+    pub(crate) fn form_at(
         &mut self,
         alloc: Global,
         actor: u8,
         h: &Hash32,
-    ) -> Result<Option<Arc<Node>>, FetchFault>
-        ensures { HasHash H.half h.now result }
+    ) -> Result<Option<Blob>, FetchFault>
+        ensures { IfOk result (λ o. IfSome o (λ form. IsTrue Sh.B.tells → H.half form ≡ h.now)) }
     {
-        self.core.node_at(alloc, actor, h)
+        self.core.form_at(alloc, actor, h)
     }
 
     /// One section for the actor's next line, with what a reader got for it.
-    pub(crate) fn commit(&mut self, alloc: Global, actor: u8, handed: Followed<H>) -> Stepped {
-        self.core.commit_followed(alloc, actor, handed)
+    pub(crate) fn commit(&mut self, alloc: Global, actor: u8, handed: Followed<H>) -> Section {
+        let stepped = self.core.commit_followed(alloc, actor, handed);
+        self.section(actor, stepped)
     }
 
     /// How many lines have their entries.
@@ -109,7 +126,7 @@ pub(crate) fn step_locked<H: NodeHash, Sh: Shelf, J: Pinned>(
     alloc: Global,
     shared: &Mutex<Shared<H, Sh, J>>,
     actor: u8,
-) -> Stepped {
+) -> Section {
     shared.lock(rt).step(alloc, actor)
 }
 
@@ -122,17 +139,17 @@ pub(crate) fn job_locked<H: NodeHash, Sh: Shelf, J: Pinned>(
     shared.lock(rt).read_job(actor)
 }
 
-/// The node of a hash, in a section of its own.
-pub(crate) fn node_locked<H: NodeHash, Sh: Shelf, J: Pinned>(
+/// The bytes that are stored under a hash, in a section of its own.
+pub(crate) fn form_locked<H: NodeHash, Sh: Shelf, J: Pinned>(
     rt: &impl Wait,
     alloc: Global,
     shared: &Mutex<Shared<H, Sh, J>>,
     actor: u8,
     h: &Hash32,
-) -> Result<Option<Arc<Node>>, FetchFault>
-    ensures { HasHash H.half h.now result }
+) -> Result<Option<Blob>, FetchFault>
+    ensures { IfOk result (λ o. IfSome o (λ form. IsTrue Sh.B.tells → H.half form ≡ h.now)) }
 {
-    shared.lock(rt).node_at(alloc, actor, h)
+    shared.lock(rt).form_at(alloc, actor, h)
 }
 
 /// One section for the actor's next line, with what a reader got for it.
@@ -142,7 +159,7 @@ pub(crate) fn commit_locked<H: NodeHash, Sh: Shelf, J: Pinned>(
     shared: &Mutex<Shared<H, Sh, J>>,
     actor: u8,
     handed: Followed<H>,
-) -> Stepped {
+) -> Section {
     shared.lock(rt).commit(alloc, actor, handed)
 }
 

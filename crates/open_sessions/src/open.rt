@@ -8,7 +8,7 @@ ghost use Rattle.ledger_spec.specs.Bytes.{same_bytes};
 ghost use Rattle.ledger_spec.specs.Maps.{numbered_cmp, get_in, has_in, insert_in, remove_in};
 ghost use Rattle.run_io.specs.Bytes.{Rose};
 ghost use Rattle.rotating_store.specs.Stores.{nodes_of};
-ghost use Rattle.rotating_store.specs.Sources.{own_nodes};
+ghost use Rattle.rotating_store.specs.Sources.{AreFiled, own_nodes};
 ghost use Rattle.cow_map.specs.Ways.{stop_of, removal_stop_of, NamesNoForm};
 ghost use Rattle.edit_session.specs.Changes.{ChangesState, ChangesTxs, SetsAccount, RemovesAccount, SetsTx, GoesBy};
 ghost use Rattle.edit_session.specs.Drafts.{Draft};
@@ -18,7 +18,7 @@ use cow_map::MapFault;
 use edit_session::Session;
 use half_hash::{Blob, Hash32, Memory, NodeHash};
 use node_backend::Shelf;
-use rotating_store::RotStore;
+use rotating_store::{Filed, RotStore};
 use shamap_node::Item;
 use std::alloc::Global;
 use std::collections::BTreeMap;
@@ -114,6 +114,7 @@ impl Open {
         id: (u8, u16),
         item: &Item,
     ) -> Result<bool, MapFault>
+        requires filed { AreFiled H.half Sh.B.tells store.old }
         ensures changed { IfOk result (Changed (λ d d'. ChangesState 65 d d' × (IsTrue Sh.B.tells
             → SetsAccount H.half (finite.get (own_nodes H.half (nodes_of store.old))) d d' item.now.key item.now.value))
             self.old self.new id) }
@@ -134,7 +135,8 @@ impl Open {
         let Some(session) = self.sessions.get_mut(&id) else {
             return Ok(false);
         };
-        session.put::<H, RotStore<Sh>>(alloc, store, item)?;
+        let mut filed = Filed::<'_, H, Sh>::new(store);
+        session.put::<H, Filed<'_, H, Sh>>(alloc, &mut filed, item)?;
         Ok(true)
     }
 
@@ -146,6 +148,7 @@ impl Open {
         id: (u8, u16),
         key: &Hash32,
     ) -> Result<Option<bool>, MapFault>
+        requires filed { AreFiled H.half Sh.B.tells store.old }
         ensures changed { IfOk result (λ there. Changed (λ d d'. ChangesState 64 d d' × (IsTrue Sh.B.tells
             → RemovesAccount H.half (finite.get (own_nodes H.half (nodes_of store.old))) d d' key.now (unwrap_or there false)))
             self.old self.new id (is_some there)) }
@@ -165,7 +168,8 @@ impl Open {
         let Some(session) = self.sessions.get_mut(&id) else {
             return Ok(None);
         };
-        let there = session.remove::<H, RotStore<Sh>>(alloc, store, key)?;
+        let mut filed = Filed::<'_, H, Sh>::new(store);
+        let there = session.remove::<H, Filed<'_, H, Sh>>(alloc, &mut filed, key)?;
         Ok(Some(there))
     }
 

@@ -40,7 +40,14 @@ impl<H: NodeHash> ReadCache<H> {
     /// Keeps a node under its own hash. It waits for a lock.
     pub fn put<R: Wait>(&self, rt: &R, node: Arc<Node>) -> Result<(), Memory> {
         let h = hash_of::<H>(&node);
-        self.shards[shard_of(&h)].lock(rt).keep_hashed(&h, node)
+        self.put_hashed(rt, &h, node)
+    }
+
+    /// The same of a node whose hash the caller knows, which isn't hashed again.
+    pub fn put_hashed<R: Wait>(&self, rt: &R, h: &Hash32, node: Arc<Node>) -> Result<(), Memory>
+        requires own { form_hash H.half (held node.value) ≡ h.now }
+    {
+        self.shards[shard_of(h)].lock(rt).keep_hashed(h, node)
     }
 }
 

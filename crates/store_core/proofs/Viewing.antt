@@ -1,6 +1,6 @@
 -- What is found of a view, and what a read of its map says.
 use Rattle.std.proofs.Common.{◌≡◌, ◌≤◌, ℕ, Bool, true, false, List, [], ◌∷◌, ◌++◌, Option, Some, None, ◌||◌, map, Result, Ok, Err}
-use Rattle.std.proofs.Common.{IfOk, IsTrue, refl, sym, ap}
+use Rattle.std.proofs.Common.{IfOk, IfSome, IsTrue, refl, sym, ap}
 use Rattle.std.proofs.Common.{◌∙◌, arith}
 use Rattle.std.specs.Option.{option_map, option_and_then}
 use Rattle.std.specs.FinMap as finite
@@ -14,7 +14,8 @@ use Rattle.std.proofs.lemmas.List.{append-nil}
 use Rattle.node_backend.specs.declared.back.BackFault.{BackFault}
 use Rattle.node_backend.specs.declared.back.BackFault.TheVariants as back
 use Rattle.ledger_spec.specs.declared.Kind.{Kind}
-use Rattle.ledger_spec.specs.Bytes.{Hash, Half, Lookup, Nodes, same_bytes}
+use Rattle.ledger_spec.specs.Bytes.{Bytes, Hash, Half, Lookup, Nodes, same_bytes}
+use Rattle.path_proof.specs.declared.source.FetchFault.{FetchFault}
 use Rattle.ledger_spec.specs.Maps.{hash_cmp, numbered_cmp, get_in, has_in, ForHash, ForActor}
 use Rattle.ledger_spec.specs.Own.{AreStored, own_forms}
 use Rattle.ledger_spec.specs.Spots.{header_in, header_root}
@@ -22,10 +23,10 @@ use Rattle.ledger_spec.proofs.Owning.{all_own}
 use Rattle.ledger_machine.specs.State.{State, Session, form_in}
 use Rattle.ledger_machine.specs.Reading.{view_root}
 use Rattle.ledger_machine.specs.Views.{is_retained}
-use Rattle.rotating_store.specs.Sources.{rest_of}
+use Rattle.rotating_store.specs.Sources.{AreFiled, rest_of}
 use Rattle.rotating_store.specs.Stores.{Store, nodes_of, born_of, Counted}
 use Rattle.own_forms.specs.Reading.{WasRead}
-use Rattle.store_core.specs.Desks.{Desk, OnlyReads, over, backs}
+use Rattle.store_core.specs.Desks.{Desk, IsFiled, OnlyReads, over, backs}
 use Rattle.store_core.proofs.Copies.{backs_of, counted_backs}
 use Rattle.store_core.specs.declared.views.Got.{Got}
 use Rattle.store_core.specs.Reads.{IsGot}
@@ -56,6 +57,17 @@ root_found half st s v t kind (Err e) is all viewed found = tt
 
 pub no_root : (s : State) (v : ℕ × ℕ) (kind : Kind) → get_in numbered_cmp s.views v ≡ None → None ≡ view_root s kind v
 no_root s v kind none = sym (ap (option_and_then (λ x. option_map (header_root kind) (header_in (form_in s) x))) none)
+
+-- where all that a state tells stands under its own hashes, the bytes that are read are those that have the hash
+pub form_stands : (half : Half) (tells : Bool) (s : State) (h : Hash) (r : Result (Option Bytes) FetchFault) → IsFiled half tells s
+    → (IsTrue tells → IfOk r (λ b. b ≡ form_in s h)) → IfOk r (λ o. IfSome o (λ form. IsTrue tells → half form ≡ h))
+form_stands half tells s h (Err e) filed is = tt
+form_stands half tells s h (Ok None) filed is = tt
+form_stands half tells s h (Ok (Some form)) filed is = λ told. sym (filed told h form (sym (is told))).own
+
+-- what a state tells stands under its own hashes, and so does what its store tells
+pub filed_by : (half : Half) (tells : Bool) (s : State) (st : Store) → IsOver st s → IsFiled half tells s → AreFiled half tells st
+filed_by half tells s st is filed told h form at = (filed told h form (ap (λ (n : Nodes). finite.get n h) is.nodes ∙ at)).own
 
 -- what the commands act on, after the store was read
 abbrev pub read_desk : Desk → Store → Desk

@@ -31,7 +31,7 @@ use crate::machine::{Machine, unread};
 use crate::rotating::Part;
 use crate::told::unsearched;
 use edit_session::a_session_stays_over_its_ledger;
-use half_hash::{Hash32, Memory, NodeHash};
+use half_hash::{Blob, Hash32, Memory, NodeHash};
 use ledger_laws::{a_row_is_one_beside_any_sessions, a_step_carries_what_was_told};
 use ledger_machine::{Command, Record, Reply, ViewReply};
 use ledger_searches::Searches;
@@ -150,6 +150,17 @@ impl<H: NodeHash, Sh: Shelf> Bench<H, Sh> {
         ensures fault { IfErr result (λ e. e ≡ FetchFault.Fault → Rose self.old.faults self.new.faults) }
     {
         self.machine.node_at(alloc, h)
+    }
+
+    /// The bytes of a hash, as the store gives them: nothing of them is hashed.
+    pub(crate) fn form_at(&mut self, alloc: Global, h: &Hash32) -> Result<Option<Blob>, FetchFault>
+        requires { IsFiled H.half Sh.B.tells self.old.state }
+        ensures exact { IsTrue Sh.B.tells → IfOk result (λ b. b ≡ form_in self.old.state h.now) }
+        ensures own { IfOk result (λ o. IfSome o (λ form. IsTrue Sh.B.tells → H.half form ≡ h.now)) }
+        ensures reads { OnlyReads Sh.B.tells self.old self.new }
+        ensures fault { IfErr result (λ e. e ≡ FetchFault.Fault → Rose self.old.faults self.new.faults) }
+    {
+        self.machine.form_at(alloc, h)
     }
 
     /// One step of the machine: the reply, and the nodes that it used.

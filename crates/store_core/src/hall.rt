@@ -30,7 +30,7 @@ use crate::jobs::{Followed, Handed, ReadJob, View};
 use crate::machine::unread;
 use crate::rotating::Part;
 use crate::views::answered;
-use half_hash::{Hash32, NodeHash};
+use half_hash::{Blob, Hash32, NodeHash};
 use ledger_header::Header;
 use ledger_machine::{Command, Line, Record, Reply, ViewReply};
 use ledger_searches::Searches;
@@ -150,6 +150,18 @@ impl<H: NodeHash, Sh: Shelf> Hall<H, Sh> {
         ensures fault { IfErr result (λ e. e ≡ FetchFault.Fault → Rose self.old.desk.faults self.new.desk.faults) }
     {
         self.bench.node_at(alloc, h)
+    }
+
+    /// The bytes of a hash, as the store gives them: nothing of them is hashed.
+    pub(crate) fn form_at(&mut self, alloc: Global, h: &Hash32) -> Result<Option<Blob>, FetchFault>
+        requires { IsFiled H.half Sh.B.tells self.old.desk.state }
+        ensures exact { IsTrue Sh.B.tells → IfOk result (λ b. b ≡ form_in self.old.desk.state h.now) }
+        ensures own { IfOk result (λ o. IfSome o (λ form. IsTrue Sh.B.tells → H.half form ≡ h.now)) }
+        ensures reads { OnlyReads Sh.B.tells self.old.desk self.new.desk }
+        ensures views { self.new.views ≡ self.old.views }
+        ensures fault { IfErr result (λ e. e ≡ FetchFault.Fault → Rose self.old.desk.faults self.new.desk.faults) }
+    {
+        self.bench.form_at(alloc, h)
     }
 
     /// The read that an actor's line asks for: a `get` by a view that is open.

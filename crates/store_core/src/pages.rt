@@ -13,7 +13,7 @@ use ledger_machine::{PageReply, Reply};
 use map_cursor::page;
 use node_backend::{BackFault, Shelf};
 use path_proof::ReadFault;
-use rotating_store::RotStore;
+use rotating_store::Filed;
 use shamap_node::{Kind, Node};
 use std::alloc::Global;
 use std::sync::Arc;
@@ -69,7 +69,8 @@ impl<H: NodeHash, Sh: Shelf> Machine<H, Sh> {
         ensures fault { IfErr result (λ e. e ≡ BackFault.Fault → Rose self.old.faults self.new.faults) }
     {
         let most = usize::from(n);
-        let page = match page::<H, RotStore<Sh>>(alloc, &mut self.store, root, kind, after, most) {
+        let mut filed = Filed::<'_, H, Sh>::new(&mut self.store);
+        let page = match page::<H, Filed<'_, H, Sh>>(alloc, &mut filed, root, kind, after, most) {
             Ok(page) => page,
             Err(ReadFault::Fault) => return Err(BackFault::Fault),
             // the map of a retained ledger is whole, so that only memory was wanted

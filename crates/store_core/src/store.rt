@@ -29,7 +29,7 @@ use crate::hall::Hall;
 use crate::jobs::{Followed, Handed, ReadJob};
 use crate::records::put_records;
 use crate::rotating::Part;
-use half_hash::{Hash32, NodeHash, known_half};
+use half_hash::{Blob, Hash32, NodeHash, known_half};
 use ledger_machine::{
     CheckReply, CloseReply, Entry, Line, Record, Reply, Script, SwapReply, Totals,
 };
@@ -343,6 +343,29 @@ impl<H: NodeHash, Sh: Shelf> Core<H, Sh> {
     {
         self.hall.known();
         match self.hall.node_at(alloc, h) {
+            Ok(found) => Ok(found),
+            Err(fault) => Err(noted(&mut self.failed, actor, fault)),
+        }
+    }
+
+    /// The bytes that are stored under a hash, as the store gives them, for a reader that makes the node of them outside of the core's
+    /// lock: none where the hash isn't held. Nothing of them is hashed here; where the store tells what it holds they have the hash. A
+    /// fault is noted for the actor, until its next entry.
+    pub fn form_at(
+        &mut self,
+        alloc: Global,
+        actor: u8,
+        h: &Hash32,
+    ) -> Result<Option<Blob>, FetchFault>
+        ensures exact { IsTrue Sh.B.tells → IfOk result (λ b. b ≡ form_in self.old.state h.now) }
+        ensures own { IfOk result (λ o. IfSome o (λ form. IsTrue Sh.B.tells → H.half form ≡ h.now)) }
+        ensures lists { Lists Sh.B.tells self.old self.new }
+        ensures missed { self.new.missed ≡ self.old.missed }
+        ensures failed { self.new.failed ≡ failed_after actor self.old.failed result }
+        ensures fault { IfErr result (λ e. e ≡ FetchFault.Fault → Rose self.old.faults self.new.faults) }
+    {
+        self.hall.known();
+        match self.hall.form_at(alloc, h) {
             Ok(found) => Ok(found),
             Err(fault) => Err(noted(&mut self.failed, actor, fault)),
         }

@@ -3,7 +3,9 @@ ghost use Rattle.std.specs.Prelude.{◌≡◌, ◌≤◌, IsTrue, OnErr, IfErr, 
 ghost use Rattle.std.specs.FinMap as map;
 ghost use Rattle.ledger_spec.specs.Forms.{hash_of};
 ghost use Rattle.ledger_machine.specs.State.{form_in};
+ghost use Rattle.own_forms.specs.Reading.{WasRead};
 ghost use Rattle.path_proof.specs.Sources.{Gives};
+ghost use Rattle.rotating_store.specs.Stores.{nodes_of};
 ghost use Rattle.shamap_node.specs.Nodes.{held};
 ghost use Rattle.std.specs.List.{list_any};
 ghost use Rattle.std.specs.Map.{values_of};
@@ -18,12 +20,12 @@ ghost use Rattle.path_proof.specs.Paths.{held_nodes};
 ghost use Rattle.store_core.specs.Reads.{IsFollowed, IsGot, Says};
 
 use crate::machine::Machine;
-use half_hash::{Hash32, Memory, NodeHash};
+use half_hash::{Blob, Hash32, Memory, NodeHash};
 use ledger_machine::{GetReply, Reply, ViewReply};
 use node_backend::{BackFault, Shelf};
 use node_offer::root_in;
 use path_proof::{Answer, FetchFault, NodeSource, Outcome, ReadFault, read};
-use rotating_store::RotStore;
+use rotating_store::{Filed, RotStore, StoreFault};
 use shamap_node::{Kind, Node};
 use std::alloc::Global;
 use std::collections::BTreeMap;
@@ -142,7 +144,19 @@ impl<H: NodeHash, Sh: Shelf> Machine<H, Sh> {
         ensures reads { OnlyReads Sh.B.tells self.old self.new }
         ensures fault { IfErr result (λ e. e ≡ FetchFault.Fault → Rose self.old.faults self.new.faults) }
     {
-        fetched::<H, RotStore<Sh>>(alloc, &mut self.store, h)
+        let mut filed = Filed::<'_, H, Sh>::new(&mut self.store);
+        fetched::<H, Filed<'_, H, Sh>>(alloc, &mut filed, h)
+    }
+
+    /// The bytes of a hash, as the store gives them: nothing of them is hashed.
+    pub(crate) fn form_at(&mut self, alloc: Global, h: &Hash32) -> Result<Option<Blob>, FetchFault>
+        requires { IsFiled H.half Sh.B.tells self.old.state }
+        ensures exact { IsTrue Sh.B.tells → IfOk result (λ b. b ≡ form_in self.old.state h.now) }
+        ensures own { IfOk result (λ o. IfSome o (λ form. IsTrue Sh.B.tells → H.half form ≡ h.now)) }
+        ensures reads { OnlyReads Sh.B.tells self.old self.new }
+        ensures fault { IfErr result (λ e. e ≡ FetchFault.Fault → Rose self.old.faults self.new.faults) }
+    {
+        bytes_at::<H, Sh>(alloc, &mut self.store, h)
     }
 
     // Reads a key in the map below a root.
@@ -153,16 +167,35 @@ impl<H: NodeHash, Sh: Shelf> Machine<H, Sh> {
         kind: Kind,
         key: &Hash32,
     ) -> Result<Got, BackFault>
+        requires { IsFiled H.half Sh.B.tells self.old.state }
         ensures read { IfOk result (λ got. IsRead H.half kind key.now root.now (Reply.Get got.reply) (held_nodes got.used.items)) }
         ensures reads { OnlyReads Sh.B.tells self.old self.new }
         ensures fault { IfErr result (λ e. e ≡ BackFault.Fault → Rose self.old.faults self.new.faults) }
     {
-        match read::<H, RotStore<Sh>>(alloc, &mut self.store, root, kind, key) {
+        let mut filed = Filed::<'_, H, Sh>::new(&mut self.store);
+        match read::<H, Filed<'_, H, Sh>>(alloc, &mut filed, root, kind, key) {
             Ok(answer) => answered(answer),
             Err(ReadFault::Fault) => Err(BackFault::Fault),
             // the map of a retained ledger is whole, so that only memory was wanted
             Err(_) => Err(BackFault::Memory),
         }
+    }
+}
+
+// The bytes that the store gives for a hash.
+fn bytes_at<H: NodeHash, Sh: Shelf>(
+    alloc: Global,
+    store: &mut RotStore<Sh>,
+    h: &Hash32,
+) -> Result<Option<Blob>, FetchFault>
+    ensures found { IsTrue Sh.B.tells → IfOk result (λ b. b ≡ map.get (nodes_of store.old) h.now) }
+    ensures read { WasRead Sh.B.tells H.half store.old store.new }
+    ensures fault { IfErr result (λ e. e ≡ FetchFault.Fault → Rose store.old.faults store.new.faults) }
+{
+    match store.get(alloc, h) {
+        Ok(form) => Ok(form),
+        Err(StoreFault::Fault) => Err(FetchFault::Fault),
+        Err(_) => Err(FetchFault::Memory),
     }
 }
 

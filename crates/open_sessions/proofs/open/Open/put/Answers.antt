@@ -1,11 +1,12 @@
-use Rattle.std.proofs.Common.{sym, ◌∙◌, true}
+use Rattle.std.proofs.Common.{sym, ap, subst, ◌∙◌, true, IsTrue, Ok, Err}
 use Rattle.open_sessions.proofs.Tables.{not_both, on_err, set_same}
 use Rattle.std.specs.FinMap as finite
-use Rattle.ledger_spec.specs.Bytes.{Lookup}
-use Rattle.ledger_spec.specs.Maps.{numbered_cmp, get_in}
+use Rattle.ledger_spec.specs.Bytes.{Bytes, Hash, Lookup}
+use Rattle.ledger_spec.specs.Maps.{ForActor, numbered_cmp, get_in, set_in}
 use Rattle.rotating_store.specs.Stores.{nodes_of}
 use Rattle.rotating_store.specs.Sources.{own_nodes}
 use Rattle.cow_map.specs.Ways.{stop_of}
+use Rattle.edit_session.specs.Changes.{GoesBy, SetsAccount}
 use Rattle.edit_session.specs.Drafts.{Draft}
 use Rattle.open_sessions.proofs.Stopping.{stopped_by, gone_by}
 use Rattle.open_sessions.proofs.open.Open.put.Goals as goal
@@ -22,18 +23,40 @@ pub returns-in_err-put-clause-way : goal.returns-in_err-put-clause-way
 returns-in_err-put-clause-way g c told d is =
     let half = g.H.NodeHash.half in
     let stored : Lookup = finite.get (own_nodes half (nodes_of c.args.store.now)) in
+    let way : GoesBy {X = Unit {0}} half stored c.in-Some.session.now (stop_of half stored c.in-Some.session.now.state c.in_ok-item.item.key)
+    (Err c.in_err-put.field-0.0) = rw (← c.new-filed.ensures.same) (c.in_err-put.ensures.way told) in
     stopped_by half stored (λ (x : Draft) key. stop_of half stored x.state key) c.in-Some.session.now d
     (get_in numbered_cmp c.args.self.now c.args.id) c.args.item.now.key c.in_ok-item.item.key (rw (← c.self.view_is) c.in-Some.ensures.value)
     is c.in_ok-item.ensures.same.0 _ _ c.in_err-put.field-0.0 c.from_residual-in_err-put.result c.from_residual-in_err-put.ensures.1
-    (c.in_err-put.ensures.way told)
+    way
 
 pub returns-clause-way : goal.returns-clause-way
 returns-clause-way g c told d is =
     let half = g.H.NodeHash.half in
     let stored : Lookup = finite.get (own_nodes half (nodes_of c.args.store.now)) in
+    let way : GoesBy {X = Unit {0}} half stored c.in-Some.session.now (stop_of half stored c.in-Some.session.now.state c.in_ok-item.item.key)
+    (Ok c.in_ok-put.field-0) = rw (← c.new-filed.ensures.same) (c.in_ok-put.ensures.way told) in
     gone_by half stored (λ (x : Draft) key. stop_of half stored x.state key) c.in-Some.session.now d
     (get_in numbered_cmp c.args.self.now c.args.id) c.args.item.now.key c.in_ok-item.item.key (rw (← c.self.view_is) c.in-Some.ensures.value)
-    is c.in_ok-item.ensures.same.0 _ _ c.in_ok-put.field-0 true (c.in_ok-put.ensures.way told)
+    is c.in_ok-item.ensures.same.0 _ _ c.in_ok-put.field-0 true way
+
+-- the session's draft is the next one, over what the store holds
+pub returns-clause-changed : goal.returns-clause-changed
+returns-clause-changed g c =
+    let half = g.H.NodeHash.half in
+    let old : Draft = c.in-Some.session.now in
+    let stored : Lookup = finite.get (own_nodes half (nodes_of c.args.store.now)) in
+    let sets : IsTrue g.Sh.B.Backend.tells → SetsAccount half stored old c.put.new.self c.args.item.now.key c.args.item.now.value =
+    λ told. subst (λ (k : Hash). SetsAccount half stored old c.put.new.self k c.args.item.now.value) c.in_ok-item.ensures.same.0
+    (subst (λ (v : Bytes). SetsAccount half stored old c.put.new.self c.in_ok-item.item.key v) c.in_ok-item.ensures.same.1
+    (rw (← c.new-filed.ensures.same) (c.in_ok-put.ensures.sets told))) in (
+      old,
+      c.put.new.self,
+      rw (← c.self.view_is) (sym c.in-Some.ensures.value),
+      (c.get_mut.follows.holds c.put.new.self).0
+          ∙ ap (λ (m : ForActor Draft). set_in numbered_cmp m c.args.id c.put.new.self) c.self.view_is,
+      (c.in_ok-put.ensures.rest, sets),
+    )
 
 -- a session that was lent is open
 pub returns-in_err-put-clause-shut : goal.returns-in_err-put-clause-shut

@@ -4,8 +4,16 @@ use Rattle.ledger_machine.specs.State.{State}
 use Rattle.store_core.proofs.Tables.{IsOver}
 use Rattle.store_core.proofs.Paging.{gives_all}
 use Rattle.store_core.proofs.Changing.{del_by}
+use Rattle.store_core.proofs.Viewing.{filed_by}
 use Rattle.store_core.proofs.machine.Machine.remove.Goals as goal
 use Rattle.store_core.proofs.machine.Machine.remove.Goals.{in-Ok, in-Err}
+
+-- all that the store holds is forms under their own hashes
+pub remove-requires-clause-filed : goal.remove-requires-clause-filed
+remove-requires-clause-filed g c κs within =
+    let is : IsOver c.self.inside.store c.args.self.now.state =
+    rw (← c.self.view_is) (record { nodes = refl; born = refl; epoch = refl }) in
+    filed_by g.H.NodeHash.half g.Sh.B.Backend.tells c.args.self.now.state c.self.inside.store is c.requires
 
 pub returns-clause-changed : goal.returns-clause-changed
 returns-clause-changed g c told =

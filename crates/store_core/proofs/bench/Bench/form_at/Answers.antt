@@ -1,0 +1,19 @@
+-- what only reads the store leaves what drafts are kept by
+use Rattle.std.proofs.Common.{sym, subst}
+use Rattle.store_core.specs.Desks.{Desk, IsFiled}
+use Rattle.store_core.proofs.Benches.{keeps_read, reads_beside}
+use Rattle.store_core.proofs.bench.Bench.form_at.Goals as goal
+
+pub form_at-requires-after_bounds : goal.form_at-requires-after_bounds
+form_at-requires-after_bounds g c κs within =
+    subst (λ (d : Desk). IsFiled g.H.NodeHash.half g.Sh.B.Backend.tells d.state) (sym c.self.view_is) c.requires
+
+pub invariant_of-self : goal.invariant_of-self
+invariant_of-self g c =
+    keeps_read g.H.NodeHash.half g.Sh.B.Backend.tells c.self.inside.machine c.form_at.new.self c.self.inside.sessions
+    c.form_at.ensures.reads c.self.invariant
+
+pub returns-clause-reads : goal.returns-clause-reads
+returns-clause-reads g c =
+    rw (← c.self.view_is)
+    (reads_beside g.H.NodeHash.half g.Sh.B.Backend.tells c.self.inside.sessions _ c.form_at.new.self c.form_at.ensures.reads)

@@ -1,0 +1,8 @@
+use Rattle.std.proofs.Common.{sym, subst}
+use Rattle.store_core.specs.Desks.{IsFiled}
+use Rattle.store_core.specs.Halls.{HallView}
+use Rattle.store_core.proofs.hall.Hall.form_at.Goals as goal
+
+pub form_at-requires-after_bounds : goal.form_at-requires-after_bounds
+form_at-requires-after_bounds g c κs within =
+    subst (λ (x : HallView). IsFiled g.H.NodeHash.half g.Sh.B.Backend.tells x.desk.state) (sym c.self.view_is) c.requires
