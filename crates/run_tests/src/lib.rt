@@ -7,6 +7,8 @@ mod actors;
 #[cfg(test)]
 mod endings;
 #[cfg(test)]
+mod reads;
+#[cfg(test)]
 mod rows;
 #[cfg(test)]
 mod scripts;
