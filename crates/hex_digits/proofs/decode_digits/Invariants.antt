@@ -1,9 +1,0 @@
-use Rattle.std.proofs.Common.{◌≡◌, ◌*◌, take, drop}
-use Rattle.hex.specs.Hex.{decode_pairs}
-use Rattle.hex.proofs.Pairs.{prepend}
-use Rattle.hex_digits.proofs.decode_digits.Given as goal
-
--- the bytes so far stand before those of what is left of the text
-abbrev pub invariant-bytes : goal.invariant-bytes
-invariant-bytes l =
-    decode_pairs 0 l.text ≡ prepend (take l.i l.bytes) (decode_pairs (2 * l.i) (drop (2 * l.i) l.text))
