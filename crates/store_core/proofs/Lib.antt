@@ -40,3 +40,4 @@ pub mod Pinning
 pub mod Serving
 pub mod Asking
 pub mod Handing
+pub mod Rising

@@ -56,7 +56,7 @@ told_same (Ok x) o b c h told same = λ some. subst (λ (y : List Hash). Contain
 told_same (Err e) o b c h told same = tt
 
 -- the key that was put is among the keys
-key_in : {X : Type 0} (m : ForHash X) (t : Hash) (seq : X) → Contains (keys_of (insert_in hash_cmp m t seq)) t
+pub key_in : {X : Type 0} (m : ForHash X) (t : Hash) (seq : X) → Contains (keys_of (insert_in hash_cmp m t seq)) t
 key_in [] t seq = in_head t []
 key_in {X} (e ∷ m) t seq = at (hash_cmp t e.0) refl (key_in m t seq)
   where

@@ -14,3 +14,4 @@ pub mod Failing
 pub mod Halls
 pub mod Jobs
 pub mod Committing
+pub mod Retaining

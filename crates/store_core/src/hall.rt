@@ -23,6 +23,7 @@ ghost use Rattle.store_core.specs.Dumping.{IsNextRecord, Follows};
 ghost use Rattle.store_core.specs.Halls.{Answers, AreViews, IsQuiet, LeavesMore, Serves, root_by, root_of};
 ghost use Rattle.store_core.specs.Jobs.{HandsFault, IfSays, IsTaken, job_for};
 ghost use Rattle.store_core.specs.Reads.{IsFollowed, IsReplied};
+ghost use Rattle.store_core.specs.Retaining.{AreRetained, IsStoreOf};
 ghost use Rattle.store_core.specs.Telling.{AreTold};
 
 use crate::bench::Bench;
@@ -30,7 +31,7 @@ use crate::jobs::{Followed, Handed, ReadJob, View};
 use crate::machine::unread;
 use crate::rotating::Part;
 use crate::views::answered;
-use half_hash::{Blob, Hash32, NodeHash};
+use half_hash::{Blob, Hash32, Memory, NodeHash};
 use ledger_header::Header;
 use ledger_machine::{Command, Line, Record, Reply, ViewReply};
 use ledger_searches::Searches;
@@ -83,6 +84,20 @@ impl<H: NodeHash, Sh: Shelf> Hall<H, Sh> {
     /// The hash that nodes are stored under.
     pub(crate) fn hash(&self) -> H {
         self.bench.machine.hash
+    }
+
+    /// The store that the commands act on.
+    pub(crate) fn store(&self) -> &RotStore<Sh>
+        ensures { IsStoreOf self.now.desk result.now }
+    {
+        self.bench.store()
+    }
+
+    /// The retained ledgers, rising, each once.
+    pub(crate) fn retained(&self, alloc: Global) -> Result<Vec<Hash32>, Memory>
+        ensures { IfOk result (λ hashes. AreRetained self.now.desk.state hashes.items) }
+    {
+        self.bench.retained(alloc)
     }
 
     /// How many ledgers are listed.

@@ -14,6 +14,7 @@ mod laws;
 mod machine;
 mod pages;
 mod records;
+mod retained;
 mod rotating;
 mod store;
 mod told;

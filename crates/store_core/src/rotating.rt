@@ -266,8 +266,11 @@ impl<H: NodeHash, Sh: Shelf> Bench<H, Sh> {
     }
 }
 
-// The ledgers of the open views.
-fn viewed(alloc: Global, views: &BTreeMap<(u8, u16), Hash32>) -> Result<Vec<Hash32>, Memory>
+/// The ledgers of the open views.
+pub(crate) fn viewed(
+    alloc: Global,
+    views: &BTreeMap<(u8, u16), Hash32>,
+) -> Result<Vec<Hash32>, Memory>
     ensures { IfOk result (λ hashes. hashes.items ≡ values_of views.now.entries) }
 {
     let hashes = views.values().copied().collect(alloc)?;

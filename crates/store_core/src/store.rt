@@ -22,6 +22,7 @@ ghost use Rattle.store_core.specs.Halls.{root_by};
 ghost use Rattle.store_core.specs.Jobs.{job_in, TakesIn, HandsFault};
 ghost use Rattle.store_core.specs.Journal.{Advances, AdvancesFor, Slices, ChecksFew, CopiesFew, IsJournal, IsNew, IsNext};
 ghost use Rattle.store_core.specs.Journal.{AllBefore, AllFrom};
+ghost use Rattle.store_core.specs.Retaining.{AreRetained};
 ghost use Rattle.store_core.specs.Totals.{totals_of, is_complete as completes, is_closed as closes};
 
 use crate::failed::Failed;
@@ -29,7 +30,7 @@ use crate::hall::Hall;
 use crate::jobs::{Followed, Handed, ReadJob};
 use crate::records::put_records;
 use crate::rotating::Part;
-use half_hash::{Blob, Hash32, NodeHash, known_half};
+use half_hash::{Blob, Hash32, Memory, NodeHash, known_half};
 use ledger_machine::{
     CheckReply, CloseReply, Entry, Line, Record, Reply, Script, SwapReply, Totals,
 };
@@ -458,6 +459,24 @@ impl<H: NodeHash, Sh: Shelf> Core<H, Sh> {
         ensures { result ≡ self.now.missed }
     {
         self.missed
+    }
+
+    /// The store. Its one map is what the state has as stored.
+    pub fn store(&self) -> &RotStore<Sh>
+        ensures nodes { nodes_of result.now ≡ self.now.state.nodes }
+        ensures faults { result.now.faults ≡ self.now.faults }
+        ensures gets { result.now.gets ≡ self.now.gets }
+        ensures epoch { result.now.epoch ≡ self.now.state.epoch }
+        ensures backends { (result.now.writable ≡ self.now.written) × (result.now.archive ≡ self.now.archived) }
+    {
+        self.hall.store()
+    }
+
+    /// The retained ledgers, which are listed, or pinned by a view or a session: their hashes rising, each once.
+    pub fn retained(&self, alloc: Global) -> Result<Vec<Hash32>, Memory>
+        ensures { IfOk result (λ hashes. AreRetained self.now.state hashes.items) }
+    {
+        self.hall.retained(alloc)
     }
 
     /// The numbers of the summary.
