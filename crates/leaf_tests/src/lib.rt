@@ -11,6 +11,8 @@ mod maps;
 #[cfg(test)]
 mod records;
 #[cfg(test)]
+mod searches;
+#[cfg(test)]
 mod walks;
 #[cfg(test)]
 mod wires;
