@@ -3,6 +3,7 @@ ghost use Rattle.std.specs.Prelude.{◌≡◌, None, IsTrue, IfOk};
 ghost use Rattle.std.specs.Option.{option_map};
 ghost use Rattle.rotating_store.specs.Stores.{nodes_of};
 ghost use Rattle.log_shelf.specs.Shelves.{WasStopped};
+ghost use Rattle.log_shelf.specs.Stops.{held_of};
 ghost use Rattle.log_shelf.specs.Images.{files_in, images_of as images_in, AreOnShelf};
 ghost use Rattle.log_recovery.specs.Parts.{backends_of, LosesNoForm};
 
@@ -11,7 +12,8 @@ use log_shelf::{LogShelf, MemRoom, Room, a_stop_loses_no_pair, images_of};
 use rotating_store::{Parts, RotStore};
 use std::alloc::Global;
 
-/// The parts of a store. It tells a proof that over any files that a stop left of them each stored form is recovered.
+/// The parts of a store, which hold what it does. It tells a proof that over any files that a stop left of them each stored form is
+/// recovered.
 pub fn a_stop_loses_no_form<H: NodeHash, R: Room + Send>(
     store: &RotStore<LogShelf<R>>,
 ) -> Parts<'_, LogShelf<R>>
@@ -21,6 +23,7 @@ where
         AreOnShelf result.shelf.now bs }
     ensures kept { let bs = backends_of result.archive.now result.writable.now (option_map (λ b. b.now) result.ready) in
         LosesNoForm H.half result.shelf.now bs (nodes_of store.now) }
+    ensures maps { (held_of result.writable.now ≡ store.now.writable) × (held_of result.archive.now ≡ store.now.archive) }
 {
     known_half::<H>();
     let parts = store.parts();

@@ -16,4 +16,5 @@ returns g c =
           c.parts-parts.result.writable.now c.parts-parts.result.ready (λ b. b.now) _ c.a_stop_loses_no_pair.ensures parts.numbers
           (parts.keeps refl)
           (ap (λ (m : Nodes). merged m store.archive) (sym (parts.maps refl).0) ∙ ap (merged _) (sym (parts.maps refl).1));
+      maps = parts.maps refl;
     }
