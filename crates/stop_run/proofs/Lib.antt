@@ -1,0 +1,4 @@
+pub mod Holding
+pub mod Looks
+pub mod Reopening
+pub mod Wholeness

@@ -1,0 +1,4 @@
+pub mod Looking
+pub mod Leaving
+pub mod Opening
+pub mod Ending
