@@ -1,24 +1,16 @@
 //! The forms of the nodes that a map has made.
 ghost use Rattle.std.specs.Prelude.{◌≡◌, ◌<◌, ℕ, length, IfErr, IfOk, Some};
 ghost use Rattle.std.specs.List.{slice_get, slice_index_or};
-ghost use Rattle.half_hash.specs.Prefix.{prefix_of};
-ghost use Rattle.ledger_spec.specs.Forms.{leaf_form as form_of_leaf, leaf_prefix};
 ghost use Rattle.cow_map.specs.declared.link.Link.TheVariants.{Empty as empty_link, Own as own_link};
 ghost use Rattle.cow_map.specs.Bodies.{inner as inner_body, IsBelow};
 ghost use Rattle.cow_map.specs.Sealing.{Seals, SealsForm, Adds, AreNamed, IsSealFault};
 
 use crate::arena::Arena;
 use crate::{Cow, Link, Links, MapFault};
-use half_hash::{Blob, Hash32, Memory, NodeHash, Prefix};
+use half_hash::{Blob, Hash32, NodeHash};
 use ledger_spec::Kind;
-use shamap_node::Item;
+use shamap_node::{InnerForm, leaf_form};
 use std::alloc::Global;
-
-/// The length of an inner node's form.
-const INNER_FORM: usize = 516;
-
-/// The length of a leaf's form beside its data: its prefix, and its key.
-const LEAF_FORM: usize = 36;
 
 /// A form and its hash.
 #[derive(Drop)]
@@ -61,7 +53,7 @@ pub(crate) fn seal_link<H: NodeHash>(
             add::<H>(forms, form)
         }
         Cow::Inner(links) => {
-            let form = inner_form::<H>(alloc, arena, kind, at, links, forms)?;
+            let form = sealed_inner::<H>(alloc, arena, kind, at, links, forms)?;
             add::<H>(forms, form)
         }
     }
@@ -69,7 +61,7 @@ pub(crate) fn seal_link<H: NodeHash>(
 
 // The form of the inner node at a place of the list, with these links.
 #[cycle(sealing)]
-fn inner_form<H: NodeHash>(
+fn sealed_inner<H: NodeHash>(
     alloc: Global,
     arena: &Arena,
     kind: Kind,
@@ -85,29 +77,12 @@ fn inner_form<H: NodeHash>(
 {
     arena.known();
     links.known();
-    let mut bytes = Vec::with_capacity(alloc, INNER_FORM)?;
-    bytes.extend_from_slice(&Prefix::Min.bytes())?;
+    let mut made = InnerForm::begin(alloc)?;
     for b in 0..16u8 {
         let hash = seal_link::<H>(alloc, arena, kind, &links.get(b), forms)?;
-        bytes.extend_from_slice(&hash.bytes)?;
+        made.add(&hash)?;
     }
-    Ok(Blob::new(bytes))
-}
-
-// The form of a leaf.
-fn leaf_form(alloc: Global, kind: Kind, item: &Item) -> Result<Blob, Memory>
-    ensures { IfOk result (λ form. form ≡ form_of_leaf kind item.now.key item.now.value) }
-{
-    let mut bytes = Vec::with_capacity(alloc, item.data().len().saturating_add(LEAF_FORM))?;
-    bytes.extend_from_slice(&kind.prefix().bytes())?;
-    bytes.extend_from_slice(item.data())?;
-    match kind {
-        Kind::Set => Ok(Blob::new(bytes)),
-        _ => {
-            bytes.extend_from_slice(&item.key().bytes)?;
-            Ok(Blob::new(bytes))
-        }
-    }
+    Ok(made.end())
 }
 
 // Adds a form, unless its hash is zero.

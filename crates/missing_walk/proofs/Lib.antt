@@ -1,5 +1,4 @@
 pub mod Noting
-pub mod LeafForms
 pub mod Walking
 pub mod Ledgers
 pub mod Places

@@ -61,11 +61,6 @@ pub record Finds (half : Half) (nodes : Lookup) (target : Hash) (f : Found) : Ty
   pub missing : f.missing ≡ filter_map missing_of (seen half nodes target)
   pub broken : f.broken ≡ first_broken (seen half nodes target)
 
--- a leaf as one with no data; no rule of shape looks at the data
-abbrev pub without_data : Held → Held
-without_data (leaf kind key bytes) = leaf kind key []
-without_data n = n
-
 abbrev pub is_sound_leaf : Sight → Bool
 is_sound_leaf (sound (leaf kind key bytes)) = true
 is_sound_leaf _ = false

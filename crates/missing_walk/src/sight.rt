@@ -1,33 +1,30 @@
 //! What is seen at one place.
-ghost use Rattle.std.specs.Prelude.{◌≡◌, ◌+◌, ◌≤◌, ◌&&◌, [], if◌then◌else◌, length, nat_eq, nat_le, None, Some};
+ghost use Rattle.std.specs.Prelude.{◌≡◌, ◌+◌, ◌≤◌, [], if◌then◌else◌, length, None, Some};
 ghost use Rattle.std.specs.Option.{option_map};
-ghost use Rattle.std.specs.List.{starts_with};
 ghost use Rattle.std.specs.Prelude.{IsTrue, IfOk, IfErr};
 ghost use Rattle.std.specs.FinMap as map;
 ghost use Rattle.run_io.specs.Bytes.{Rose};
 ghost use Rattle.ledger_spec.specs.Own.{own_forms};
 ghost use Rattle.rotating_store.specs.Stores.{nodes_of};
 ghost use Rattle.own_forms.specs.Reading.{WasRead, IsReadable};
-ghost use Rattle.half_hash.specs.Prefix.{prefix_of};
-ghost use Rattle.ledger_spec.specs.declared.Kind.TheVariants as kinds;
 ghost use Rattle.ledger_spec.specs.Bytes.{is_nonzero};
-ghost use Rattle.ledger_spec.specs.Forms.{leaf, leaf_prefix, data_limit, keyed_leaf_of, bare_leaf_of, leaf_of};
+ghost use Rattle.ledger_spec.specs.Forms.{leaf, leaf_of};
 ghost use Rattle.ledger_spec.specs.Rules.{fault_of};
 ghost use Rattle.ledger_spec.specs.Findings.{seen_as, judged, held_of, sight_of, sound as belongs};
 ghost use Rattle.shamap_node.specs.Nodes.{held, held_leaf, hashes_above};
 ghost use Rattle.shamap_node.specs.declared.Node.TheVariants as nodes;
-ghost use Rattle.missing_walk.specs.Sees.{without_data};
+ghost use Rattle.shamap_node.specs.Heads.{without_data};
 ghost use Rattle.missing_walk.specs.Views.{ShowsAs, HasLevels, is_inner_node};
 
 use crate::view::View;
-use half_hash::{Blob, Hash32, NodeHash, Prefix};
+use half_hash::{Blob, Hash32, NodeHash};
 use ledger_header::Header;
 use ledger_spec::{Kind, ShapeFault};
 use nib_path::NodeId;
 use node_backend::{BackFault, Shelf};
 use own_forms::own_form;
 use rotating_store::RotStore;
-use shamap_node::{DATA_LIMIT, Inner, Item, Leaf, Node, inner_of, shape};
+use shamap_node::{Inner, Item, Leaf, Node, inner_of, leaf_head, shape};
 use std::alloc::Global;
 use std::sync::Arc;
 
@@ -132,34 +129,10 @@ fn judge_leaf(leaf: Leaf, kind: Kind, parent: Option<&Inner>, id: &NodeId) -> Vi
 fn leaf_in<H: NodeHash>(alloc: Global, form: &[u8]) -> Option<Leaf>
     ensures { option_map held_leaf result ≡ option_map without_data (leaf_of H.half form.now) }
 {
-    if let Some(leaf) = keyed_leaf(alloc, form, Kind::State) {
-        return Some(leaf);
+    match leaf_head::<H>(form) {
+        Some(head) => leaf_with(alloc, head.kind(), head.key()),
+        None => None,
     }
-    if let Some(leaf) = keyed_leaf(alloc, form, Kind::Tx) {
-        return Some(leaf);
-    }
-    bare_leaf::<H>(alloc, form)
-}
-
-// The same of a leaf of this kind whose key stands behind its data.
-fn keyed_leaf(alloc: Global, form: &[u8], kind: Kind) -> Option<Leaf>
-    ensures { option_map held_leaf result ≡ option_map without_data (keyed_leaf_of kind form.now) }
-{
-    if !is_keyed(form, kind) {
-        return None;
-    }
-    let (_front, key) = form.split_at(form.len() - 32);
-    leaf_with(alloc, kind, Hash32::from_slice(key))
-}
-
-// The same of a bare transaction.
-fn bare_leaf<H: NodeHash>(alloc: Global, form: &[u8]) -> Option<Leaf>
-    ensures { option_map held_leaf result ≡ option_map without_data (bare_leaf_of H.half form.now) }
-{
-    if !is_bare(form) {
-        return None;
-    }
-    leaf_with(alloc, Kind::Set, H::half(form))
 }
 
 // The leaf of this key with no data, which takes no memory, unless the key is zero.
@@ -170,19 +143,4 @@ fn leaf_with(alloc: Global, kind: Kind, key: Hash32) -> Option<Leaf>
         Ok(item) => Some(Leaf { kind, item }),
         Err(_) => None,
     }
-}
-
-// Whether the bytes begin with the prefix of such leaves, and are neither too few nor too many.
-fn is_keyed(form: &[u8], kind: Kind) -> bool
-    ensures { result
-        ≡ (starts_with nat_eq form.now (leaf_prefix kind) && nat_le 36 (length form.now) && nat_le (length form.now) (36 + data_limit)) }
-{
-    form.starts_with(&kind.prefix().bytes()) && form.len() >= 36 && form.len() <= 36 + DATA_LIMIT
-}
-
-// The same of a bare transaction.
-fn is_bare(form: &[u8]) -> bool
-    ensures { result ≡ (starts_with nat_eq form.now (leaf_prefix kinds.Set) && nat_le (length form.now) (4 + data_limit)) }
-{
-    form.starts_with(&Kind::Set.prefix().bytes()) && form.len() <= 4 + DATA_LIMIT
 }

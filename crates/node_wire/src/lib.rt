@@ -12,4 +12,4 @@ mod writing;
 pub use fault::{WireFault, wire_code};
 pub use laws::{one_wire_node, read_is_wire, written_is_read};
 pub use reading::decode_wire;
-pub use writing::encode_wire;
+pub use writing::{encode_wire, leaf_wire};

@@ -3,11 +3,12 @@
 ghost use Rattle.std.specs.Prelude.{◌≡◌, ◌++◌, ◌∷◌, [], IfOk, OnOk};
 ghost use Rattle.std.specs.List.{concat, flat_map, filter};
 ghost use Rattle.ledger_spec.specs.Bytes.{is_nonzero};
+ghost use Rattle.ledger_spec.specs.Forms.{leaf};
 ghost use Rattle.ledger_spec.specs.Wire.{wire_of, chunk_bytes, chunks_of};
-ghost use Rattle.shamap_node.specs.Nodes.{held, held_leaf};
+ghost use Rattle.shamap_node.specs.Nodes.{held};
 
 use half_hash::{Blob, Hash32, Memory};
-use shamap_node::{Inner, Kind, Leaf, Node};
+use shamap_node::{Inner, Item, Kind, Node};
 use std::alloc::Global;
 
 /// The fewest branches that aren't empty of an inner node that is written in full.
@@ -19,29 +20,31 @@ pub fn encode_wire(alloc: Global, node: &Node) -> Result<Blob, Memory>
     ensures { IfOk result (λ blob. blob ≡ wire_of (held node.now)) }
 {
     match node {
-        Node::Leaf(leaf) => Ok(leaf_wire(alloc, leaf)?),
+        Node::Leaf(leaf) => Ok(leaf_wire(alloc, leaf.kind, &leaf.item)?),
         Node::Inner(inner) => Ok(inner_wire(alloc, inner)?),
     }
 }
 
-// The wire form of a leaf.
-fn leaf_wire(alloc: Global, leaf: &Leaf) -> Result<Blob, Memory>
-    ensures { IfOk result (λ blob. blob ≡ wire_of (held_leaf leaf.now)) }
+/// The wire form of a leaf: its data, its key unless it is a bare transaction, and the type byte.
+pub fn leaf_wire(alloc: Global, kind: Kind, item: &Item) -> Result<Blob, Memory>
+    ensures { IfOk result (λ blob. blob ≡ wire_of (leaf kind item.now.key item.now.value)) }
 {
-    let data = leaf.item.data();
-    let key = &leaf.item.key().bytes;
-    match leaf.kind {
+    let data = item.data();
+    let key = &item.key().bytes;
+    match kind {
         Kind::Set => Ok(joined(alloc, data, &[], 0)?),
         Kind::State => Ok(joined(alloc, data, key, 1)?),
         Kind::Tx => Ok(joined(alloc, data, key, 4)?),
     }
 }
 
-// Data, a key or none, and the type byte.
+// Data, a key or none, and the type byte, in room for all of them.
 fn joined(alloc: Global, front: &[u8], key: &[u8], type_byte: u8) -> Result<Blob, Memory>
     ensures { IfOk result (λ blob. blob ≡ front.now ++ key.now ++ type_byte ∷ []) }
 {
-    let mut bytes = Vec::from_slice(alloc, front)?;
+    let room = front.len().saturating_add(key.len()).saturating_add(1);
+    let mut bytes = Vec::with_capacity(alloc, room)?;
+    bytes.extend_from_slice(front)?;
     bytes.extend_from_slice(key)?;
     bytes.push(type_byte)?;
     Ok(Blob::new(bytes))

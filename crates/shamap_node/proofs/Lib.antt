@@ -3,3 +3,5 @@ pub mod Crossing
 pub mod Inners
 pub mod Reading
 pub mod Seen
+pub mod Heads
+pub mod Appending

@@ -2,3 +2,4 @@ pub mod Items
 pub mod Nodes
 pub mod Causes
 pub mod Laws
+pub mod Heads

@@ -7,7 +7,7 @@ ghost use Rattle.std.specs.Int.{w32, from_be_bytes};
 ghost use Rattle.half_hash.specs.Prefix.{prefix_of};
 ghost use Rattle.half_hash.specs.Zero.{zero_hash, is_nonzero};
 ghost use Rattle.ledger_spec.specs.Bytes.{hashes_of};
-ghost use Rattle.ledger_spec.specs.Forms.{Held, IsItem, IsInner, Form, form_of, leaf_form, leaf_prefix, inner_of as inner_hashes_of};
+ghost use Rattle.ledger_spec.specs.Forms.{Held, IsItem, IsInner, Form, form_of, inner_of as inner_hashes_of};
 ghost use Rattle.ledger_spec.specs.Forms as spec;
 ghost use Rattle.shamap_node.specs.Nodes.{held};
 ghost use Rattle.shamap_node.specs.Causes.{leaf_cause, keyed_cause, inner_cause, form_cause};
@@ -15,6 +15,7 @@ ghost use Rattle.shamap_node.specs.Laws.{is_node, is_no_node, OneForm, HeldByFor
 ghost use Rattle.ledger_spec.specs.Findings.{held_of};
 ghost use Rattle.shamap_node.specs.declared.forms.FormFault.TheVariants as faults;
 
+use crate::making::{inner_form, key_part, leaf_form};
 use crate::{DATA_LIMIT, Inner, Item, Kind, Leaf, Node};
 use half_hash::{Blob, Hash32, Memory, NodeHash, Prefix};
 use std::alloc::Global;
@@ -64,17 +65,6 @@ fn begins(bytes: &[u8], prefix: Prefix) -> bool
     bytes.starts_with(&prefix.bytes())
 }
 
-// The key as it stands behind the data: none at a bare transaction.
-fn key_part(leaf: &Leaf) -> &[u8]
-    ensures { leaf_form leaf.now.kind leaf.now.item.key leaf.now.item.value
-        ≡ leaf_prefix leaf.now.kind ++ leaf.now.item.value ++ result.now }
-{
-    match leaf.kind {
-        Kind::Set => &[],
-        _ => &leaf.item.key().bytes,
-    }
-}
-
 // The sixteen hashes, joined.
 fn body_of(inner: &Inner) -> [u8; 512]
     ensures { result ≡ concat inner.now.hashes }
@@ -87,16 +77,6 @@ fn body_of(inner: &Inner) -> [u8; 512]
     body
 }
 
-// The prefix and two parts, joined.
-fn joined(alloc: Global, prefix: Prefix, front: &[u8], back: &[u8]) -> Result<Blob, Memory>
-    ensures { IfOk result (λ blob. blob ≡ prefix_of prefix ++ front.now ++ back.now) }
-{
-    let mut bytes = Vec::from_slice(alloc, &prefix.bytes())?;
-    bytes.extend_from_slice(front)?;
-    bytes.extend_from_slice(back)?;
-    Ok(Blob::new(bytes))
-}
-
 /// The prefix form of a node: `MIN\0` and the sixteen hashes of an inner node, 516 bytes; `MLN\0`,
 /// data and key of an account state; `SND\0`, data and key of a transaction with metadata; `TXN\0`
 /// and data of a bare transaction.
@@ -104,8 +84,8 @@ pub fn encode_form(alloc: Global, node: &Node) -> Result<Blob, Memory>
     ensures { IfOk result (λ blob. blob ≡ form_of (held node.now)) }
 {
     match node {
-        Node::Inner(inner) => joined(alloc, Prefix::Min, &body_of(inner), &[]),
-        Node::Leaf(leaf) => joined(alloc, leaf.kind.prefix(), leaf.item.data(), key_part(leaf)),
+        Node::Inner(inner) => Ok(inner_form(alloc, inner.hashes())?),
+        Node::Leaf(leaf) => Ok(leaf_form(alloc, leaf.kind, &leaf.item)?),
     }
 }
 
@@ -118,7 +98,7 @@ pub fn hash_of<H: NodeHash>(node: &Node) -> Hash32
         Node::Leaf(leaf) => H::half_parts(
             &leaf.kind.prefix().bytes(),
             leaf.item.data(),
-            key_part(leaf),
+            key_part(leaf.kind, &leaf.item),
         ),
     }
 }

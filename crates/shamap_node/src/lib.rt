@@ -14,6 +14,8 @@
 #![tactic(auto)]
 
 mod forms;
+mod leaves;
+mod making;
 mod parts;
 mod shapes;
 
@@ -21,8 +23,10 @@ pub use forms::{
     FormFault, branch_of_form, decode_form, encode_form, hash_of, inner_branch, inner_of,
     is_inner_form, one_form,
 };
+pub use leaves::{is_leaf_form, leaf_head};
 pub use ledger_spec::{Kind, Place, ShapeFault};
-pub use parts::{DATA_LIMIT, Inner, Item, ItemFault};
+pub use making::{InnerForm, inner_form, leaf_form};
+pub use parts::{DATA_LIMIT, Inner, Item, ItemFault, LeafHead};
 pub use shapes::shape;
 
 /// A leaf: an item of one kind of map. The key of a bare transaction, of kind `Set`, is its hash.

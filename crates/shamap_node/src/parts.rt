@@ -1,10 +1,12 @@
-//! An item and an inner node, with the fact that each of them keeps.
-ghost use Rattle.std.specs.Prelude.{◌≡◌, ◌==◌, ◌<◌, ◌≤◌, length, count_by, IsTrue, MatchOption, MatchResult};
+//! An item, a leaf's head and an inner node, with the fact that each of them keeps.
+ghost use Rattle.std.specs.Prelude.{◌≡◌, ◌==◌, ◌<◌, ◌≤◌, [], if◌then◌else◌, length, count_by, IsTrue, MatchOption, MatchResult, None, Some};
+ghost use Rattle.std.specs.Option.{option_map};
 ghost use Rattle.std.specs.List.{list_all, list_any, slice_index_or};
 ghost use Rattle.half_hash.specs.Zero.{zero_hash, is_zero as all_zero, is_nonzero};
-ghost use Rattle.ledger_spec.specs.Forms.{IsItem, IsInner};
+ghost use Rattle.ledger_spec.specs.Forms.{leaf, IsItem, IsInner};
 
 use half_hash::{Blob, Hash32};
+use ledger_spec::Kind;
 use thiserror::Error;
 
 /// The most bytes of an item's data.
@@ -70,6 +72,43 @@ impl Item {
     }
 }
 
+/// The kind of a leaf, and its key, which isn't zero.
+#[derive(Clone, Copy, Debug)]
+pub struct LeafHead {
+    kind: Kind,
+    key: Hash32,
+    ghost valid: { IsTrue (is_nonzero key) },
+}
+
+impl LeafHead {
+    ghost use Rattle.shamap_node.specs.Heads.{held_head};
+
+    // The head of a leaf of this kind with this key, or none where the key is zero.
+    pub(crate) fn new(kind: Kind, key: Hash32) -> Option<LeafHead>
+        ensures { option_map held_head result ≡ (if is_nonzero key then Some (leaf kind key []) else None) }
+    {
+        if key.is_zero() {
+            return None;
+        }
+        Some(LeafHead { kind, key })
+    }
+
+    /// The kind.
+    pub fn kind(&self) -> Kind
+        ensures { result ≡ self.now.kind }
+    {
+        self.kind
+    }
+
+    /// The key.
+    pub fn key(&self) -> Hash32
+        ensures key { result ≡ self.now.key }
+        ensures nonzero { IsTrue (is_nonzero result) }
+    {
+        self.key
+    }
+}
+
 /// Sixteen branches, at least one of them not empty.
 #[derive(Clone, Copy, Debug)]
 pub struct Inner {
@@ -88,6 +127,13 @@ impl Inner {
         }
         known_sizes(&hashes);
         Some(Inner { hashes })
+    }
+
+    /// The hashes at the sixteen branches.
+    pub fn hashes(&self) -> &[Hash32; 16]
+        ensures { result.now ≡ self.now.hashes }
+    {
+        &self.hashes
     }
 
     /// The hash at a branch; zero where the branch is empty.

@@ -27,15 +27,6 @@ pub sixteen : (nodes : List Body) (at : ℕ) (links : List Link) → AreBodies n
     → length links ≡ 16
 sixteen nodes at links bodies is = (bodies at (inner links) is).0
 
--- the next hash stands in the form
-pub form_more : (hashes : List Hash) (i : ℕ) (d before after : Bytes) → i < length hashes
-    → before ≡ held.inner_prefix ++ concat (take i hashes) → after ≡ before ++ get_or hashes i d
-    → after ≡ held.inner_prefix ++ concat (take (i + 1) hashes)
-form_more hashes i d before after low so_far next =
-    next ∙ ap (λ (x : Bytes). x ++ get_or hashes i d) so_far
-    ∙ append_assoc held.inner_prefix (concat (take i hashes)) (get_or hashes i d)
-    ∙ ap (λ (x : Bytes). held.inner_prefix ++ x) (sym (concat_more hashes i d low))
-
 -- what is written of hashes, by another name of them
 pub wire_as : (w : Bytes) (hashes others : List Hash) → w ≡ wire_of (held.inner hashes) → hashes ≡ others
     → w ≡ wire_of (held.inner others)

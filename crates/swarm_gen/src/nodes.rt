@@ -3,7 +3,7 @@ ghost use Rattle.std.specs.Prelude.{◌≡◌, ◌<◌, ℕ, List, map, length, 
 ghost use Rattle.std.specs.List.{slice_get, slice_index_or};
 ghost use Rattle.ledger_spec.specs.declared.Kind.{Kind as KindOf};
 ghost use Rattle.ledger_spec.specs.Bytes.{Half, same_bytes};
-ghost use Rattle.ledger_spec.specs.Forms.{form_of, leaf_form as form_of_leaf};
+ghost use Rattle.ledger_spec.specs.Forms.{form_of};
 ghost use Rattle.ledger_spec.specs.Forms as held;
 ghost use Rattle.ledger_spec.specs.Wire.{wire_of};
 ghost use Rattle.cow_map.specs.Bodies.{Body};
@@ -12,27 +12,12 @@ ghost use Rattle.swarm_gen.specs.Tracking.{place_of, link_hash, node_at, kid_at,
 
 use cow_map::{Cow, CowMap, Link, Links};
 use half_hash::{Blob, Hash32, Memory, Prefix};
-use node_wire::encode_wire;
-use shamap_node::{Inner, Item, Kind, Node};
+use node_wire::{encode_wire, leaf_wire};
+use shamap_node::{Inner, Node, inner_form, leaf_form};
 use std::alloc::Global;
-
-/// The type byte of an account state's wire form.
-const STATE_TYPE: u8 = 1;
 
 /// The type byte of a compressed inner node's wire form.
 const CHUNKS_TYPE: u8 = 3;
-
-/// The type byte of a transaction's wire form.
-const TX_TYPE: u8 = 4;
-
-/// The type byte of a bare transaction's wire form.
-const SET_TYPE: u8 = 0;
-
-/// The length of an inner node's form.
-const INNER_FORM: usize = 516;
-
-/// The most bytes beside the data of a leaf's form or wire form: a key, and a prefix or a type byte.
-const BESIDE_DATA: usize = 36;
 
 /// The place in the list of nodes to which a link leads.
 pub(crate) fn place(link: &Link) -> Option<usize>
@@ -99,34 +84,6 @@ fn hashes_below(
     Ok(below)
 }
 
-/// The form of an inner node.
-fn inner_form(alloc: Global, below: &[Hash32]) -> Result<Blob, Memory>
-    ensures { IfOk result (λ form. form ≡ form_of (held.inner below.now)) }
-{
-    let mut bytes = Vec::with_capacity(alloc, INNER_FORM)?;
-    bytes.extend_from_slice(&Prefix::Min.bytes())?;
-    for hash in below {
-        bytes.extend_from_slice(&hash.bytes)?;
-    }
-    Ok(Blob::new(bytes))
-}
-
-/// The form of a leaf.
-fn leaf_form(alloc: Global, kind: Kind, item: &Item) -> Result<Blob, Memory>
-    ensures { IfOk result (λ form. form ≡ form_of_leaf kind item.now.key item.now.value) }
-{
-    let mut bytes = Vec::with_capacity(alloc, item.data().len().saturating_add(BESIDE_DATA))?;
-    bytes.extend_from_slice(&kind.prefix().bytes())?;
-    bytes.extend_from_slice(item.data())?;
-    match kind {
-        Kind::Set => Ok(Blob::new(bytes)),
-        _ => {
-            bytes.extend_from_slice(&item.key().bytes)?;
-            Ok(Blob::new(bytes))
-        }
-    }
-}
-
 /// The form of the node at a place; where there is none, that of a header without bytes.
 pub(crate) fn form(
     alloc: Global,
@@ -163,26 +120,6 @@ fn inner_wire(alloc: Global, below: &[Hash32]) -> Result<Blob, Memory>
         // where all hashes are zero there is no chunk
         None => Ok(Blob::from_slice(alloc, &[CHUNKS_TYPE])?),
     }
-}
-
-/// The wire form of a leaf.
-fn leaf_wire(alloc: Global, kind: Kind, item: &Item) -> Result<Blob, Memory>
-    ensures { IfOk result (λ blob. blob ≡ wire_of (held.leaf kind item.now.key item.now.value)) }
-{
-    let mut bytes = Vec::with_capacity(alloc, item.data().len().saturating_add(BESIDE_DATA))?;
-    bytes.extend_from_slice(item.data())?;
-    match kind {
-        Kind::Set => bytes.push(SET_TYPE)?,
-        Kind::State => {
-            bytes.extend_from_slice(&item.key().bytes)?;
-            bytes.push(STATE_TYPE)?;
-        }
-        Kind::Tx => {
-            bytes.extend_from_slice(&item.key().bytes)?;
-            bytes.push(TX_TYPE)?;
-        }
-    }
-    Ok(Blob::new(bytes))
 }
 
 /// The wire form that is written of the node at a place; where there is none, no bytes.

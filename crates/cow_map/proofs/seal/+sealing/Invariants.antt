@@ -14,12 +14,12 @@ place (Own i) = 2 * i + 2
 abbrev pub decreases-seal_link : goal.decreases-seal_link
 decreases-seal_link g l = place l.link.now
 
-abbrev pub decreases-inner_form : goal.decreases-inner_form
-decreases-inner_form g l = 2 * l.at + 1
+abbrev pub decreases-sealed_inner : goal.decreases-sealed_inner
+decreases-sealed_inner g l = 2 * l.at + 1
 
-abbrev pub invariant-inner_form-loop-b : goal.invariant-inner_form-loop-b
-invariant-inner_form-loop-b g l =
+abbrev pub invariant-sealed_inner-loop-b : goal.invariant-sealed_inner-loop-b
+invariant-sealed_inner-loop-b g l =
     ((stored : Lookup) (left : ℕ) (path : List ℕ) (kids : ℕ → List Entry)
     → Stand g.H.NodeHash.half stored l.kind l.arena left path l.links kids
-    → SealsFront g.H.NodeHash.half l.kind l.arena l.links l.initial.forms.items l.forms.items l.bytes.items l.b stored left)
+    → SealsFront g.H.NodeHash.half l.kind l.arena l.links l.initial.forms.items l.forms.items l.made.bytes.items l.b stored left)
     × (AreNamed g.H.NodeHash.half l.initial.forms.items → AreNamed g.H.NodeHash.half l.forms.items)

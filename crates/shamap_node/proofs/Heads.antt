@@ -1,5 +1,5 @@
 -- A leaf's form, by the tests that the code makes of it.
-use Rattle.std.proofs.Common.{◌≡◌, ◌+◌, ◌-◌, ◌&&◌, Bool, true, false, if◌then◌else◌, nat_eq, nat_le, [], length, take, drop, Option, None}
+use Rattle.std.proofs.Common.{◌≡◌, ◌+◌, ◌-◌, ◌&&◌, Bool, true, false, is_some, if◌then◌else◌, nat_eq, nat_le, [], length, take, drop, Option, None}
 use Rattle.std.proofs.Common.{Some, refl, ap, ◌∙◌}
 use Rattle.std.specs.Option.{option_map}
 use Rattle.std.specs.List.{starts_with}
@@ -7,7 +7,8 @@ use Rattle.ledger_spec.specs.declared.Kind.{Kind}
 use Rattle.ledger_spec.specs.declared.Kind.TheVariants.{Set}
 use Rattle.ledger_spec.specs.Bytes.{Bytes, Half, is_nonzero}
 use Rattle.ledger_spec.specs.Forms.{Held, leaf, leaf_prefix, data_limit, keyed_leaf_of, bare_leaf_of}
-use Rattle.missing_walk.specs.Sees.{without_data}
+use Rattle.shamap_node.specs.declared.parts.LeafHead.{LeafHead}
+use Rattle.shamap_node.specs.Heads.{held_head, without_data}
 
 abbrev is_keyed : Kind → Bytes → Bool
 is_keyed kind b = starts_with nat_eq b (leaf_prefix kind) && nat_le 36 (length b) && nat_le (length b) (36 + data_limit)
@@ -48,3 +49,11 @@ bare half b key out fits same e =
 pub not_bare : (half : Half) (b : Bytes) → false ≡ is_bare b → None ≡ option_map without_data (bare_leaf_of half b)
 unfolding bare_leaf_of
 not_bare half b fits = failed (is_bare b) (is_nonzero (half b)) (leaf Set (half b) (drop 4 b)) fits
+
+-- there is a head where there is a leaf
+pub head_where_leaf : (head : Option LeafHead) (o : Option Held) → option_map held_head head ≡ option_map without_data o
+    → is_some head ≡ is_some o
+head_where_leaf None None e = refl
+head_where_leaf None (Some n) e = cc
+head_where_leaf (Some head) None e = cc
+head_where_leaf (Some head) (Some n) e = refl

@@ -1,8 +1,0 @@
-use Rattle.missing_walk.proofs.LeafForms.{bare, not_bare}
-use Rattle.missing_walk.proofs.sight.bare_leaf.Goals as goal
-
-pub returns-then-not-is_bare : goal.returns-then-not-is_bare
-returns-then-not-is_bare g c = not_bare g.H.NodeHash.half c.args.form.now c.if-not-is_bare.ensures
-
-pub returns : goal.returns
-returns g c = bare g.H.NodeHash.half c.args.form.now c.half.result _ c.if-not-is_bare.ensures c.half.ensures c.leaf_with.ensures
