@@ -1,5 +1,5 @@
 -- What a search keeps while it runs, and how a finding changes it.
-use Rattle.std.specs.Prelude.{◌≡◌, ℕ, ◌==◌, ◌||◌, Bool, true, false, is_some, nat_le, if◌then◌else◌, List, [], ◌∷◌, ◌++◌, length}
+use Rattle.std.specs.Prelude.{◌≡◌, ℕ, ◌||◌, Bool, true, false, is_some, nat_le, if◌then◌else◌, List, [], ◌∷◌, ◌++◌, length}
 use Rattle.std.specs.Prelude.{Option}
 use Rattle.std.specs.Prelude.{None, Some, IfSome}
 use Rattle.std.specs.Option.{option_map}
@@ -12,7 +12,7 @@ use Rattle.ledger_spec.specs.Header.{header_bytes, state_root_of, tx_root_of}
 use Rattle.ledger_spec.specs.Spots.{header_in}
 use Rattle.ledger_header.specs.declared.Header.{Header}
 use Rattle.ledger_header.specs.Fields.{fields, Reads}
-use Rattle.ledger_spec.specs.Forms.{Held, inner, leaf}
+use Rattle.ledger_spec.specs.Forms.{leaf}
 use Rattle.ledger_spec.specs.Findings.{Sight, missing, broken, sound, walk_map, Finding, lacks, breaks}
 use Rattle.ledger_spec.specs.Findings.{missing_of, first_broken, seen}
 use Rattle.tree_laws.specs.Walks.{finding_of}

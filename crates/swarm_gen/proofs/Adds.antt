@@ -1,9 +1,10 @@
 -- Lines that are added one after another.
-use Rattle.std.specs.Prelude.{◌≡◌, ℕ, zero, suc, ◌+◌, ◌<◌, Some, if◌then◌else◌, List, [], ◌∷◌, ◌++◌, length, map, take, refl}
+use Rattle.std.specs.Prelude.{◌≡◌, ℕ, suc, ◌+◌, ◌<◌, Some, if◌then◌else◌, List, [], ◌∷◌, ◌++◌, length, map, take, refl}
 use Rattle.std.proofs.Common.{sym, ap, ◌∙◌, append_assoc, append-nil, arith, length-append, subst, get_or}
 use Rattle.std.specs.List.{range_with_len}
 use Rattle.std.proofs.lemmas.List.{map-append, take_more}
 use Rattle.ledger_spec.specs.Bytes.{Hash}
+use Rattle.map_changes.proofs.Walking.{range_more}
 use Rattle.swarm_gen.specs.declared.plan.Plan.{Plan}
 use Rattle.swarm_gen.specs.declared.lines.Sent.{Sent}
 use Rattle.ledger_machine.specs.declared.commands.Command.{Command}
@@ -47,14 +48,6 @@ adds_both a b c s t e f =
 -- the same, where the lines in all have another name
 pub adds_as : (a b c : List Line) (s t all : List Said) → s ++ t ≡ all → Adds a b s → Adds b c t → Adds a c all
 adds_as a b c s t all is e f = subst (λ (x : List Said). Adds a c x) is (adds_both a b c s t e f)
-
--- one number more
-pub range_more : (a n : ℕ) → range_with_len a n ++ (a + n) ∷ [] ≡ range_with_len a (n + 1)
-range_more a zero = let e : a + 0 ≡ a = omega arith in ap (λ (x : ℕ). x ∷ []) e
-range_more a (suc n) =
-    let e : a + suc n ≡ a + 1 + n = omega arith in
-    let f : suc (n + 1) ≡ suc n + 1 = omega arith in
-    ap (λ (x : List ℕ). a ∷ x) (ap (λ (x : ℕ). range_with_len (a + 1) n ++ x ∷ []) e ∙ range_more (a + 1) n) ∙ ap (range_with_len a) f
 
 -- one element more, by a function of the number
 pub mapped_more : {X : Type 0} (f : ℕ → X) (n : ℕ) → map f (range_with_len 0 n) ++ f n ∷ [] ≡ map f (range_with_len 0 (n + 1))

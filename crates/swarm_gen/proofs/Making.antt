@@ -13,25 +13,17 @@ use Rattle.ledger_spec.specs.Tree.{root_of}
 use Rattle.ledger_spec.specs.Maps.{hash_cmp, insert_in}
 use Rattle.swarm_gen.specs.declared.plan.Plan.{Plan}
 use Rattle.swarm_gen.specs.declared.lines.Sent.{Sent}
-use Rattle.swarm_gen.specs.declared.tracked.PlacedNode.{PlacedNode}
-use Rattle.swarm_gen.specs.declared.tracked.Root.{Root}
+use Rattle.map_changes.specs.declared.tracked.PlacedNode.{PlacedNode}
+use Rattle.map_changes.specs.declared.tracked.Root.{Root}
 use Rattle.std.proofs.lemmas.Bool.{and_parts}
-use Rattle.swarm_gen.specs.Placed.{Placed, nodes_of, is_same, changed, below_root}
+use Rattle.map_changes.specs.Placed.{Placed, nodes_of, is_same, changed, root_blob}
 use Rattle.swarm_gen.specs.Ledgers.{state_of, txs_of, state_nodes, tx_nodes, are_nonzero, has_entries, is_made, hash_of_ledger}
 use Rattle.swarm_gen.specs.Ledgers.{header_of_ledger, header_over, map_from}
-use Rattle.swarm_gen.specs.Swarm.{nodes_before, ledger_of, sent_of, root_blob}
+use Rattle.swarm_gen.specs.Swarm.{nodes_before, ledger_of, sent_of, below_root}
 use Rattle.swarm_gen.specs.Adding.{ledger_from}
-use Rattle.swarm_gen.specs.Given.{given, IsRoot, sent, below}
-use Rattle.std.proofs.lemmas.Slice.Eq.{bytes_eq-Decides}
-
--- where nothing was shown before, every node has changed
-pub changed_all : (nodes : List Placed) → changed [] nodes ≡ nodes
-changed_all [] = refl
-changed_all (p ∷ nodes) = ap (λ (x : List Placed). p ∷ x) (changed_all nodes)
-
--- bytes that are found the same
-pub same_is : (a b : Bytes) → same_bytes a b ≡ true → a ≡ b
-same_is a b e = (bytes_eq-Decides a b).0 e
+use Rattle.map_changes.specs.Given.{given, IsRoot}
+use Rattle.swarm_gen.specs.Sending.{sent, below}
+use Rattle.map_changes.proofs.Walking.{same_is, changed_all}
 
 -- two nodes that are the same have one hash
 same_hash : (half : Half) (p q : Placed) → is_same p q ≡ true → hash_of half p.node ≡ hash_of half q.node

@@ -10,7 +10,7 @@ use Rattle.ledger_machine.specs.declared.commands.Command.{Command}
 use Rattle.ledger_machine.specs.declared.commands.Command.TheVariants as command
 use Rattle.ledger_machine.specs.declared.commands.Line.{Line}
 use Rattle.swarm_gen.specs.declared.plan.Plan.{Plan}
-use Rattle.swarm_gen.specs.Placed.{nodes_of_part, nodes_of, changed}
+use Rattle.map_changes.specs.Placed.{nodes_of_part, nodes_of, changed}
 use Rattle.swarm_gen.specs.Ledgers.{ledgers_of, hash_of_ledger, header_over, key, eight}
 use Rattle.swarm_gen.specs.Swarm.{swarm}
 

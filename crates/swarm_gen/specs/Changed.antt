@@ -3,11 +3,11 @@ use Rattle.std.specs.Prelude.{◌≡◌, ◌≢◌, ℕ, List, [], map}
 use Rattle.ledger_spec.specs.declared.Kind.TheVariants.{State, Tx}
 use Rattle.ledger_spec.specs.Bytes.{Half}
 use Rattle.swarm_gen.specs.declared.plan.Plan.{Plan}
-use Rattle.swarm_gen.specs.declared.tracked.PlacedNode.{PlacedNode}
-use Rattle.swarm_gen.specs.declared.tracked.Root.{Root}
-use Rattle.swarm_gen.specs.Given.{given, IsRoot}
+use Rattle.map_changes.specs.declared.tracked.PlacedNode.{PlacedNode}
+use Rattle.map_changes.specs.declared.tracked.Root.{Root}
+use Rattle.map_changes.specs.Given.{given, IsRoot}
 use Rattle.swarm_gen.specs.Ledgers.{state_of, txs_of, state_nodes, tx_nodes}
-use Rattle.swarm_gen.specs.Placed.{changed}
+use Rattle.map_changes.specs.Placed.{changed}
 use Rattle.swarm_gen.specs.Swarm.{nodes_before}
 
 -- neither of its maps is empty, these are their roots, and these the nodes that the ledger before hasn't

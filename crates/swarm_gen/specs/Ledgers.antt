@@ -10,7 +10,7 @@ use Rattle.ledger_spec.specs.Forms.{header_prefix, hash_of}
 use Rattle.ledger_spec.specs.Header.{header_bytes}
 use Rattle.ledger_spec.specs.Tree.{Entry, root_of}
 use Rattle.swarm_gen.specs.declared.plan.Plan.{Plan}
-use Rattle.swarm_gen.specs.Placed.{Placed, nodes_of}
+use Rattle.map_changes.specs.Placed.{Placed, nodes_of}
 
 -- a number as eight bytes, high byte first
 unfoldable pub eight : ℕ → Bytes

@@ -1,14 +1,9 @@
 pub mod Plans
-pub mod Placed
 pub mod Ledgers
 pub mod Script
 pub mod Adding
 pub mod Swarm
-pub mod Given
+pub mod Sending
 pub mod Standing
-pub mod Walks
-pub mod Trees
-pub mod Listed
-pub mod Tracking
 pub mod Serving
 pub mod Changed

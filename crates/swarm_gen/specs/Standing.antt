@@ -6,7 +6,7 @@ use Rattle.ledger_spec.specs.declared.Kind.TheVariants.{State}
 use Rattle.ledger_spec.specs.Bytes.{Hash, Half, Items}
 use Rattle.ledger_machine.specs.declared.commands.Line.{Line}
 use Rattle.swarm_gen.specs.declared.plan.Plan.{Plan}
-use Rattle.swarm_gen.specs.Placed.{Placed}
+use Rattle.map_changes.specs.Placed.{Placed}
 use Rattle.swarm_gen.specs.Ledgers.{state_of, state_nodes, are_nonzero, is_made, front}
 use Rattle.swarm_gen.specs.Script.{numbered, ledger_lines, lines_of, next_waits}
 use Rattle.swarm_gen.specs.Adding.{Adds}

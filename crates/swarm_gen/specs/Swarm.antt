@@ -1,25 +1,24 @@
 -- The script of a swarm: what a plan's ledgers are, as ledgers of Script.
-use Rattle.std.specs.Prelude.{ℕ, ◌-◌, ◌==◌, if◌then◌else◌, List, [], ◌∷◌, map, min}
+use Rattle.std.specs.Prelude.{ℕ, ◌-◌, ◌==◌, not, if◌then◌else◌, List, [], map, min}
 use Rattle.std.specs.List.{filter, range_with_len}
 use Rattle.ledger_spec.specs.declared.Kind.{Kind}
 use Rattle.ledger_spec.specs.declared.Kind.TheVariants.{State, Tx}
-use Rattle.ledger_spec.specs.Bytes.{Bytes, Hash, Half, is_nonzero}
+use Rattle.ledger_spec.specs.Bytes.{Hash, Half, is_nonzero, same_bytes}
 use Rattle.ledger_spec.specs.Wire.{wire_of}
 use Rattle.ledger_machine.specs.declared.commands.Line.{Line}
 use Rattle.swarm_gen.specs.declared.plan.Plan.{Plan}
 use Rattle.swarm_gen.specs.declared.lines.Sent.{Sent}
-use Rattle.swarm_gen.specs.Placed.{Placed, changed, below_root}
+use Rattle.map_changes.specs.Placed.{Placed, changed, root_blob}
 use Rattle.swarm_gen.specs.Ledgers.{key, state_nodes, tx_nodes, hash_of_ledger, header_of_ledger, ledgers_of}
 use Rattle.swarm_gen.specs.Script.{Ledger, lines_of, numbered}
+
+-- the nodes below the root
+abbrev pub below_root : List Placed → List Placed
+below_root nodes = filter (λ n. not (same_bytes n.path [])) nodes
 
 -- nodes as they are sent: in the wire form that is written
 abbrev pub sent_of : Kind → List Placed → List Sent
 sent_of kind nodes = map (λ p. record { kind = kind; id = p.path; blob = wire_of p.node }) nodes
-
--- the wire form of the root node
-abbrev pub root_blob : List Placed → Bytes
-root_blob [] = []
-root_blob (p ∷ rest) = wire_of p.node
 
 -- the nodes of the account state of the ledger before ledger j; ledger 1 has none before it
 abbrev pub nodes_before : Half → Plan → ℕ → List Placed

@@ -1,4 +1,4 @@
-use Rattle.std.proofs.Common.{rules, ◌∙◌, ap, ◌<◌, ◌≤◌, ◌+◌, ◌*◌, ◌++◌, ◌∷◌, [], ℕ, List, Ok, Err, Some, length, sym, subst, arith}
+use Rattle.std.proofs.Common.{rules, ◌∙◌, ap, ◌<◌, ◌≤◌, ◌+◌, ◌*◌, ◌++◌, ◌∷◌, [], ℕ, Ok, Err, Some, length, sym, subst, arith}
 use Rattle.std.proofs.lemmas.Result.{err_from_is_err_and}
 use Rattle.ledger_spec.specs.Bytes.{Bytes, Hash}
 use Rattle.cow_map.specs.Sealing.{Seals, AddsAll, IsAnswer, made_at}

@@ -1,7 +1,7 @@
 use Rattle.std.proofs.Common.{◌≡◌, ◌++◌, ◌-◌, map}
 use Rattle.std.specs.Map.Iter.{deref_pair}
 use Rattle.swarm_gen.proofs.Owners.{on, data_in}
-use Rattle.swarm_gen.specs.Tracking.{leaves_in, items_in, shown_in}
+use Rattle.map_changes.specs.Tracking.{leaves_in, items_in, shown_in}
 use Rattle.swarm_gen.proofs.ledgers.advance.Given as goal
 
 abbrev pub invariant-loop-key : goal.invariant-loop-key

@@ -1,7 +1,7 @@
 use Rattle.std.proofs.Common.{◌≡◌, ◌≤◌, length}
 use Rattle.swarm_gen.specs.Ledgers.{hash_of_ledger}
 use Rattle.swarm_gen.specs.Standing.{IsShown, IsLeft}
-use Rattle.swarm_gen.specs.Tracking.{leaves_in, items_in, shown_in}
+use Rattle.map_changes.specs.Tracking.{leaves_in, items_in, shown_in}
 use Rattle.swarm_gen.proofs.ledgers.all_lines.Given as goal
 
 abbrev pub invariant-loop-j : goal.invariant-loop-j

@@ -4,7 +4,7 @@ use Rattle.std.specs.List.{list_all}
 use Rattle.ledger_spec.specs.Bytes.{Bytes, is_nonzero}
 use Rattle.ledger_spec.specs.Forms.{header_prefix}
 use Rattle.swarm_gen.specs.declared.lines.Head.{Head}
-use Rattle.swarm_gen.specs.declared.tracked.PlacedNode.{PlacedNode}
+use Rattle.map_changes.specs.declared.tracked.PlacedNode.{PlacedNode}
 use Rattle.swarm_gen.specs.Adding.{ledger_from}
 use Rattle.swarm_gen.proofs.Making.{Known, some_case, header_is, hash_is, header_at, made_where, state_made, ledger_is}
 use Rattle.swarm_gen.proofs.ledgers.next_ledger.Goals as goal

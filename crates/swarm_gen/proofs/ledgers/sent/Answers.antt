@@ -1,5 +1,5 @@
 use Rattle.std.proofs.lemmas.List.Elements.{All-map, All-same}
-use Rattle.swarm_gen.specs.Given.{sent, below}
+use Rattle.swarm_gen.specs.Sending.{sent, below}
 use Rattle.swarm_gen.specs.Serving.{IsOfLedger}
 use Rattle.swarm_gen.proofs.ledgers.sent.Goals as goal
 

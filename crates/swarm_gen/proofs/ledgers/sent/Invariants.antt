@@ -1,5 +1,5 @@
 use Rattle.std.proofs.Common.{◌≡◌, map}
-use Rattle.swarm_gen.specs.Given.{sent, below}
+use Rattle.swarm_gen.specs.Sending.{sent, below}
 use Rattle.swarm_gen.proofs.ledgers.sent.Given as goal
 
 abbrev pub invariant-loop-node : goal.invariant-loop-node

@@ -1,7 +1,7 @@
 use Rattle.std.proofs.Common.{[], ◌∙◌}
 use Rattle.ledger_spec.specs.declared.Kind.TheVariants.{State, Tx}
 use Rattle.swarm_gen.specs.Ledgers.{state_of, txs_of}
-use Rattle.swarm_gen.specs.Placed.{nodes_of}
+use Rattle.map_changes.specs.Placed.{nodes_of}
 use Rattle.swarm_gen.specs.Swarm.{nodes_before}
 use Rattle.swarm_gen.proofs.Making.{some_case, root_as, not_empty_as, nodes_as}
 use Rattle.swarm_gen.proofs.ledgers.take_all.Goals as goal

@@ -2,7 +2,7 @@ use Rattle.std.proofs.Common.{◌≡◌, ◌+◌, ◌*◌, map, []}
 use Rattle.std.specs.List.{range_with_len}
 use Rattle.ledger_spec.specs.declared.Kind.TheVariants.{Tx}
 use Rattle.swarm_gen.specs.Ledgers.{key, eight, map_from}
-use Rattle.swarm_gen.specs.Tracking.{leaves_in, items_in, shown_in}
+use Rattle.map_changes.specs.Tracking.{leaves_in, items_in, shown_in}
 use Rattle.swarm_gen.proofs.ledgers.txs.Given as goal
 
 abbrev pub invariant-loop-m : goal.invariant-loop-m

@@ -1,5 +1,0 @@
-use Rattle.swarm_gen.proofs.Listing.{same_forms}
-use Rattle.swarm_gen.proofs.laws.a_maps_nodes_have_its_forms.Goals as goal
-
-pub returns : goal.returns
-returns c = same_forms

@@ -1,9 +1,0 @@
-use Rattle.std.proofs.Common.{rules}
-use Rattle.swarm_gen.proofs.Tracks.{two_forms}
-use Rattle.swarm_gen.proofs.nodes.have_one_form.Goals as goal
-
--- forms of two hashes are two
-pub returns-then-two : goal.returns-then-two
-returns-then-two c half are =
-    two_forms half c.args.map.now.kind c.args.map.now.nodes c.known.ensures.nodes c.args.hashes.now c.args.at c.args.other
-    (c.in_ok-two.ensures (search rules)) are

@@ -1,9 +1,0 @@
-use Rattle.swarm_gen.proofs.Tracks.{are_two}
-use Rattle.swarm_gen.proofs.nodes.have_two_hashes.Goals as goal
-
-pub returns : goal.returns
-returns c t = record {
-  own = (c.in_ok-own.own, c.in_ok-own.ensures);
-  others = (c.in_ok-others.others, c.in_ok-others.ensures);
-  apart = are_two _ _ c.equals.result c.equals.ensures t;
-}
