@@ -6,7 +6,7 @@ ghost use Rattle.ledger_spec.specs.Bytes.{is_nonzero};
 ghost use Rattle.ledger_spec.specs.Own.{AreStored};
 ghost use Rattle.ledger_spec.specs.Peers.{added, after_adding, is_present, ticked, after_tick, most_ticks};
 ghost use Rattle.ledger_spec.specs.Acquiring.{acquiring, after_verdict};
-ghost use Rattle.own_forms.specs.Reading.{IsLater, IsReadable};
+ghost use Rattle.rotating_store.specs.Reading.{IsLater, IsReadable};
 ghost use Rattle.missing_walk.specs.Founds.{IsFound};
 ghost use Rattle.acquire_core.specs.Answers.{forms_in, Answers};
 ghost use Rattle.acquire_core.specs.Replies.{peer_reply, tick_reply, found_verdict, check_reply};

@@ -7,7 +7,7 @@ ghost use Rattle.ledger_spec.specs.Own.{AreStored};
 ghost use Rattle.ledger_spec.specs.Wire.{read_wire};
 ghost use Rattle.ledger_spec.specs.Offers.{head_outcome, head_forms, node_outcome, stored_by};
 ghost use Rattle.ledger_spec.specs.Bases.{root_outcome, root_forms, base_outcome, base_forms};
-ghost use Rattle.own_forms.specs.Reading.{IsLater, IsReadable};
+ghost use Rattle.rotating_store.specs.Reading.{IsLater, IsReadable};
 ghost use Rattle.acquire_core.specs.Answers.{forms_in, Answers};
 ghost use Rattle.acquire_core.specs.Parts.{judged, said, said_root};
 

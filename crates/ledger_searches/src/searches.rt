@@ -3,7 +3,7 @@ ghost use Rattle.std.specs.Prelude.{◌≡◌, ◌⊎◌, ◌+◌, ◌<◌, ◌�
 ghost use Rattle.std.specs.Prelude.{slice_set, vec_len};
 ghost use Rattle.run_io.specs.Bytes.{Rose};
 ghost use Rattle.ledger_spec.specs.Bytes.{Lookup};
-ghost use Rattle.own_forms.specs.Reading.{WasRead};
+ghost use Rattle.rotating_store.specs.Reading.{WasRead};
 ghost use Rattle.missing_walk.specs.Ends.{IsClean};
 ghost use Rattle.missing_walk.specs.Founds.{IsFound};
 ghost use Rattle.missing_walk.specs.Passes.{HasMarkedRoots};

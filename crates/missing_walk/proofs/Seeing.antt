@@ -18,8 +18,8 @@ use Rattle.shamap_node.specs.declared.Node.TheVariants as variant
 use Rattle.shamap_node.specs.declared.parts.Inner.{Inner}
 use Rattle.shamap_node.specs.Nodes.{held}
 use Rattle.rotating_store.specs.Stores.{Store, nodes_of}
-use Rattle.own_forms.specs.Reading.{WasRead, IsReadable}
-use Rattle.own_forms.proofs.Reading.{same_nodes}
+use Rattle.rotating_store.specs.Reading.{WasRead, IsReadable}
+use Rattle.rotating_store.proofs.Reading.{same_nodes}
 use Rattle.full_below.specs.declared.key.MarkKey.{MarkKey}
 use Rattle.full_below.specs.declared.marks.Marks.{Marks}
 use Rattle.full_below.specs.Keys.{same_mark}

@@ -14,7 +14,7 @@ use Rattle.shamap_node.specs.declared.Node.{Node}
 use Rattle.shamap_node.specs.declared.Node.TheVariants as nodes
 use Rattle.shamap_node.specs.declared.parts.Inner.{Inner}
 use Rattle.rotating_store.specs.Stores.{Store, nodes_of}
-use Rattle.own_forms.specs.Reading.{IsReadable}
+use Rattle.rotating_store.specs.Reading.{IsReadable}
 use Rattle.full_below.specs.declared.key.MarkKey.{MarkKey}
 use Rattle.full_below.specs.declared.marks.Marks.{Marks}
 use Rattle.tree_cache.specs.declared.cache.TreeCache.{TreeCache}

@@ -3,7 +3,7 @@ ghost use Rattle.std.specs.Prelude.{◌≡◌, ◌+◌, ◌≤◌, true, None, S
 ghost use Rattle.run_io.specs.Bytes.{Rose};
 ghost use Rattle.ledger_spec.specs.Bytes.{Lookup};
 ghost use Rattle.ledger_spec.specs.Findings.{lacks, breaks};
-ghost use Rattle.own_forms.specs.Reading.{WasRead};
+ghost use Rattle.rotating_store.specs.Reading.{WasRead};
 ghost use Rattle.missing_walk.specs.Sees.{Finds, shown, nothing_seen, noted};
 ghost use Rattle.missing_walk.specs.Founds.{IsFound};
 ghost use Rattle.missing_walk.specs.Views.{Tells};
@@ -21,8 +21,7 @@ use ledger_header::Header;
 use ledger_spec::{Kind, Place, ShapeFault};
 use nib_path::NodeId;
 use node_backend::{BackFault, Shelf};
-use own_forms::own_form;
-use rotating_store::RotStore;
+use rotating_store::{RotStore, own_form};
 use std::alloc::Global;
 
 impl Search {

@@ -5,7 +5,7 @@ ghost use Rattle.std.specs.Prelude.{IsOk, OnErr, ℕ, ◌&&◌, is_some, List, l
 ghost use Rattle.std.specs.FinMap as map;
 ghost use Rattle.run_io.specs.Bytes.{Rose};
 ghost use Rattle.ledger_spec.specs.Bytes.{Half, Lookup};
-ghost use Rattle.own_forms.specs.Reading.{WasRead};
+ghost use Rattle.rotating_store.specs.Reading.{WasRead};
 ghost use Rattle.full_below.specs.Marking.{AreMarked};
 ghost use Rattle.tree_cache.specs.Caching.{AreCached};
 ghost use Rattle.missing_walk.specs.Pending.{Pending, pending_of, stacked, IsFull, IsCachedTrue, Within, Around};

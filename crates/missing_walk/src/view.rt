@@ -5,7 +5,7 @@ ghost use Rattle.ledger_spec.specs.Bytes.{Lookup, is_zero};
 ghost use Rattle.ledger_spec.specs.Findings.{seen_as, sound as sound_node};
 ghost use Rattle.ledger_spec.specs.Rules.{fault_of};
 ghost use Rattle.shamap_node.specs.Nodes.{held, hashes_above};
-ghost use Rattle.own_forms.specs.Reading.{WasRead};
+ghost use Rattle.rotating_store.specs.Reading.{WasRead};
 ghost use Rattle.tree_laws.specs.Walks.{at_place};
 ghost use Rattle.full_below.specs.Marking.{AreMarked, is_marked};
 ghost use Rattle.missing_walk.specs.Passes.{SeesNothing, StillMarked};

@@ -23,8 +23,8 @@ use Rattle.rotating_store.specs.declared.store.Put.TheVariants as put
 use Rattle.rotating_store.specs.declared.store.StoreFault.{StoreFault}
 use Rattle.rotating_store.specs.declared.store.StoreFault.TheVariants as fault
 use Rattle.rotating_store.proofs.Merging.{merged-insert}
-use Rattle.own_forms.specs.Reading.{AreNotedOwn}
-use Rattle.own_forms.proofs.Reading.{note_is_true, notes_stay}
+use Rattle.rotating_store.specs.Reading.{AreNotedOwn}
+use Rattle.rotating_store.proofs.Reading.{note_is_true, notes_stay}
 
 module _ (half : Half) (s : Store) (h : Hash) (form : Bytes) where
   after_pair : (q : Hash) → map.get (nodes_of (with_pair s h form)) q ≡ cond (eq_by_cmp hash_cmp q h) (Some form) (map.get (nodes_of s) q)

@@ -17,7 +17,7 @@ use Rattle.ledger_spec.specs.Own.{AreStored, own_forms}
 use Rattle.ledger_spec.specs.Offers.{Clash, node_given, spot_outcome, wire_outcome, stored_by}
 use Rattle.ledger_spec.proofs.Owning.{all_own, same_self}
 use Rattle.rotating_store.specs.Stores.{Store, nodes_of, Counted, with_pair}
-use Rattle.own_forms.proofs.Reading.{counted_then}
+use Rattle.rotating_store.proofs.Reading.{counted_then}
 use Rattle.node_offer.specs.declared.fault.OfferFault.{OfferFault}
 use Rattle.node_offer.specs.declared.fault.OfferFault.TheVariants as faults
 use Rattle.node_offer.specs.Stored.{with_forms, HasForms, Refuses, Stores}

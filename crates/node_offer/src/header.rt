@@ -4,7 +4,7 @@ ghost use Rattle.std.specs.FinMap as map;
 ghost use Rattle.run_io.specs.Bytes.{Rose};
 ghost use Rattle.ledger_spec.specs.Offers.{head_forms, head_outcome};
 ghost use Rattle.rotating_store.specs.Stores.{nodes_of};
-ghost use Rattle.own_forms.specs.Reading.{IsLater, IsReadable};
+ghost use Rattle.rotating_store.specs.Reading.{IsLater, IsReadable};
 ghost use Rattle.node_offer.specs.Stored.{HasForms, Refuses};
 ghost use Rattle.node_offer.specs.Ways.{head_as};
 

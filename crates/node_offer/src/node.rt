@@ -12,7 +12,7 @@ ghost use Rattle.ledger_spec.specs.Offers.{node_outcome, spot_outcome, stored_by
 ghost use Rattle.run_io.specs.Bytes.{Rose};
 ghost use Rattle.ledger_spec.specs.Own.{AreStored};
 ghost use Rattle.rotating_store.specs.Stores.{nodes_of};
-ghost use Rattle.own_forms.specs.Reading.{IsLater, IsReadable};
+ghost use Rattle.rotating_store.specs.Reading.{IsLater, IsReadable};
 ghost use Rattle.node_offer.specs.Stored.{HasForms, Refuses};
 ghost use Rattle.node_offer.specs.Outcomes.{numbered, HasCause, HasRule};
 ghost use Rattle.node_offer.specs.Ways.{hashes_of_parent, offered_as, spot as spot_means};

@@ -9,7 +9,7 @@ ghost use Rattle.ledger_spec.specs.Spots.{header_in, header_root, spot_from, spo
 ghost use Rattle.run_io.specs.Bytes.{Rose};
 ghost use Rattle.ledger_spec.specs.Own.{own_forms};
 ghost use Rattle.rotating_store.specs.Stores.{nodes_of};
-ghost use Rattle.own_forms.specs.Reading.{WasRead, IsReadable};
+ghost use Rattle.rotating_store.specs.Reading.{WasRead, IsReadable};
 ghost use Rattle.node_offer.specs.Stored.{IsPlain};
 ghost use Rattle.node_offer.specs.Ways.{hashes_of_parent, spot, blocked, step_down, step_of, HasInner};
 
@@ -18,8 +18,7 @@ use half_hash::{Blob, Hash32, NodeHash};
 use ledger_header::Header;
 use nib_path::{NodeId, nibble};
 use node_backend::{BackFault, Shelf};
-use own_forms::own_form;
-use rotating_store::RotStore;
+use rotating_store::{RotStore, own_form};
 use shamap_node::{Inner, Kind, inner_branch, inner_of, is_inner_form};
 use std::alloc::Global;
 

@@ -3,7 +3,7 @@ ghost use Rattle.std.specs.Prelude.{◌≡◌, IsTrue, IfErr, is_some};
 ghost use Rattle.ledger_spec.specs.Findings.{held_of};
 ghost use Rattle.run_io.specs.Bytes.{Rose};
 ghost use Rattle.rotating_store.specs.Stores.{IsNoted};
-ghost use Rattle.own_forms.specs.Reading.{IsLater, IsReadable};
+ghost use Rattle.rotating_store.specs.Reading.{IsLater, IsReadable};
 ghost use Rattle.node_offer.specs.Stored.{Stores};
 ghost use Rattle.node_offer.specs.Faults.{refused_by};
 

@@ -4,3 +4,4 @@ pub mod Keeping
 pub mod Nexts
 pub mod Noting
 pub mod Spares
+pub mod Reading

@@ -4,3 +4,4 @@ pub mod Puts
 pub mod Moves
 pub mod Keeps
 pub mod Sources
+pub mod Reading

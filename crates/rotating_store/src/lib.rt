@@ -3,9 +3,11 @@
 #![tactic(auto)]
 
 mod notes;
+mod own;
 mod pair;
 mod source;
 mod store;
 
+pub use own::own_form;
 pub use source::Filed;
 pub use store::{Moved, Parts, Put, RotStore, StoreFault, Unopened};

@@ -11,7 +11,7 @@ use Rattle.ledger_spec.specs.Own.{AreStored}
 use Rattle.ledger_spec.specs.Forms.{Held}
 use Rattle.ledger_spec.proofs.Owning.{all_own}
 use Rattle.ledger_spec.proofs.ReachLaws.{Grows}
-use Rattle.own_forms.proofs.Reading.{stored_notes}
+use Rattle.rotating_store.proofs.Reading.{stored_notes}
 use Rattle.rotating_store.specs.Stores.{Store, nodes_of}
 use Rattle.full_below.specs.declared.marks.Marks.{Marks}
 use Rattle.missing_walk.specs.declared.Found.{Found}

@@ -29,7 +29,7 @@ use Rattle.node_offer.specs.declared.fault.OfferFault.TheVariants as offer
 use Rattle.node_offer.specs.Stored as store
 use Rattle.acquire_core.specs.Answers.{Answers}
 use Rattle.ledger_spec.specs.Offers.{Clash}
-use Rattle.own_forms.specs.Reading.{WasRead}
+use Rattle.rotating_store.specs.Reading.{WasRead}
 use Rattle.copy_walk.specs.Walks.{Walk}
 use Rattle.copy_walk.specs.Walks as walks
 use Rattle.copy_walk.proofs.Lists.{shaded_stays, is_shaded, shaded_from}

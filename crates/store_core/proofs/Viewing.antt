@@ -25,7 +25,7 @@ use Rattle.ledger_machine.specs.Reading.{view_root}
 use Rattle.ledger_machine.specs.Views.{is_retained}
 use Rattle.rotating_store.specs.Sources.{AreFiled, rest_of}
 use Rattle.rotating_store.specs.Stores.{Store, nodes_of, born_of, Counted}
-use Rattle.own_forms.specs.Reading.{WasRead}
+use Rattle.rotating_store.specs.Reading.{WasRead}
 use Rattle.store_core.specs.Desks.{Desk, IsFiled, OnlyReads, over, backs}
 use Rattle.store_core.proofs.Copies.{backs_of, counted_backs}
 use Rattle.store_core.specs.declared.views.Got.{Got}

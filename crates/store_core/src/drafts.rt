@@ -13,7 +13,7 @@ use half_hash::{Hash32, Memory, NodeHash};
 use ledger_header::Header;
 use node_backend::{BackFault, Shelf};
 use open_sessions::Open;
-use own_forms::own_form;
+use rotating_store::own_form;
 use shamap_node::Item;
 use std::alloc::Global;
 

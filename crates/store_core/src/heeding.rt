@@ -7,7 +7,7 @@ ghost use Rattle.run_io.specs.Bytes.{Rose};
 ghost use Rattle.ledger_spec.specs.Forms.{Held, hash_of as half_of};
 ghost use Rattle.ledger_spec.specs.Own.{AreStored};
 ghost use Rattle.ledger_spec.specs.Wire.{read_wire};
-ghost use Rattle.own_forms.specs.Reading.{IsLater};
+ghost use Rattle.rotating_store.specs.Reading.{IsLater};
 ghost use Rattle.acquire_core.specs.Answers.{forms_in, Answers};
 ghost use Rattle.acquire_core.specs.Replies.{said_base, said_node};
 ghost use Rattle.acquire_core.specs.Replies.{base_reply, base_stores, TakesBase, node_reply, node_stores, TakesNode};

@@ -8,7 +8,7 @@ ghost use Rattle.ledger_machine.specs.Records.{AreRecords, with_records};
 ghost use Rattle.run_io.specs.Bytes.{Rose};
 ghost use Rattle.rotating_store.specs.Puts.{MayStore};
 ghost use Rattle.rotating_store.specs.Stores.{nodes_of, Counted, with_pair};
-ghost use Rattle.own_forms.specs.Reading.{IsLater, WasRead};
+ghost use Rattle.rotating_store.specs.Reading.{IsLater, WasRead};
 ghost use Rattle.node_backend.specs.Order.{IsNext};
 ghost use Rattle.store_core.specs.Dumping.{HoldsOf, IsNextRecord, Follows, GivenAfter};
 
@@ -16,8 +16,7 @@ use half_hash::{Hash32, NodeHash};
 use ledger_machine::Record;
 use nib_path::nibble;
 use node_backend::{BackFault, Shelf};
-use own_forms::own_form;
-use rotating_store::{RotStore, StoreFault};
+use rotating_store::{RotStore, StoreFault, own_form};
 use std::alloc::Global;
 
 /// Puts the records into a store that holds nothing. Each is noted as checked, since its reader has hashed it.

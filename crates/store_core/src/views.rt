@@ -3,7 +3,7 @@ ghost use Rattle.std.specs.Prelude.{◌≡◌, ◌≤◌, IsTrue, OnErr, IfErr, 
 ghost use Rattle.std.specs.FinMap as map;
 ghost use Rattle.ledger_spec.specs.Forms.{hash_of};
 ghost use Rattle.ledger_machine.specs.State.{form_in};
-ghost use Rattle.own_forms.specs.Reading.{WasRead};
+ghost use Rattle.rotating_store.specs.Reading.{WasRead};
 ghost use Rattle.path_proof.specs.Sources.{Gives};
 ghost use Rattle.rotating_store.specs.Stores.{nodes_of};
 ghost use Rattle.shamap_node.specs.Nodes.{held};

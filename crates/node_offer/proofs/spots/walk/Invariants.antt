@@ -5,7 +5,7 @@ use Rattle.ledger_spec.specs.Forms.{inner_of}
 use Rattle.ledger_spec.specs.Spots.{spot_from}
 use Rattle.ledger_spec.specs.Own.{own_forms}
 use Rattle.rotating_store.specs.Stores.{nodes_of}
-use Rattle.own_forms.specs.Reading.{WasRead, IsReadable}
+use Rattle.rotating_store.specs.Reading.{WasRead, IsReadable}
 use Rattle.node_offer.proofs.spots.walk.Given as goal
 
 -- the store was only read, each backend at most once for a level, and what is left of the way leads where the whole way does

@@ -1,6 +1,6 @@
 use Rattle.std.proofs.Common.{◌≡◌, IsTrue}
 use Rattle.std.specs.Option.{option_copied}
-use Rattle.own_forms.specs.Reading.{WasRead}
+use Rattle.rotating_store.specs.Reading.{WasRead}
 use Rattle.ledger_spec.specs.Bytes.{Hash}
 use Rattle.store_core.specs.Dumping.{Follows, IsHashOrNone, left_after}
 use Rattle.store_core.proofs.records.next_record.Given as goal

@@ -1,5 +1,5 @@
 use Rattle.std.proofs.Common.{IsTrue}
-use Rattle.own_forms.specs.Reading.{IsLater}
+use Rattle.rotating_store.specs.Reading.{IsLater}
 use Rattle.rotating_store.specs.Stores.{nodes_of}
 use Rattle.store_core.specs.Dumping.{HoldsOf}
 use Rattle.store_core.proofs.Putting.{ArePut}

@@ -1,7 +1,7 @@
 -- a slice goes on within its generation, and the last one ends the search
 use Rattle.std.proofs.Common.{◌≡◌, ◌≤◌, false, sym, ap, ◌∙◌, subst, arith}
 use Rattle.ledger_spec.specs.Bytes.{Hash}
-use Rattle.own_forms.proofs.Reading.{read_then}
+use Rattle.rotating_store.proofs.Reading.{read_then}
 use Rattle.missing_walk.specs.declared.search.Search.{Search}
 use Rattle.missing_walk.specs.declared.search.Slice.{Slice}
 use Rattle.missing_walk.specs.Ends.{IsClean, AreRootsMarked}

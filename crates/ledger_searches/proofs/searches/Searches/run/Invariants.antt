@@ -1,6 +1,6 @@
 use Rattle.std.proofs.Common.{◌≡◌, ◌≤◌, length}
 use Rattle.ledger_spec.specs.Bytes.{Lookup}
-use Rattle.own_forms.specs.Reading.{WasRead}
+use Rattle.rotating_store.specs.Reading.{WasRead}
 use Rattle.missing_walk.specs.Passes.{HasMarkedRoots}
 use Rattle.missing_walk.specs.Rests.{bound}
 use Rattle.missing_walk.specs.Searching.{Rule}

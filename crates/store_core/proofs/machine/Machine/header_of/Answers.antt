@@ -5,7 +5,7 @@ use Rattle.ledger_spec.specs.Bytes.{Lookup, Nodes}
 use Rattle.ledger_spec.specs.Own.{own_forms}
 use Rattle.ledger_spec.proofs.Owning.{all_own}
 use Rattle.ledger_machine.specs.State.{State, form_in}
-use Rattle.own_forms.proofs.Reading.{stored_notes}
+use Rattle.rotating_store.proofs.Reading.{stored_notes}
 use Rattle.store_core.proofs.Tables.{IsOver, filed_over}
 use Rattle.store_core.proofs.Starting.{header_found}
 use Rattle.store_core.proofs.machine.Machine.header_of.Goals as goal

@@ -8,7 +8,7 @@ use Rattle.ledger_spec.specs.Own.{AreStored, is_own}
 use Rattle.ledger_spec.proofs.Owning.{own_is}
 use Rattle.run_io.specs.Bytes.{Rose}
 use Rattle.rotating_store.specs.Stores.{Store, nodes_of, Counted, IsNoted}
-use Rattle.own_forms.specs.Reading.{AreNotedOwn, IsLater, MayNote, WasRead}
+use Rattle.rotating_store.specs.Reading.{AreNotedOwn, IsLater, MayNote, WasRead}
 
 -- what is stored doesn't hang on the counts
 pub same_nodes : (s s' : Store) → Counted s s' → nodes_of s' ≡ nodes_of s

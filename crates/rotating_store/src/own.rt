@@ -1,16 +1,19 @@
-//! The form that is held under a hash.
-ghost use Rattle.std.specs.Prelude.{◌≡◌, ◌≤◌, ◌+◌, IfOk, IfErr, IsTrue, Some};
+//! What a store holds: the forms that stand under their own hashes. A store hands out the bytes of its backends as they are; here
+//! bytes of another hash, and bytes that are no form, are read as not held.
+ghost use Rattle.std.specs.Prelude.{◌≡◌, ◌≤◌, ◌+◌, is_some, IfOk, IfErr, IsTrue, Some};
 ghost use Rattle.std.specs.FinMap as map;
 ghost use Rattle.run_io.specs.Bytes.{Rose};
 ghost use Rattle.ledger_spec.specs.Bytes.{same_bytes};
+ghost use Rattle.ledger_spec.specs.Findings.{held_of};
 ghost use Rattle.ledger_spec.specs.Own.{is_own as stands, own_form as held_at, own_forms};
 ghost use Rattle.rotating_store.specs.Stores.{is_noted, nodes_of};
-ghost use Rattle.own_forms.specs.Reading.{IsReadable, MayNote, WasRead};
+ghost use Rattle.rotating_store.specs.Reading.{IsReadable, MayNote, WasRead};
 
-use crate::forms::is_form;
+use crate::{RotStore, StoreFault};
 use half_hash::{Blob, Hash32, NodeHash};
+use ledger_header::Header;
 use node_backend::{BackFault, Shelf};
-use rotating_store::{RotStore, StoreFault};
+use shamap_node::{inner_of, is_leaf_form};
 use std::alloc::Global;
 
 /// The form that is held under the hash, or None where none is. It asks each backend at most once. A form is checked when it is first
@@ -53,6 +56,19 @@ fn is_own<H: NodeHash>(h: &Hash32, form: &[u8]) -> bool
     ensures { result ≡ stands H.half h.now form.now }
 {
     same(&H::half(form), h) && is_form::<H>(form)
+}
+
+// Whether the bytes are the form of a node or a header. It takes no memory.
+fn is_form<H: NodeHash>(form: &[u8]) -> bool
+    ensures { result ≡ is_some (held_of H.half form.now) }
+{
+    if inner_of(form).is_some() {
+        return true;
+    }
+    if Header::from_form(form).is_some() {
+        return true;
+    }
+    is_leaf_form::<H>(form)
 }
 
 // Whether the two hashes are one.
