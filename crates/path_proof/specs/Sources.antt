@@ -1,5 +1,5 @@
--- What a source of nodes answers, by the map that it tells.
-use Rattle.std.specs.Prelude.{◌≡◌, Bool, IsTrue, IfOk, IfSome, List, Option, None, Some, Result, Ok, Err}
+-- What a source of nodes answers, by the map that it tells, and what a call that asks it leaves of it.
+use Rattle.std.specs.Prelude.{◌≡◌, ◌≤◌, ℕ, Bool, IsTrue, IfErr, IfOk, IfSome, List, Option, None, Some, Result, Ok, Err}
 use Rattle.std.specs.List.{AllByRecursion}
 use Rattle.std.specs.Bool.{⊤}
 use Rattle.std.specs.declared.sync.Arc.{Arc}
@@ -8,6 +8,7 @@ use Rattle.shamap_node.specs.declared.Node.{Node}
 use Rattle.shamap_node.specs.Nodes.{held}
 use Rattle.shamap_node.specs.Laws.{is_no_node}
 use Rattle.std.specs.FinMap as map
+use Rattle.run_io.specs.Bytes.{Rose}
 use Rattle.ledger_spec.specs.Bytes.{Bytes, Hash, Half, Lookup, Nodes}
 use Rattle.ledger_spec.specs.Forms.{Held, IsHeld, form_of, hash_of}
 use Rattle.ledger_spec.specs.Pages.{IsStoredNode}
@@ -46,3 +47,16 @@ Gives half there (Ok None) = there ≡ None
 Gives half there (Err Foreign) = IsForeign half there
 Gives half there (Err Fault) = ⊤
 Gives half there (Err Memory) = ⊤
+
+-- where a call ends with this fault, the count of faults rose
+abbrev pub RoseIf : {E : Type 0} → E → ℕ → ℕ → E → Type 0
+RoseIf fault before after e = e ≡ fault → Rose before after
+
+-- a call leaves a source what it was: the map that it tells, and what else is known of it; its count of faults doesn't fall, and an error
+-- has its cause, by the counts before and after
+pub record LeavesSource {Source Rest X E : Type 0} (tells : Bool) (stored : Source → Nodes) (rest_of : Source → Rest) (faults : Source → ℕ)
+    (Cause : ℕ → ℕ → E → Type 0) (old new : Source) (result : Result X E) : Type 0 where
+  pub same : IsTrue tells → stored new ≡ stored old
+  pub rest : rest_of new ≡ rest_of old
+  pub later : faults old ≤ faults new
+  pub cause : IfErr result (Cause (faults old) (faults new))

@@ -1,13 +1,12 @@
 //! Reads of a key in the map below a root.
-ghost use Rattle.std.specs.Prelude.{◌≡◌, ◌≢◌, ◌≤◌, IfErr, IfOk, IsTrue, Some, take};
+ghost use Rattle.std.specs.Prelude.{◌≡◌, ◌≢◌, IfErr, IfOk, IsTrue, Some, take};
 ghost use Rattle.nib_path.specs.Paths.{nibbles};
 ghost use Rattle.std.specs.FinMap as map;
-ghost use Rattle.run_io.specs.Bytes.{Rose};
 ghost use Rattle.ledger_spec.specs.Reads as spec;
 ghost use Rattle.ledger_spec.specs.Reads.{AreNodes, AnswersOrShows};
 ghost use Rattle.shamap_node.specs.Nodes.{held, hashes_above};
 ghost use Rattle.path_proof.specs.Paths.{held_nodes, outcome_by, hashes_kept, IsAbove};
-ghost use Rattle.path_proof.specs.Sources.{AreHeld, Holds};
+ghost use Rattle.path_proof.specs.Sources.{AreHeld, Holds, LeavesSource, RoseIf};
 ghost use Rattle.path_proof.specs.Ways.{Ends, Fits, HasCause};
 
 use crate::following::known_key;
@@ -74,10 +73,7 @@ pub fn read<H: NodeHash, S: NodeSource<H>>(
     ensures sets { IfOk result (λ a. AreNodes H.half kind (held_nodes a.used.items) →
         AnswersOrShows H.half kind root.now key.now (held_nodes a.used.items) (outcome_by (held_nodes a.used.items) a.outcome)) }
     ensures cause { IfErr result (HasCause H.half kind root.now key.now S.tells (map.get (S.stored source.old))) }
-    ensures fault { IfErr result (λ fault. fault ≡ ReadFault.Fault → Rose (S.faults source.old) (S.faults source.new)) }
-    ensures same { IsTrue S.tells → S.stored source.new ≡ S.stored source.old }
-    ensures rest { S.rest source.new ≡ S.rest source.old }
-    ensures later { S.faults source.old ≤ S.faults source.new }
+    ensures source { LeavesSource S.tells S.stored S.rest S.faults (RoseIf ReadFault.Fault) source.old source.new result }
 {
     known_key(key);
     known_half::<H>();
@@ -96,10 +92,7 @@ fn read_path<H: NodeHash, S: NodeSource<H>>(
         spec.follow H.half kind root.now key.now (held_nodes a.used.items) ≡ Some (outcome_by (held_nodes a.used.items) a.outcome)) }
     ensures held { IfOk result (λ a. AreHeld H.half S.tells (map.get (S.stored source.old)) (held_nodes a.used.items)) }
     ensures cause { IfErr result (HasCause H.half kind root.now key.now S.tells (map.get (S.stored source.old))) }
-    ensures fault { IfErr result (λ fault. fault ≡ ReadFault.Fault → Rose (S.faults source.old) (S.faults source.new)) }
-    ensures same { IsTrue S.tells → S.stored source.new ≡ S.stored source.old }
-    ensures rest { S.rest source.new ≡ S.rest source.old }
-    ensures later { S.faults source.old ≤ S.faults source.new }
+    ensures source { LeavesSource S.tells S.stored S.rest S.faults (RoseIf ReadFault.Fault) source.old source.new result }
 {
     if root.is_zero() {
         return Ok(Answer {
@@ -130,10 +123,7 @@ pub fn node_at<H: NodeHash, S: NodeSource<H>>(
     ensures fits { IfOk result (λ a. Fits H.half kind (hashes_above parent.entry) id.now wanted.now (held a.value)) }
     ensures held { IfOk result (λ a. IsTrue S.tells → Holds H.half (map.get (S.stored source.old) wanted.now) (held a.value)) }
     ensures ends { IfErr result (Ends H.half kind S.tells (map.get (S.stored source.old)) (hashes_above parent.entry) id.now wanted.now) }
-    ensures fault { IfErr result (λ fault. fault ≡ ReadFault.Fault → Rose (S.faults source.old) (S.faults source.new)) }
-    ensures same { IsTrue S.tells → S.stored source.new ≡ S.stored source.old }
-    ensures rest { S.rest source.new ≡ S.rest source.old }
-    ensures later { S.faults source.old ≤ S.faults source.new }
+    ensures source { LeavesSource S.tells S.stored S.rest S.faults (RoseIf ReadFault.Fault) source.old source.new result }
 {
     let fetched = source.fetch(alloc, wanted);
     judged::<H>(fetched, kind, parent, id, wanted)

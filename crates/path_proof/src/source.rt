@@ -1,12 +1,11 @@
 //! What gives nodes by their hashes.
-ghost use Rattle.std.specs.Prelude.{◌≡◌, ◌≤◌, ℕ, Bool, true, IfErr, IfOk, IfSome, IsTrue, None, Ok};
+ghost use Rattle.std.specs.Prelude.{◌≡◌, ℕ, Bool, true, IfOk, IfSome, IsTrue, None, Ok};
 ghost use Rattle.std.specs.Bool.{⊤};
 ghost use Rattle.std.specs.FinMap as map;
-ghost use Rattle.run_io.specs.Bytes.{Rose};
 ghost use Rattle.ledger_spec.specs.Bytes.{Nodes};
 ghost use Rattle.ledger_spec.specs.Forms.{hash_of};
 ghost use Rattle.shamap_node.specs.Nodes.{held};
-ghost use Rattle.path_proof.specs.Sources.{Gives, no_nodes};
+ghost use Rattle.path_proof.specs.Sources.{Gives, LeavesSource, RoseIf, no_nodes};
 
 use half_hash::{Hash32, NodeHash};
 use shamap_node::Node;
@@ -44,10 +43,7 @@ pub trait NodeSource<H: NodeHash> {
     fn fetch(&mut self, alloc: Global, h: &Hash32) -> Result<Option<Arc<Node>>, FetchFault>
         ensures hash { IfOk result (λ o. IfSome o (λ node. hash_of H.half (held node.value) ≡ h.now)) }
         ensures exact { IsTrue tells → Gives H.half (map.get (stored self.old) h.now) result }
-        ensures same { IsTrue tells → stored self.new ≡ stored self.old }
-        ensures rest { rest self.new ≡ rest self.old }
-        ensures later { faults self.old ≤ faults self.new }
-        ensures cause { IfErr result (λ fault. fault ≡ FetchFault.Fault → Rose (faults self.old) (faults self.new)) };
+        ensures source { LeavesSource tells stored rest faults (RoseIf FetchFault.Fault) self.old self.new result };
 }
 
 /// A source that holds nothing.

@@ -27,9 +27,9 @@ loop-next-preserved g c =
     record {
       way = subst (λ (p : Progress). Comes g.H.NodeHash.half c.args.kind c.args.root.now c.args.key.now g.S.NodeSource.tells
           (map.get (g.S.NodeSource.stored c.args.source.now)) (Ok p)) c.in-More.is came;
-      same = λ told. c.fetch-fetched.ensures.same told ∙ c.loop-next.invariant.same told;
-      rest = c.fetch-fetched.ensures.rest ∙ c.loop-next.invariant.rest;
-      later = omega (arith, c.loop-next.invariant.later, c.fetch-fetched.ensures.later);
+      same = λ told. c.fetch-fetched.ensures.source.same told ∙ c.loop-next.invariant.same told;
+      rest = c.fetch-fetched.ensures.source.rest ∙ c.loop-next.invariant.rest;
+      later = omega (arith, c.loop-next.invariant.later, c.fetch-fetched.ensures.source.later);
     }
 
 -- what the source gave ends the path
