@@ -1,10 +1,9 @@
 -- What a visit from the root comes to.
-use Rattle.std.proofs.Common.{◌≡◌, ◌≢◌, ◌-◌, List, [], ◌++◌, length, ℕ, Bool, IsTrue, None, Result, Ok, Err, IfOk, IfErr, IsErr, IsErrAnd}
+use Rattle.std.proofs.Common.{◌≡◌, ◌-◌, List, [], ◌++◌, length, ℕ, Bool, IsTrue, None, Result, Ok, Err, IfOk, IfErr, IsErr, IsErrAnd}
 use Rattle.std.proofs.Common.{sym, ap, ◌∙◌, subst, arith}
 use Rattle.std.proofs.lemmas.List.{append-nil}
 use Rattle.std.specs.List.{AllByRecursion}
 use Rattle.ledger_spec.specs.declared.Kind.{Kind}
-use Rattle.ledger_spec.specs.declared.Kind.TheVariants.{Set}
 use Rattle.ledger_spec.specs.Bytes.{Hash, Half, Lookup}
 use Rattle.ledger_spec.specs.Findings.{items_of}
 use Rattle.ledger_spec.specs.Reads.{IsKey, AreNodes}
@@ -18,7 +17,7 @@ use Rattle.path_proof.specs.declared.reading.ReadFault.{ReadFault}
 use Rattle.map_cursor.specs.declared.paging.Page.{Page}
 use Rattle.map_cursor.specs.Shown.{Shown, items_in}
 use Rattle.path_proof.specs.Sources.{AreHeld}
-use Rattle.map_cursor.specs.Visits.{Visited, Refused}
+use Rattle.map_cursor.specs.Visits.{AreOfMaps, Visited, Refused}
 
 pub is_page : (half : Half) (kind : Kind) (root after : Hash) (tells : Bool) (nodes : Lookup) (n : ℕ) (s t : Shown) → s.items ≡ []
     → s.used ≡ [] → Visited half tells nodes (page_from half kind after 64 None [] root) n s t
@@ -45,7 +44,7 @@ is_refused half kind root after tells nodes n s fault no_items r =
     let all : n - length s.items ≡ n = omega (arith, ap length no_items) in
     subst (λ m. Refused half kind tells nodes (page_from half kind after 64 None [] root) m fault) all r
 
-pub law_of_page : (half : Half) → Sized half → (kind : Kind) (root after : Hash) (n : ℕ) (result : Result Page ReadFault) → IsKey after
+law_of_page : (half : Half) → Sized half → (kind : Kind) (root after : Hash) (n : ℕ) (result : Result Page ReadFault) → IsKey after
     → IfOk result (λ p. IsPageOf half kind root after n (held_nodes p.used.items) (items_in p.leaves.items))
     → IfOk result (λ p. AreNodes half kind (held_nodes p.used.items)
     → IsPageOrShows half kind root after n (held_nodes p.used.items) (items_in p.leaves.items))
@@ -54,12 +53,13 @@ law_of_page half sized kind root after n (Ok p) is_key is =
 law_of_page half sized kind root after n (Err _) is_key is = tt
 
 -- nodes of the code are such nodes, sets apart
-pub page_but_sets : (half : Half) (kind : Kind) (root after : Hash) (n : ℕ) (result : Result Page ReadFault)
-    → IfOk result (λ p. AreNodes half kind (held_nodes p.used.items)
-    → IsPageOrShows half kind root after n (held_nodes p.used.items) (items_in p.leaves.items))
-    → IfOk result (λ p. kind ≢ Set → IsPageOrShows half kind root after n (held_nodes p.used.items) (items_in p.leaves.items))
-page_but_sets half kind root after n (Ok p) law = λ other. law (nodes_are half kind other p.used.items)
-page_but_sets half kind root after n (Err _) law = tt
+pub page_of_maps : (half : Half) → Sized half → (kind : Kind) (root after : Hash) (n : ℕ) (result : Result Page ReadFault) → IsKey after
+    → IfOk result (λ p. IsPageOf half kind root after n (held_nodes p.used.items) (items_in p.leaves.items))
+    → IfOk result (λ p. AreOfMaps half kind root after n (held_nodes p.used.items) (items_in p.leaves.items))
+page_of_maps half sized kind root after n (Ok p) is_key is =
+    let law = law_of_page half sized kind root after n (Ok p) is_key is in
+    record { law = λ other. law (nodes_are half kind other p.used.items); sets = law }
+page_of_maps half sized kind root after n (Err _) is_key is = tt
 
 pub own_page : (half : Half) (kind : Kind) (root after : Hash) (n : ℕ) (tells : Bool) (nodes : Lookup) (result : Result Page ReadFault)
     → IsKey after

@@ -1,10 +1,12 @@
 -- What a visit of places adds to a page, and why one ends.
-use Rattle.std.specs.Prelude.{◌≡◌, ◌-◌, ◌++◌, ℕ, Bool, List, [], ◌∷◌, length, Option, Some, Result, Ok, Err}
+use Rattle.std.specs.Prelude.{◌≡◌, ◌≢◌, ◌-◌, ◌++◌, ℕ, Bool, List, [], ◌∷◌, length, Option, Some, Result, Ok, Err}
 use Rattle.std.specs.List.{slice_index_or}
 use Rattle.ledger_spec.specs.declared.Kind.{Kind}
+use Rattle.ledger_spec.specs.declared.Kind.TheVariants.{Set}
 use Rattle.ledger_spec.specs.Bytes.{Hash, Half, Lookup, Items, zero_hash}
 use Rattle.ledger_spec.specs.Forms.{Held}
-use Rattle.ledger_spec.specs.Pages.{page_from, said, wants, Reading}
+use Rattle.ledger_spec.specs.Pages.{page_from, said, wants, Reading, IsPageOrShows}
+use Rattle.ledger_spec.specs.Reads.{AreNodes}
 use Rattle.path_proof.specs.declared.reading.ReadFault.{ReadFault}
 use Rattle.path_proof.specs.Sources.{AreHeld}
 use Rattle.path_proof.specs.Ways.{Ends}
@@ -39,3 +41,9 @@ Visits half kind tells nodes reading most s t (Err fault) = Refused half kind te
 abbrev pub branch_reading : Half → Kind → Hash → ℕ → List Hash → List ℕ → ℕ → Reading
 branch_reading half kind after left hashes path b =
     page_from half kind after left (Some hashes) (path ++ b ∷ []) (slice_index_or hashes b zero_hash)
+
+-- the items are those of each map with this root, or the nodes show two with one hash: of maps of states or transactions, and of maps of
+-- sets where each leaf that was read has its hash as its key
+pub record AreOfMaps (half : Half) (kind : Kind) (root after : Hash) (n : ℕ) (used : List Held) (items : Items) : Type 0 where
+  pub law : kind ≢ Set → IsPageOrShows half kind root after n used items
+  pub sets : AreNodes half kind used → IsPageOrShows half kind root after n used items

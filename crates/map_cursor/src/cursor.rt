@@ -1,14 +1,12 @@
 //! The next items of a map.
-ghost use Rattle.std.specs.Prelude.{◌≡◌, ◌≢◌, ◌≤◌, IfErr, IfOk, IsTrue};
+ghost use Rattle.std.specs.Prelude.{◌≡◌, IfErr, IfOk, IsTrue};
 ghost use Rattle.std.specs.FinMap as map;
-ghost use Rattle.run_io.specs.Bytes.{Rose};
 ghost use Rattle.ledger_spec.specs.Findings.{items_of};
-ghost use Rattle.ledger_spec.specs.Pages.{IsPageOf, IsPageOrShows, after_key, heard_from};
-ghost use Rattle.ledger_spec.specs.Reads.{AreNodes};
+ghost use Rattle.ledger_spec.specs.Pages.{IsPageOf, after_key, heard_from};
 ghost use Rattle.path_proof.specs.Paths.{held_nodes};
-ghost use Rattle.path_proof.specs.Sources.{AreHeld};
+ghost use Rattle.path_proof.specs.Sources.{AreHeld, LeavesSource, RoseIf};
 ghost use Rattle.map_cursor.specs.Shown.{items_in, HasFurther};
-ghost use Rattle.map_cursor.specs.Visits.{Refused};
+ghost use Rattle.map_cursor.specs.Visits.{AreOfMaps, Refused};
 
 use crate::Page;
 use crate::visits::{Query, visit};
@@ -41,19 +39,11 @@ pub fn page<H: NodeHash, S: NodeSource<H>>(
     ensures own { IfOk result (λ p. IsTrue S.tells →
         items_in p.leaves.items ≡ after_key after.now n (items_of H.half (map.get (S.stored source.old)) kind root.now)) }
 
-    // they are those of each map of states or transactions with this root, or the nodes show two with one hash
-    ensures law { IfOk result (λ p. kind ≢ Kind.Set →
-        IsPageOrShows H.half kind root.now after.now n (held_nodes p.used.items) (items_in p.leaves.items)) }
-
-    // so they are for maps of sets, where each leaf that was read has its hash as its key
-    ensures sets { IfOk result (λ p. AreNodes H.half kind (held_nodes p.used.items) →
-        IsPageOrShows H.half kind root.now after.now n (held_nodes p.used.items) (items_in p.leaves.items)) }
+    // they are those of each map with this root, or the nodes show two with one hash
+    ensures maps { IfOk result (λ p. AreOfMaps H.half kind root.now after.now n (held_nodes p.used.items) (items_in p.leaves.items)) }
     ensures cause { IfErr result
         (Refused H.half kind S.tells (map.get (S.stored source.old)) (heard_from H.half kind root.now after.now) n) }
-    ensures fault { IfErr result (λ fault. fault ≡ ReadFault.Fault → Rose (S.faults source.old) (S.faults source.new)) }
-    ensures same { IsTrue S.tells → S.stored source.new ≡ S.stored source.old }
-    ensures rest { S.rest source.new ≡ S.rest source.old }
-    ensures later { S.faults source.old ≤ S.faults source.new }
+    ensures source { LeavesSource S.tells S.stored S.rest S.faults (RoseIf ReadFault.Fault) source.old source.new result }
 {
     known_key(after);
     known_half::<H>();
@@ -74,10 +64,7 @@ fn read_page<H: NodeHash, S: NodeSource<H>>(
     ensures held { IfOk result (λ p. AreHeld H.half S.tells (map.get (S.stored source.old)) (held_nodes p.used.items)) }
     ensures cause { IfErr result
         (Refused H.half kind S.tells (map.get (S.stored source.old)) (heard_from H.half kind root.now after.now) n) }
-    ensures fault { IfErr result (λ fault. fault ≡ ReadFault.Fault → Rose (S.faults source.old) (S.faults source.new)) }
-    ensures same { IsTrue S.tells → S.stored source.new ≡ S.stored source.old }
-    ensures rest { S.rest source.new ≡ S.rest source.old }
-    ensures later { S.faults source.old ≤ S.faults source.new }
+    ensures source { LeavesSource S.tells S.stored S.rest S.faults (RoseIf ReadFault.Fault) source.old source.new result }
 {
     let mut page = Page::new(alloc);
     let query = Query {

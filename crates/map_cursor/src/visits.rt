@@ -1,11 +1,11 @@
 //! The visit of the places below a root, branches rising.
-ghost use Rattle.std.specs.Prelude.{◌≡◌, ◌≤◌, ◌<◌, ◌-◌, ◌==◌, ◌||◌, ◌++◌, ◌∷◌, [], length, IfErr, IsTrue, OnOk};
+ghost use Rattle.std.specs.Prelude.{◌≡◌, ◌<◌, ◌-◌, ◌==◌, ◌||◌, ◌++◌, ◌∷◌, [], length, OnOk};
 ghost use Rattle.std.specs.FinMap as map;
 ghost use Rattle.std.specs.List.{range_with_len, slice_index_or};
 ghost use Rattle.half_hash.specs.Zero.{zero_hash, is_zero as all_zero};
-ghost use Rattle.run_io.specs.Bytes.{Rose};
 ghost use Rattle.ledger_spec.specs.Pages.{page_from, in_turn, is_passed, is_skipped};
 ghost use Rattle.shamap_node.specs.Nodes.{hashes_above};
+ghost use Rattle.path_proof.specs.Sources.{LeavesSource, RoseIf};
 ghost use Rattle.map_cursor.specs.Shown.{shown, HasFurther};
 ghost use Rattle.map_cursor.specs.Visits.{Visits, branch_reading};
 
@@ -64,10 +64,7 @@ pub(crate) fn visit<H: NodeHash, S: NodeSource<H>>(
         (page_from H.half query.now.kind query.now.after (64 - length id.now) (hashes_above parent.entry) id.now wanted.now)
         query.now.most (shown page.old) (shown page.new) result }
     ensures further { OnOk result (HasFurther query.now.after page.old → HasFurther query.now.after page.new) }
-    ensures fault { IfErr result (λ fault. fault ≡ ReadFault.Fault → Rose (S.faults source.old) (S.faults source.new)) }
-    ensures same { IsTrue S.tells → S.stored source.new ≡ S.stored source.old }
-    ensures rest { S.rest source.new ≡ S.rest source.old }
-    ensures later { S.faults source.old ≤ S.faults source.new }
+    ensures source { LeavesSource S.tells S.stored S.rest S.faults (RoseIf ReadFault.Fault) source.old source.new result }
 {
     if query.skips(id, wanted, page.leaves.len()) {
         return Ok(());
@@ -97,10 +94,7 @@ fn visit_branches<H: NodeHash, S: NodeSource<H>>(
         (in_turn (branch_reading H.half query.now.kind query.now.after (63 - length id.now) inner.now.hashes id.now) (range_with_len 0 16))
         query.now.most (shown page.old) (shown page.new) result }
     ensures further { OnOk result (HasFurther query.now.after page.old → HasFurther query.now.after page.new) }
-    ensures fault { IfErr result (λ fault. fault ≡ ReadFault.Fault → Rose (S.faults source.old) (S.faults source.new)) }
-    ensures same { IsTrue S.tells → S.stored source.new ≡ S.stored source.old }
-    ensures rest { S.rest source.new ≡ S.rest source.old }
-    ensures later { S.faults source.old ≤ S.faults source.new }
+    ensures source { LeavesSource S.tells S.stored S.rest S.faults (RoseIf ReadFault.Fault) source.old source.new result }
 {
     for b in 0..16u8 {
         visit_branch::<H, S>(alloc, source, query, inner, id, b, page)?;
@@ -125,10 +119,7 @@ fn visit_branch<H: NodeHash, S: NodeSource<H>>(
         (branch_reading H.half query.now.kind query.now.after (63 - length id.now) inner.now.hashes id.now b)
         query.now.most (shown page.old) (shown page.new) result }
     ensures further { OnOk result (HasFurther query.now.after page.old → HasFurther query.now.after page.new) }
-    ensures fault { IfErr result (λ fault. fault ≡ ReadFault.Fault → Rose (S.faults source.old) (S.faults source.new)) }
-    ensures same { IsTrue S.tells → S.stored source.new ≡ S.stored source.old }
-    ensures rest { S.rest source.new ≡ S.rest source.old }
-    ensures later { S.faults source.old ≤ S.faults source.new }
+    ensures source { LeavesSource S.tells S.stored S.rest S.faults (RoseIf ReadFault.Fault) source.old source.new result }
 {
     let wanted = inner.branch(b);
     if wanted.is_zero() {

@@ -1,17 +1,11 @@
 use Rattle.std.specs.FinMap as map
-use Rattle.map_cursor.proofs.PageLaws.{law_of_page, page_but_sets, own_page}
+use Rattle.map_cursor.proofs.PageLaws.{page_of_maps, own_page}
 use Rattle.map_cursor.proofs.cursor.page.Goals as goal
 
-pub returns-clause-sets : goal.returns-clause-sets
-returns-clause-sets g c =
-    law_of_page g.H.NodeHash.half c.known_half.ensures.size c.args.kind c.args.root.now c.args.after.now c.args.n c.read_page.result
+pub returns-clause-maps : goal.returns-clause-maps
+returns-clause-maps g c =
+    page_of_maps g.H.NodeHash.half c.known_half.ensures.size c.args.kind c.args.root.now c.args.after.now c.args.n c.read_page.result
     c.known_key.ensures c.read_page.ensures.page
-
-pub returns-clause-law : goal.returns-clause-law
-returns-clause-law g c =
-    page_but_sets g.H.NodeHash.half c.args.kind c.args.root.now c.args.after.now c.args.n c.read_page.result
-    (law_of_page g.H.NodeHash.half c.known_half.ensures.size c.args.kind c.args.root.now c.args.after.now c.args.n c.read_page.result
-    c.known_key.ensures c.read_page.ensures.page)
 
 pub returns-clause-own : goal.returns-clause-own
 returns-clause-own g c =

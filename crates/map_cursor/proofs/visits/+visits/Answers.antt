@@ -46,9 +46,13 @@ visit-returns-in_err-take-clause-visited g t c =
     c.args.page.now.leaves.items c.if-skips.false c.skips.ensures (c.len.ensures ∙ c.args.page.now.leaves.ok.0))
     c.in_err-take.ensures.memory)
 
-pub visit-returns-in_err-take-clause-fault : goal.visit-returns-in_err-take-clause-fault
-visit-returns-in_err-take-clause-fault g t c =
-    no_fault _ c.in_err-take.field-0.0 _ c.from_residual-in_err-take.ensures c.in_err-take.ensures.memory
+pub visit-returns-in_err-take-clause-source : goal.visit-returns-in_err-take-clause-source
+visit-returns-in_err-take-clause-source g t c = record {
+  same = c.in_ok-node.ensures.source.same;
+  rest = c.in_ok-node.ensures.source.rest;
+  later = c.in_ok-node.ensures.source.later;
+  cause = no_fault _ c.in_err-take.field-0.0 _ c.from_residual-in_err-take.ensures c.in_err-take.ensures.memory;
+}
 
 -- the inner node fits and what follows is its branches' turn, so what they want is wanted here
 pub visit-returns-in_err-visit_branches-clause-visited : goal.visit-returns-in_err-visit_branches-clause-visited
@@ -62,7 +66,7 @@ visit-returns-in_err-visit_branches-clause-visited g t c =
     c.args.id.now c.args.wanted.now) c.args.query.now.most (shown c.args.page.now) _ _ c.in_err-visit_branches.field-0.0
     c.from_residual-in_err-visit_branches.ensures
     (inner_refused g.H.NodeHash.half c.args.query.now.kind g.S.NodeSource.tells (map.get (g.S.NodeSource.stored c.args.source.now))
-    (map.get (g.S.NodeSource.stored c.node_at.new.source)) (λ told. ap map.get (c.in_ok-node.ensures.same told))
+    (map.get (g.S.NodeSource.stored c.node_at.new.source)) (λ told. ap map.get (c.in_ok-node.ensures.source.same told))
     c.args.query.now.after (64 - length c.args.id.now) (63 - length c.args.id.now) (hashes_above c.args.parent) c.args.id.now
     c.args.wanted.now c.args.query.now.most (shown c.args.page.now) (shown c.take.new.self) (held c.in_ok-node.node.value)
     c.in-Some.inner.now.hashes
@@ -93,7 +97,7 @@ visit-returns-clause-visited g t c =
     subst (Takes c.args.query.now.after (held c.in_ok-node.node.value) (shown c.args.page.now) (shown c.take.new.self))
     (sym c.inner_in.ensures ∙ ap hashes_above c.in-Some.is) c.in_ok-take.ensures.taken in
     inner_visited g.H.NodeHash.half c.args.query.now.kind g.S.NodeSource.tells (map.get (g.S.NodeSource.stored c.args.source.now))
-    (map.get (g.S.NodeSource.stored c.node_at.new.source)) (λ told. ap map.get (c.in_ok-node.ensures.same told))
+    (map.get (g.S.NodeSource.stored c.node_at.new.source)) (λ told. ap map.get (c.in_ok-node.ensures.source.same told))
     c.args.query.now.after (64 - length c.args.id.now) (63 - length c.args.id.now) (hashes_above c.args.parent) c.args.id.now
     c.args.wanted.now c.args.query.now.most (shown c.args.page.now) (shown c.take.new.self) (held c.in_ok-node.node.value)
     c.in-Some.inner.now.hashes
@@ -140,9 +144,9 @@ visit_branches-loop-b-preserved g t c = record {
       (shown c.loop-b.page) c.loop-b.invariant.visited _ refl _
       c.in_ok-visit_branch.ensures.visited;
   further = λ all. c.in_ok-visit_branch.ensures.further (c.loop-b.invariant.further all);
-  same = λ told. c.in_ok-visit_branch.ensures.same told ∙ c.loop-b.invariant.same told;
-  rest = c.in_ok-visit_branch.ensures.rest ∙ c.loop-b.invariant.rest;
-  later = omega arith;
+  same = λ told. c.in_ok-visit_branch.ensures.source.same told ∙ c.loop-b.invariant.same told;
+  rest = c.in_ok-visit_branch.ensures.source.rest ∙ c.loop-b.invariant.rest;
+  later = omega (arith, c.loop-b.invariant.later, c.in_ok-visit_branch.ensures.source.later);
 }
 
 -- an empty branch is skipped
