@@ -1,5 +1,6 @@
 -- What a change does to a list of nodes and to what a link stands for.
 use Rattle.std.specs.Prelude.{◌≡◌, ◌≢◌, ℕ, suc, ◌<◌, ◌≤◌, Bool, true, false, ◌⊎◌, IsTrue, IsSome, IfSome, MatchOption, Option, None, Some}
+use Rattle.std.specs.Prelude.{IfOk, OnErr, Result}
 use Rattle.std.specs.Prelude.{List, [], ◌∷◌, ◌++◌, length}
 use Rattle.std.specs.List.{flat_map, slice_index_or}
 use Rattle.nib_path.specs.Paths.{lies_under}
@@ -8,6 +9,7 @@ use Rattle.ledger_spec.specs.Bytes.{Bytes, Hash, Half, Lookup, Items, branches}
 use Rattle.ledger_spec.specs.Forms.{IsItem}
 use Rattle.ledger_spec.specs.Maps.{hash_cmp, insert_in, get_in, has_in, remove_in}
 use Rattle.ledger_spec.specs.Tree.{Entry}
+use Rattle.cow_map.specs.declared.fault.MapFault.{MapFault}
 use Rattle.cow_map.specs.declared.link.Link.{Link}
 use Rattle.cow_map.specs.declared.link.Link.TheVariants.{Empty}
 use Rattle.cow_map.specs.declared.link.Only.{Only}
@@ -106,3 +108,13 @@ abbrev pub RemovesKey : Half → Lookup → CowTree → CowTree → Hash → Boo
 RemovesKey half stored old new key there =
     (small : Lookup) → IsSub small stored → (items : Items) → StandsFor half small old items
     → (there ≡ has_in hash_cmp items key) × StandsFor half small new (remove_in hash_cmp items key)
+
+-- the new map is of the old one's kind; at most so many of its nodes are new, and those that were there are as they were
+pub record MapGrowsBy (most : ℕ) (old new : CowTree) : Type 0 where
+  pub kind : new.kind ≡ old.kind
+  pub nodes : GrowsBy most old.nodes new.nodes
+
+-- a map from which nothing was removed is as it was, its nodes too
+pub record StaysUnlessThere (old new : CowTree) (result : Result Bool MapFault) : Type 0 where
+  pub absent : IfOk result (λ there. there ≡ false → new ≡ old)
+  pub err : OnErr result (new ≡ old)

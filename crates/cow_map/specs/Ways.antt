@@ -4,6 +4,7 @@ use Rattle.std.specs.Prelude.{List, [], ◌∷◌, ◌++◌, length, count_by, s
 use Rattle.std.specs.List.{position, slice_index_or}
 use Rattle.std.specs.Option.{option_or}
 use Rattle.nib_path.specs.Paths.{nibble_of}
+use Rattle.run_io.specs.Bytes.{Rose}
 use Rattle.ledger_spec.specs.declared.Kind.{Kind}
 use Rattle.ledger_spec.specs.declared.ShapeFault.{ShapeFault}
 use Rattle.ledger_spec.specs.declared.ShapeFault.TheVariants.{LoneLeaf}
@@ -132,3 +133,8 @@ IsFailure causes.Memory = Unit {0}
 -- no form is named, since none is made
 abbrev pub NamesNoForm : MapFault → Type 0
 NamesNoForm fault = (form : Bytes) → fault ≢ causes.ZeroHash form
+
+-- why a call that asks a source ends: a failure of the source comes only where its count of faults rose, and no form is named
+pub record IsSourceFault (before after : ℕ) (fault : MapFault) : Type 0 where
+  pub risen : fault ≡ causes.Fault → Rose before after
+  pub formless : NamesNoForm fault

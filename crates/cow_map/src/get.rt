@@ -1,12 +1,11 @@
 //! Reading the data of a key.
-ghost use Rattle.std.specs.Prelude.{◌≡◌, ◌≤◌, ◌-◌, ◌∷◌, [], List, length, IsTrue, IfErr, IfOk};
+ghost use Rattle.std.specs.Prelude.{◌≡◌, ◌-◌, ◌∷◌, [], List, length, IsTrue, IfOk};
 ghost use Rattle.std.specs.FinMap as map;
 ghost use Rattle.nib_path.specs.Paths.{lies_under};
-ghost use Rattle.run_io.specs.Bytes.{Rose};
 ghost use Rattle.ledger_spec.specs.Maps.{hash_cmp, get_in};
-ghost use Rattle.cow_map.specs.declared.fault.MapFault.TheVariants as causes;
+ghost use Rattle.path_proof.specs.Sources.{LeavesSource};
 ghost use Rattle.cow_map.specs.Bodies.{IsBelow};
-ghost use Rattle.cow_map.specs.Ways.{stop_at, Goes, NamesNoForm};
+ghost use Rattle.cow_map.specs.Ways.{stop_at, Goes, IsSourceFault};
 ghost use Rattle.cow_map.specs.Edits.{Gets};
 
 use crate::arena::Arena;
@@ -36,11 +35,7 @@ pub(crate) fn get_at<H: NodeHash, S: NodeSource<H>>(
         (Gets H.half (map.get (S.stored source.old)) kind arena.now (64 - length id.now) id.now link.now key.now) }
     ensures way { IsTrue S.tells →
         Goes (stop_at H.half (map.get (S.stored source.old)) kind arena.now (64 - length id.now) lone id.now link.now key.now) result }
-    ensures same { IsTrue S.tells → S.stored source.new ≡ S.stored source.old }
-    ensures rest { S.rest source.new ≡ S.rest source.old }
-    ensures later { S.faults source.old ≤ S.faults source.new }
-    ensures cause { IfErr result (λ e. e ≡ causes.Fault → Rose (S.faults source.old) (S.faults source.new)) }
-    ensures formless { IfErr result NamesNoForm }
+    ensures source { LeavesSource S.tells S.stored S.rest S.faults IsSourceFault source.old source.new result }
 {
     match look::<H, S>(alloc, arena, source, kind, lone, id, link)? {
         Seen::Nothing => Ok(None),

@@ -1,17 +1,16 @@
 //! What is seen through a link at its place.
-ghost use Rattle.std.specs.Prelude.{◌≡◌, ◌≤◌, ◌<◌, ℕ, length, IsTrue, IfErr, IfOk, None, Some};
+ghost use Rattle.std.specs.Prelude.{◌≡◌, ◌<◌, ℕ, length, IsTrue, IfErr, IfOk, None, Some};
 ghost use Rattle.std.specs.List.{slice_get};
 ghost use Rattle.std.specs.FinMap as map;
-ghost use Rattle.run_io.specs.Bytes.{Rose};
-ghost use Rattle.cow_map.specs.declared.fault.MapFault.TheVariants as causes;
 ghost use Rattle.ledger_spec.specs.Bytes.{Bytes};
 ghost use Rattle.ledger_spec.specs.Rules.{fault_of};
 ghost use Rattle.ledger_spec.specs.Findings.{sight_of, sound};
 ghost use Rattle.shamap_node.specs.Nodes.{held};
+ghost use Rattle.path_proof.specs.Sources.{LeavesSource};
 ghost use Rattle.cow_map.specs.Bodies.{leaf as leaf_body, IsBelow};
 ghost use Rattle.cow_map.specs.Shown.{body_of};
 ghost use Rattle.cow_map.specs.Trees.{Found, found_held, found_seen, found_body, found_at};
-ghost use Rattle.cow_map.specs.Ways.{lone_or, NamesNoForm};
+ghost use Rattle.cow_map.specs.Ways.{lone_or, IsSourceFault};
 ghost use Rattle.cow_map.specs.Looks.{SeenAs, Stops, Looks, IsPlaced};
 
 use crate::arena::Arena;
@@ -47,11 +46,7 @@ pub(crate) fn look<H: NodeHash, S: NodeSource<H>>(
     ensures seen { IsTrue S.tells →
         Looks id.now (lone_or lone id.now (found_at H.half (map.get (S.stored source.old)) kind arena.now id.now link.now)) result }
     ensures placed { IfOk result (IsPlaced (length arena.now) id.now) }
-    ensures same { IsTrue S.tells → S.stored source.new ≡ S.stored source.old }
-    ensures rest { S.rest source.new ≡ S.rest source.old }
-    ensures later { S.faults source.old ≤ S.faults source.new }
-    ensures cause { IfErr result (λ e. e ≡ causes.Fault → Rose (S.faults source.old) (S.faults source.new)) }
-    ensures formless { IfErr result NamesNoForm }
+    ensures source { LeavesSource S.tells S.stored S.rest S.faults IsSourceFault source.old source.new result }
 {
     let seen = through::<H, S>(alloc, arena, source, kind, id, link)?;
     alone(seen, lone, id)
@@ -69,11 +64,7 @@ fn through<H: NodeHash, S: NodeSource<H>>(
     requires { IsBelow (length arena.now) link.now }
     ensures seen { IsTrue S.tells → Looks id.now (found_at H.half (map.get (S.stored source.old)) kind arena.now id.now link.now) result }
     ensures placed { IfOk result (IsPlaced (length arena.now) id.now) }
-    ensures same { IsTrue S.tells → S.stored source.new ≡ S.stored source.old }
-    ensures rest { S.rest source.new ≡ S.rest source.old }
-    ensures later { S.faults source.old ≤ S.faults source.new }
-    ensures cause { IfErr result (λ e. e ≡ causes.Fault → Rose (S.faults source.old) (S.faults source.new)) }
-    ensures formless { IfErr result NamesNoForm }
+    ensures source { LeavesSource S.tells S.stored S.rest S.faults IsSourceFault source.old source.new result }
 {
     match link {
         Link::Empty => Ok(Seen::Nothing),
@@ -90,8 +81,7 @@ fn through<H: NodeHash, S: NodeSource<H>>(
 fn alone(seen: Seen, lone: bool, id: &NodeId) -> Result<Seen, MapFault>
     ensures seen { (found : Found) → SeenAs found seen → Looks id.now (lone_or lone id.now found) result }
     ensures same { IfOk result (λ s. s ≡ seen) }
-    ensures cause { IfErr result (λ e. e ≡ causes.Fault → ⊥) }
-    ensures formless { IfErr result NamesNoForm }
+    ensures cause { (before after : ℕ) → IfErr result (IsSourceFault before after) }
 {
     match seen {
         Seen::Leaf(..) if lone && id.depth() >= 2 => Err(MapFault::Shape {
@@ -107,8 +97,7 @@ fn own(alloc: Global, arena: &Arena, at: usize, id: &NodeId) -> Result<Seen, Map
     requires { at < length arena.now }
     ensures seen { Looks id.now (found_body id.now (slice_get arena.now at)) result }
     ensures placed { IfOk result (IsPlaced (length arena.now) id.now) }
-    ensures cause { IfErr result (λ e. e ≡ causes.Fault → ⊥) }
-    ensures formless { IfErr result NamesNoForm }
+    ensures cause { (before after : ℕ) → IfErr result (IsSourceFault before after) }
 {
     id.known();
     arena.known();
@@ -130,8 +119,7 @@ fn own(alloc: Global, arena: &Arena, at: usize, id: &NodeId) -> Result<Seen, Map
 fn own_leaf(alloc: Global, item: &Item, id: &NodeId) -> Result<Seen, MapFault>
     ensures seen { Looks id.now (found_body id.now (Some (leaf_body item.now.key item.now.value))) result }
     ensures placed { (n : ℕ) → IfOk result (IsPlaced n id.now) }
-    ensures cause { IfErr result (λ e. e ≡ causes.Fault → ⊥) }
-    ensures formless { IfErr result NamesNoForm }
+    ensures cause { (before after : ℕ) → IfErr result (IsSourceFault before after) }
 {
     if id.depth() == 0 {
         return Err(MapFault::Shape {
@@ -163,11 +151,7 @@ fn load<H: NodeHash, S: NodeSource<H>>(
     ensures stops { IsTrue S.tells → IfErr result
         (let sight = sight_of H.half (λ n. fault_of n None kind id.now) (map.get (S.stored source.old) hash.now) in
         Stops id.now (found_seen hash.now sight)) }
-    ensures same { IsTrue S.tells → S.stored source.new ≡ S.stored source.old }
-    ensures rest { S.rest source.new ≡ S.rest source.old }
-    ensures later { S.faults source.old ≤ S.faults source.new }
-    ensures cause { IfErr result (λ e. e ≡ causes.Fault → Rose (S.faults source.old) (S.faults source.new)) }
-    ensures formless { IfErr result NamesNoForm }
+    ensures source { LeavesSource S.tells S.stored S.rest S.faults IsSourceFault source.old source.new result }
 {
     match source.fetch(alloc, hash) {
         Ok(Some(node)) => match shape(&node, None, kind, id) {

@@ -1,13 +1,13 @@
 //! A map that shares its nodes with its snapshots.
 ghost use Rattle.std.specs.Prelude.{◌≡◌, ◌≢◌, ◌≤◌, ◌<◌, ◌++◌, ℕ, [], length, vec_len, Some, IsTrue, IfErr, IfOk, OnErr, OnOk, MatchBool};
-ghost use Rattle.std.specs.Prelude.{MatchOption, false};
+ghost use Rattle.std.specs.Prelude.{MatchOption};
 ghost use Rattle.std.specs.List.{flat_map, slice_get, slice_index_or};
 ghost use Rattle.std.specs.FinMap as map;
-ghost use Rattle.run_io.specs.Bytes.{Rose};
 ghost use Rattle.ledger_spec.specs.Bytes.{Half, Items, Lookup, branches};
 ghost use Rattle.ledger_spec.specs.Maps.{hash_cmp, get_in, IsMap};
 ghost use Rattle.cow_map.specs.declared.fault.MapFault.TheVariants as causes;
 ghost use Rattle.ledger_spec.specs.Commits.{AreOwn, IsWholeMap};
+ghost use Rattle.path_proof.specs.Sources.{LeavesSource};
 ghost use Rattle.ledger_spec.specs.Findings.{items_of};
 ghost use Rattle.cow_map.specs.Trees.{link_to, StandsFor};
 ghost use Rattle.std.specs.Prelude.{map as list_map};
@@ -17,9 +17,9 @@ ghost use Rattle.cow_map.specs.Gathered.{entries_of, nothing_held, moved_link, m
 ghost use Rattle.cow_map.specs.Laws.{IsSized};
 ghost use Rattle.cow_map.specs.Seals.{Picks};
 ghost use Rattle.cow_map.specs.Sealing.{AreNamed, named, first_zero, made_of_map, IsSealFault, NamesZero};
-ghost use Rattle.cow_map.specs.Ways.{stop_of, removal_stop_of, Goes, IsFailure, NamesNoForm};
+ghost use Rattle.cow_map.specs.Ways.{stop_of, removal_stop_of, Goes, IsFailure, IsSourceFault};
 ghost use Rattle.cow_map.specs.Unloaded.{KeepsReach};
-ghost use Rattle.cow_map.specs.Edits.{GrowsBy, SetsItem, RemovesKey, SettlesAt};
+ghost use Rattle.cow_map.specs.Edits.{MapGrowsBy, SetsItem, RemovesKey, SettlesAt, StaysUnlessThere};
 ghost use Rattle.cow_map.specs.Bodies.{IsBelow, AreBodies};
 ghost use Rattle.cow_map.specs.Shown.{body_of};
 ghost use Rattle.cow_map.specs.declared.link.Link.TheVariants.{Empty as empty_link};
@@ -241,11 +241,7 @@ impl CowMap {
         // where the map stands for something, only a failure of the source or want of memory comes
         ensures free { IsTrue S.tells → (items : Items) →
             StandsFor H.half (map.get (S.stored source.old)) self.now items → IfErr result IsFailure }
-        ensures same { IsTrue S.tells → S.stored source.new ≡ S.stored source.old }
-        ensures rest { S.rest source.new ≡ S.rest source.old }
-        ensures later { S.faults source.old ≤ S.faults source.new }
-        ensures cause { IfErr result (λ e. e ≡ causes.Fault → Rose (S.faults source.old) (S.faults source.new)) }
-        ensures formless { IfErr result NamesNoForm }
+        ensures source { LeavesSource S.tells S.stored S.rest S.faults IsSourceFault source.old source.new result }
     {
         let top = self.top;
         get_at::<H, S>(
@@ -274,10 +270,8 @@ impl CowMap {
         // where the old map stood for something, what the new one leaves to the source the old one did, or it is reached from that
         ensures reach { IsTrue S.tells → OnOk result (KeepsReach H.half (map.get (S.stored source.old)) self.old self.new) }
 
-        ensures kind { self.new.kind ≡ self.old.kind }
-
         // at most 65 nodes are new, and those that were there are as they were
-        ensures grows { GrowsBy 65 self.old.nodes self.new.nodes }
+        ensures grows { MapGrowsBy 65 self.old self.new }
 
         // what the source lacks, or what breaks a rule of shape, is named exactly where it is the first such on the way
         ensures way { IsTrue S.tells → Goes (stop_of H.half (map.get (S.stored source.old)) self.old item.key) result }
@@ -286,11 +280,7 @@ impl CowMap {
         ensures free { IsTrue S.tells → (items : Items) →
             StandsFor H.half (map.get (S.stored source.old)) self.old items → IfErr result IsFailure }
         ensures err { OnErr result (self.new ≡ self.old) }
-        ensures same { IsTrue S.tells → S.stored source.new ≡ S.stored source.old }
-        ensures rest { S.rest source.new ≡ S.rest source.old }
-        ensures later { S.faults source.old ≤ S.faults source.new }
-        ensures cause { IfErr result (λ e. e ≡ causes.Fault → Rose (S.faults source.old) (S.faults source.new)) }
-        ensures formless { IfErr result NamesNoForm }
+        ensures source { LeavesSource S.tells S.stored S.rest S.faults IsSourceFault source.old source.new result }
     {
         let start = self.nodes.len();
         let top = self.top;
@@ -330,10 +320,8 @@ impl CowMap {
         // where the old map stood for something, what the new one leaves to the source the old one did, or it is reached from that
         ensures reach { IsTrue S.tells → OnOk result (KeepsReach H.half (map.get (S.stored source.old)) self.old self.new) }
 
-        ensures kind { self.new.kind ≡ self.old.kind }
-
         // at most 64 nodes are new, and those that were there are as they were
-        ensures grows { GrowsBy 64 self.old.nodes self.new.nodes }
+        ensures grows { MapGrowsBy 64 self.old self.new }
 
         // what the source lacks, or what breaks a rule of shape, is named exactly where it is the first such on the way, or else
         // stands beside the key's leaf as the only other branch of an inner node below the root
@@ -344,13 +332,8 @@ impl CowMap {
             StandsFor H.half (map.get (S.stored source.old)) self.old items → IfErr result IsFailure }
 
         // a map without the key stays as it is, its nodes too
-        ensures absent { IfOk result (λ there. there ≡ false → self.new ≡ self.old) }
-        ensures err { OnErr result (self.new ≡ self.old) }
-        ensures same { IsTrue S.tells → S.stored source.new ≡ S.stored source.old }
-        ensures rest { S.rest source.new ≡ S.rest source.old }
-        ensures later { S.faults source.old ≤ S.faults source.new }
-        ensures cause { IfErr result (λ e. e ≡ causes.Fault → Rose (S.faults source.old) (S.faults source.new)) }
-        ensures formless { IfErr result NamesNoForm }
+        ensures stays { StaysUnlessThere self.old self.new result }
+        ensures source { LeavesSource S.tells S.stored S.rest S.faults IsSourceFault source.old source.new result }
     {
         let start = self.nodes.len();
         let top = self.top;

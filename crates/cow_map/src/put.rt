@@ -1,16 +1,15 @@
 //! Setting an item.
-ghost use Rattle.std.specs.Prelude.{◌≡◌, ◌≢◌, ◌≤◌, ◌<◌, ◌-◌, ◌∷◌, ◌++◌, [], List, length, IsTrue, IfErr, IfOk};
+ghost use Rattle.std.specs.Prelude.{◌≢◌, ◌≤◌, ◌<◌, ◌-◌, ◌∷◌, ◌++◌, [], List, length, IsTrue, IfOk};
 ghost use Rattle.std.specs.FinMap as map;
 ghost use Rattle.nib_path.specs.Paths.{lies_under};
-ghost use Rattle.run_io.specs.Bytes.{Rose};
 ghost use Rattle.ledger_spec.specs.declared.Kind.{Kind as KindOf};
 ghost use Rattle.ledger_spec.specs.Bytes.{Bytes, Hash, Half, Lookup};
 ghost use Rattle.ledger_spec.specs.Maps.{hash_cmp, insert_in};
 ghost use Rattle.ledger_spec.specs.Tree.{Entry};
-ghost use Rattle.cow_map.specs.declared.fault.MapFault.TheVariants as causes;
+ghost use Rattle.path_proof.specs.Sources.{LeavesSource};
 ghost use Rattle.cow_map.specs.Bodies.{IsBelow};
 ghost use Rattle.cow_map.specs.Trees.{fewest, StandsAt};
-ghost use Rattle.cow_map.specs.Ways.{stop_at, Goes, NamesNoForm};
+ghost use Rattle.cow_map.specs.Ways.{stop_at, Goes, IsSourceFault};
 ghost use Rattle.cow_map.specs.Edits.{GrowsBy, Sets, LeadsTo};
 
 use crate::arena::Arena;
@@ -45,11 +44,7 @@ pub(crate) fn put_at<H: NodeHash, S: NodeSource<H>>(
         Sets H.half (map.get (S.stored source.old)) kind arena.old arena.new left id.now link.now next item.key item.value) }
     ensures way { IsTrue S.tells →
         Goes (stop_at H.half (map.get (S.stored source.old)) kind arena.old (64 - length id.now) lone id.now link.now item.key) result }
-    ensures same { IsTrue S.tells → S.stored source.new ≡ S.stored source.old }
-    ensures rest { S.rest source.new ≡ S.rest source.old }
-    ensures later { S.faults source.old ≤ S.faults source.new }
-    ensures cause { IfErr result (λ e. e ≡ causes.Fault → Rose (S.faults source.old) (S.faults source.new)) }
-    ensures formless { IfErr result NamesNoForm }
+    ensures source { LeavesSource S.tells S.stored S.rest S.faults IsSourceFault source.old source.new result }
 {
     id.known();
     arena.known();

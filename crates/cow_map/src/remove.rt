@@ -1,16 +1,15 @@
 //! Removing a key.
-ghost use Rattle.std.specs.Prelude.{◌≡◌, ◌≢◌, ◌<◌, ◌≤◌, ◌-◌, ℕ, length, IsTrue, IfErr, IfOk, None, Some, MatchOption};
+ghost use Rattle.std.specs.Prelude.{◌≡◌, ◌≢◌, ◌<◌, ◌-◌, ℕ, length, IsTrue, IfOk, None, Some, MatchOption};
 ghost use Rattle.std.specs.List.{slice_index_or};
 ghost use Rattle.std.specs.FinMap as map;
 ghost use Rattle.nib_path.specs.Paths.{lies_under};
-ghost use Rattle.run_io.specs.Bytes.{Rose};
-ghost use Rattle.cow_map.specs.declared.fault.MapFault.TheVariants as causes;
+ghost use Rattle.path_proof.specs.Sources.{LeavesSource};
 ghost use Rattle.cow_map.specs.declared.link.Link.TheVariants.{Empty as empty_link};
 ghost use Rattle.cow_map.specs.Bodies.{IsBelow};
 ghost use Rattle.cow_map.specs.Edits.{Counts, GrowsBy, Removes, Leaves, Settles, IsBelowIf, IsLeaf};
 ghost use Rattle.cow_map.specs.declared.link.Only.TheVariants as only;
 ghost use Rattle.cow_map.specs.Trees.{found_at};
-ghost use Rattle.cow_map.specs.Ways.{removal_stop_at, stop_here, stop_left, Goes, NamesNoForm};
+ghost use Rattle.cow_map.specs.Ways.{removal_stop_at, stop_here, stop_left, Goes, IsSourceFault};
 
 use crate::arena::Arena;
 use crate::link::Only;
@@ -47,11 +46,7 @@ pub(crate) fn remove_at<H: NodeHash, S: NodeSource<H>>(
     ensures leaves { IsTrue S.tells → IfOk result
         (let there = found_at H.half (map.get (S.stored source.old)) kind in
         Leaves (there arena.new id.now) lone id.now key.now (there arena.old id.now link.now)) }
-    ensures same { IsTrue S.tells → S.stored source.new ≡ S.stored source.old }
-    ensures rest { S.rest source.new ≡ S.rest source.old }
-    ensures later { S.faults source.old ≤ S.faults source.new }
-    ensures cause { IfErr result (λ e. e ≡ causes.Fault → Rose (S.faults source.old) (S.faults source.new)) }
-    ensures formless { IfErr result NamesNoForm }
+    ensures source { LeavesSource S.tells S.stored S.rest S.faults IsSourceFault source.old source.new result }
 {
     id.known();
     arena.known();
@@ -114,11 +109,7 @@ pub(crate) fn settle<H: NodeHash, S: NodeSource<H>>(
     ensures sound { IsTrue S.tells → IfOk result (λ link.
         stop_here id.now (found_at H.half (map.get (S.stored source.old)) kind arena.new id.now link) ≡ None) }
     ensures some { IfOk result (λ link. link ≡ empty_link → (c : ℕ) → slice_index_or links c empty_link ≡ empty_link) }
-    ensures same { IsTrue S.tells → S.stored source.new ≡ S.stored source.old }
-    ensures rest { S.rest source.new ≡ S.rest source.old }
-    ensures later { S.faults source.old ≤ S.faults source.new }
-    ensures cause { IfErr result (λ e. e ≡ causes.Fault → Rose (S.faults source.old) (S.faults source.new)) }
-    ensures formless { IfErr result NamesNoForm }
+    ensures source { LeavesSource S.tells S.stored S.rest S.faults IsSourceFault source.old source.new result }
 {
     arena.known();
     links.known();
@@ -150,11 +141,7 @@ fn one_left<H: NodeHash, S: NodeSource<H>>(
     ensures sound { IsTrue S.tells → IfOk result (λ link.
         stop_here id.now (found_at H.half (map.get (S.stored source.old)) kind arena.new id.now link) ≡ None) }
     ensures some { IfOk result (λ link. link ≡ empty_link → (c : ℕ) → slice_index_or links c empty_link ≡ empty_link) }
-    ensures same { IsTrue S.tells → S.stored source.new ≡ S.stored source.old }
-    ensures rest { S.rest source.new ≡ S.rest source.old }
-    ensures later { S.faults source.old ≤ S.faults source.new }
-    ensures cause { IfErr result (λ e. e ≡ causes.Fault → Rose (S.faults source.old) (S.faults source.new)) }
-    ensures formless { IfErr result NamesNoForm }
+    ensures source { LeavesSource S.tells S.stored S.rest S.faults IsSourceFault source.old source.new result }
 {
     arena.known();
     links.known();
@@ -182,11 +169,7 @@ fn is_leaf<H: NodeHash, S: NodeSource<H>>(
         (IsLeaf id.now (found_at H.half (map.get (S.stored source.old)) kind arena.now id.now link.now)) }
     ensures way { IsTrue S.tells →
         Goes (stop_here id.now (found_at H.half (map.get (S.stored source.old)) kind arena.now id.now link.now)) result }
-    ensures same { IsTrue S.tells → S.stored source.new ≡ S.stored source.old }
-    ensures rest { S.rest source.new ≡ S.rest source.old }
-    ensures later { S.faults source.old ≤ S.faults source.new }
-    ensures cause { IfErr result (λ e. e ≡ causes.Fault → Rose (S.faults source.old) (S.faults source.new)) }
-    ensures formless { IfErr result NamesNoForm }
+    ensures source { LeavesSource S.tells S.stored S.rest S.faults IsSourceFault source.old source.new result }
 {
     match look::<H, S>(alloc, arena, source, kind, false, id, link)? {
         Seen::Nothing => Ok(false),

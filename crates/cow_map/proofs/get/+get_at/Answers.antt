@@ -20,7 +20,7 @@ returns-in_err-get_at-in-Inner-clause-way g t c tells =
     rw (p.1, p.2) (goes_same (Option Bytes) (Err c.in_err-get_at-in-Inner.field-0.0) _ _
     (way_step g.H.NodeHash.half (map.get (g.S.NodeSource.stored c.args.source.now)) c.args.kind c.args.arena.now c.args.lone c.args.id.now
     c.args.link.now c.args.key.now (map.get (g.S.NodeSource.stored c.look.new.source))
-    c.below.result c.get.result c.is_only.result c.toward-b.result c.in-Inner.links (ap (λ h. map.get h) (c.look.ensures.same tells))
+    c.below.result c.get.result c.is_only.result c.toward-b.result c.in-Inner.links (ap (λ h. map.get h) (c.look.ensures.source.same tells))
     placed.0 c.toward-b.ensures.value shown c.below.ensures c.get.ensures c.is_only.ensures) (c.in_err-get_at-in-Inner.ensures.way tells))
 
 pub returns-in-Nothing-clause-gets : goal.returns-in-Nothing-clause-gets
@@ -55,7 +55,7 @@ returns-in_ok-get_at-in-Inner-clause-gets g t c tells =
     fork_gets g.H.NodeHash.half (map.get (g.S.NodeSource.stored c.args.source.now)) c.args.kind c.args.arena.now c.args.id.now
     c.args.link.now c.args.key.now (map.get (g.S.NodeSource.stored c.look.new.source)) c.below.result c.get.result c.in-Inner.links
     c.toward-b.result
-    c.in_ok-get_at-in-Inner.field-0 (ap (λ h. map.get h) (c.look.ensures.same tells)) (lone_fork c.args.lone c.args.id.now _ _ shown)
+    c.in_ok-get_at-in-Inner.field-0 (ap (λ h. map.get h) (c.look.ensures.source.same tells)) (lone_fork c.args.lone c.args.id.now _ _ shown)
     placed.0 c.toward-b.ensures.small (c.toward-b.ensures.under c.requires.under) c.below.ensures c.get.ensures
     (c.in_ok-get_at-in-Inner.ensures.gets tells)
 
@@ -66,5 +66,5 @@ returns-in_ok-get_at-in-Inner-clause-way g t c tells =
     let placed = rw c.in-Inner.is at c.in_ok-look.ensures.placed in
     way_step g.H.NodeHash.half (map.get (g.S.NodeSource.stored c.args.source.now)) c.args.kind c.args.arena.now c.args.lone c.args.id.now
     c.args.link.now c.args.key.now (map.get (g.S.NodeSource.stored c.look.new.source))
-    c.below.result c.get.result c.is_only.result c.toward-b.result c.in-Inner.links (ap (λ h. map.get h) (c.look.ensures.same tells))
+    c.below.result c.get.result c.is_only.result c.toward-b.result c.in-Inner.links (ap (λ h. map.get h) (c.look.ensures.source.same tells))
     placed.0 c.toward-b.ensures.value shown c.below.ensures c.get.ensures c.is_only.ensures ∙ c.in_ok-get_at-in-Inner.ensures.way tells

@@ -21,7 +21,7 @@ returns-in_err-next-in-Inner-clause-way g t c tells =
     rw (p.1, p.2) (goes_same Link (Err c.in_err-next-in-Inner.field-0.0) _ _
     (way_step g.H.NodeHash.half (map.get (g.S.NodeSource.stored c.args.source.now)) c.args.kind c.args.arena.now c.args.lone c.args.id.now
     c.args.link.now c.args.item.key (map.get (g.S.NodeSource.stored c.look.new.source))
-    c.below.result c.get.result c.is_only.result c.toward-b.result c.in-Inner.links (ap (λ h. map.get h) (c.look.ensures.same tells))
+    c.below.result c.get.result c.is_only.result c.toward-b.result c.in-Inner.links (ap (λ h. map.get h) (c.look.ensures.source.same tells))
     placed.0 (c.toward-b.ensures.value ∙ ap (λ k. nibble_of k (length c.args.id.now)) c.key.ensures)
     shown c.below.ensures c.get.ensures c.is_only.ensures) (c.in_err-next-in-Inner.ensures.way tells))
 
@@ -71,8 +71,8 @@ returns-clause-sets g t c tells =
     c.in_ok-next-in-Inner.ensures.grows.0
     c.args.id.now c.below.result c.args.link.now c.get.result c.in_ok-next-in-Inner.next c.in_ok-push_inner-in-Inner.field-0
     c.in-Inner.links c.with.result c.toward-b.result c.args.item.key c.args.item.value
-    (ap (λ h. map.get h) (c.look.ensures.same tells)) c.in_ok-next-in-Inner.ensures.grows.1 c.known-2.ensures c.known-in-Inner.ensures
-    c.requires.below (lone_fork c.args.lone c.args.id.now _ _ shown) placed.0 c.toward-b.ensures.small
+    (ap (λ h. map.get h) (c.look.ensures.source.same tells)) c.in_ok-next-in-Inner.ensures.grows.1 c.known-2.ensures
+    c.known-in-Inner.ensures c.requires.below (lone_fork c.args.lone c.args.id.now _ _ shown) placed.0 c.toward-b.ensures.small
     c.in_ok-next-in-Inner.ensures.below
     (subst (λ (k : List ℕ). IsTrue (lies_under (c.args.id.now ++ c.toward-b.result ∷ []) k)) c.key.ensures
     (c.toward-b.ensures.under (subst (λ (k : List ℕ). IsTrue (lies_under c.args.id.now k)) (sym c.key.ensures) c.requires.under)))
@@ -86,6 +86,6 @@ returns-clause-way g t c tells =
     let placed = rw c.in-Inner.is at c.in_ok-look.ensures.placed in
     way_step g.H.NodeHash.half (map.get (g.S.NodeSource.stored c.args.source.now)) c.args.kind c.args.arena.now c.args.lone c.args.id.now
     c.args.link.now c.args.item.key (map.get (g.S.NodeSource.stored c.look.new.source))
-    c.below.result c.get.result c.is_only.result c.toward-b.result c.in-Inner.links (ap (λ h. map.get h) (c.look.ensures.same tells))
+    c.below.result c.get.result c.is_only.result c.toward-b.result c.in-Inner.links (ap (λ h. map.get h) (c.look.ensures.source.same tells))
     placed.0 (c.toward-b.ensures.value ∙ ap (λ k. nibble_of k (length c.args.id.now)) c.key.ensures)
     shown c.below.ensures c.get.ensures c.is_only.ensures ∙ c.in_ok-next-in-Inner.ensures.way tells

@@ -33,8 +33,9 @@ returns-in-None-clause-removes g t c tells =
     fork_absent g.H.NodeHash.half (map.get (g.S.NodeSource.stored c.args.source.now)) c.args.kind c.args.arena.now c.args.id.now
     c.args.link.now c.args.key.now (map.get (g.S.NodeSource.stored c.look.new.source)) c.remove_at.new.arena c.below-place.result
     c.get.result
-    c.in-Inner.links c.toward-b.result (ap (λ h. map.get h) (c.look.ensures.same tells)) (lone_fork c.args.lone c.args.id.now _ _ shown)
-    placed.0 c.toward-b.ensures.small (c.toward-b.ensures.under c.requires.under) c.below-place.ensures c.get.ensures
+    c.in-Inner.links c.toward-b.result (ap (λ h. map.get h) (c.look.ensures.source.same tells))
+    (lone_fork c.args.lone c.args.id.now _ _ shown) placed.0 c.toward-b.ensures.small (c.toward-b.ensures.under c.requires.under)
+    c.below-place.ensures c.get.ensures
     (subst (Removes g.H.NodeHash.half (map.get (g.S.NodeSource.stored c.look.new.source)) c.args.kind c.args.arena.now
     c.remove_at.new.arena (64 - length c.below-place.result) c.below-place.result c.get.result c.args.key.now) c.in-None.is
     (c.in_ok-next-in-Inner.ensures.removes tells)) c.args.arena.now
@@ -69,7 +70,8 @@ returns-clause-removes g t c tells =
     (map.get (g.S.NodeSource.stored c.remove_at.new.source))
     c.remove_at.new.arena c.settle.new.arena c.in_ok-next-in-Inner.ensures.grows.0 c.below-place.result c.get.result c.in-Some.next
     c.in_ok-left-in-Some.left c.in-Inner.links c.with-links.result c.toward-b.result
-    (ap (λ h. map.get h) (c.look.ensures.same tells)) (ap (λ h. map.get h) (c.remove_at.ensures.same tells ∙ c.look.ensures.same tells))
+    (ap (λ h. map.get h) (c.look.ensures.source.same tells))
+    (ap (λ h. map.get h) (c.remove_at.ensures.source.same tells ∙ c.look.ensures.source.same tells))
     c.in_ok-next-in-Inner.ensures.grows.1 c.known-2.ensures c.requires.below (lone_fork c.args.lone c.args.id.now _ _ shown) placed.0
     c.toward-b.ensures.small (c.toward-b.ensures.under c.requires.under) c.below-place.ensures c.get.ensures c.with-links.ensures
     (subst (Removes g.H.NodeHash.half (map.get (g.S.NodeSource.stored c.look.new.source)) c.args.kind c.args.arena.now
@@ -115,7 +117,7 @@ returns-in_err-next-in-Inner-clause-way g t c tells =
     removal_step g.H.NodeHash.half (map.get (g.S.NodeSource.stored c.args.source.now)) c.args.kind
     (map.get (g.S.NodeSource.stored c.look.new.source)) c.args.arena.now c.args.lone c.args.id.now c.below-place.result c.args.link.now
     c.get.result c.args.key.now c.is_only.result c.toward-b.result c.in-Inner.links
-    (ap (λ h. map.get h) (c.look.ensures.same tells)) placed.0 c.toward-b.ensures.value shown
+    (ap (λ h. map.get h) (c.look.ensures.source.same tells)) placed.0 c.toward-b.ensures.value shown
     (lone_fork c.args.lone c.args.id.now _ _ shown) c.below-place.ensures c.get.ensures c.is_only.ensures in
     rw (p.1, p.2) (goes_same (Option Link) (Err c.in_err-next-in-Inner.field-0.0) _ _ step
     (stopped_below g.H.NodeHash.half (map.get (g.S.NodeSource.stored c.look.new.source)) c.args.kind (Option Link) (Option Link)
@@ -131,7 +133,7 @@ returns-in-None-clause-way g t c tells =
     removal_step g.H.NodeHash.half (map.get (g.S.NodeSource.stored c.args.source.now)) c.args.kind
     (map.get (g.S.NodeSource.stored c.look.new.source)) c.args.arena.now c.args.lone c.args.id.now c.below-place.result c.args.link.now
     c.get.result c.args.key.now c.is_only.result c.toward-b.result c.in-Inner.links
-    (ap (λ h. map.get h) (c.look.ensures.same tells)) placed.0 c.toward-b.ensures.value shown
+    (ap (λ h. map.get h) (c.look.ensures.source.same tells)) placed.0 c.toward-b.ensures.value shown
     (lone_fork c.args.lone c.args.id.now _ _ shown) c.below-place.ensures c.get.ensures c.is_only.ensures in
     step
     ∙ passed_below g.H.NodeHash.half (map.get (g.S.NodeSource.stored c.look.new.source)) c.args.kind _ c.args.arena.now c.args.id.now
@@ -149,13 +151,13 @@ returns-in_err-left-in-Some-clause-way g t c tells =
     removal_step g.H.NodeHash.half (map.get (g.S.NodeSource.stored c.args.source.now)) c.args.kind
     (map.get (g.S.NodeSource.stored c.look.new.source)) c.args.arena.now c.args.lone c.args.id.now c.below-place.result c.args.link.now
     c.get.result c.args.key.now c.is_only.result c.toward-b.result c.in-Inner.links
-    (ap (λ h. map.get h) (c.look.ensures.same tells)) placed.0 c.toward-b.ensures.value shown
+    (ap (λ h. map.get h) (c.look.ensures.source.same tells)) placed.0 c.toward-b.ensures.value shown
     (lone_fork c.args.lone c.args.id.now _ _ shown) c.below-place.ensures c.get.ensures c.is_only.ensures in
     let left =
     left_below g.H.NodeHash.half (map.get (g.S.NodeSource.stored c.look.new.source)) c.args.kind
     (map.get (g.S.NodeSource.stored c.remove_at.new.source)) c.args.arena.now c.remove_at.new.arena c.in_ok-next-in-Inner.ensures.grows.0
     c.args.id.now c.below-place.result c.get.result c.in-Some.next c.args.key.now c.is_only.result c.toward-b.result c.in-Inner.links
-    c.with-links.result (ap (λ h. map.get h) (c.remove_at.ensures.same tells))
+    c.with-links.result (ap (λ h. map.get h) (c.remove_at.ensures.source.same tells))
     c.in_ok-next-in-Inner.ensures.grows.1 placed.1 c.toward-b.ensures.small placed.2 c.below-place.ensures c.with-links.ensures
     (c.in_ok-next-in-Inner.ensures.way tells) leaves in
     rw (p.1, p.2) (goes_same (Option Link) (Err c.in_err-left-in-Some.field-0.0) _ _ (step ∙ left)
@@ -171,13 +173,13 @@ returns-clause-way g t c tells =
     removal_step g.H.NodeHash.half (map.get (g.S.NodeSource.stored c.args.source.now)) c.args.kind
     (map.get (g.S.NodeSource.stored c.look.new.source)) c.args.arena.now c.args.lone c.args.id.now c.below-place.result c.args.link.now
     c.get.result c.args.key.now c.is_only.result c.toward-b.result c.in-Inner.links
-    (ap (λ h. map.get h) (c.look.ensures.same tells)) placed.0 c.toward-b.ensures.value shown
+    (ap (λ h. map.get h) (c.look.ensures.source.same tells)) placed.0 c.toward-b.ensures.value shown
     (lone_fork c.args.lone c.args.id.now _ _ shown) c.below-place.ensures c.get.ensures c.is_only.ensures in
     let left =
     left_below g.H.NodeHash.half (map.get (g.S.NodeSource.stored c.look.new.source)) c.args.kind
     (map.get (g.S.NodeSource.stored c.remove_at.new.source)) c.args.arena.now c.remove_at.new.arena c.in_ok-next-in-Inner.ensures.grows.0
     c.args.id.now c.below-place.result c.get.result c.in-Some.next c.args.key.now c.is_only.result c.toward-b.result c.in-Inner.links
-    c.with-links.result (ap (λ h. map.get h) (c.remove_at.ensures.same tells))
+    c.with-links.result (ap (λ h. map.get h) (c.remove_at.ensures.source.same tells))
     c.in_ok-next-in-Inner.ensures.grows.1 placed.1 c.toward-b.ensures.small placed.2 c.below-place.ensures c.with-links.ensures
     (c.in_ok-next-in-Inner.ensures.way tells) leaves in
     step ∙ left ∙ c.in_ok-left-in-Some.ensures.way tells
@@ -189,7 +191,7 @@ returns-clause-leaves g t c tells =
     let placed = rw c.in-Inner.is at c.in_ok-look.ensures.placed in
     let leaves = rw c.in-Some.is at (c.in_ok-next-in-Inner.ensures.leaves tells) in
     let same : map.get (g.S.NodeSource.stored c.remove_at.new.source) ≡ map.get (g.S.NodeSource.stored c.args.source.now) =
-    ap (λ h. map.get h) (c.remove_at.ensures.same tells ∙ c.look.ensures.same tells) in
+    ap (λ h. map.get h) (c.remove_at.ensures.source.same tells ∙ c.look.ensures.source.same tells) in
     fork_leaves _ c.args.lone c.args.id.now c.args.key.now _ c.in-Inner.links c.in_ok-left-in-Some.left
     (lone_fork c.args.lone c.args.id.now _ _ shown)
     (some_left g.H.NodeHash.half (map.get (g.S.NodeSource.stored c.look.new.source)) c.args.kind _ c.args.arena.now c.args.id.now

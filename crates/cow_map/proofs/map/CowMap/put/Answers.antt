@@ -11,12 +11,15 @@ use Rattle.cow_map.proofs.map.CowMap.put.Goals as goal
 
 -- the nodes that the failed put has added are cut off again, so the list is the old one
 pub returns-in-Err-clause-grows : goal.returns-in-Err-clause-grows
-returns-in-Err-clause-grows g c = (
-  [],
-  cut_back c.self.inside.nodes c.put_at.ensures.grows.0 _ _ _ c.len-start.ensures c.put_at.ensures.grows.1 c.truncate.ensures
-      ∙ ap (λ (m : CowTree). m.nodes) c.self.view_is ∙ none_more _,
-  omega arith,
-)
+returns-in-Err-clause-grows g c = record {
+  kind = ap (λ (m : CowTree). m.kind) c.self.view_is;
+  nodes = (
+    [],
+    cut_back c.self.inside.nodes c.put_at.ensures.grows.0 _ _ _ c.len-start.ensures c.put_at.ensures.grows.1 c.truncate.ensures
+        ∙ ap (λ (m : CowTree). m.nodes) c.self.view_is ∙ none_more _,
+    omega arith,
+  );
+}
 
 -- where the map stands for items nothing is in the way, so a put that fails met a fault of the source or want of memory
 pub returns-in-Err-clause-free : goal.returns-in-Err-clause-free

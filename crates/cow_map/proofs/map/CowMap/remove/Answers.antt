@@ -14,21 +14,27 @@ use Rattle.cow_map.proofs.map.CowMap.remove.Goals as goal
 
 -- the key isn't there, and the list is cut back to its old length, so no node is new
 pub returns-in-Ok-None-clause-grows : goal.returns-in-Ok-None-clause-grows
-returns-in-Ok-None-clause-grows g c = (
-  [],
-  cut_back c.self.inside.nodes c.remove_at.ensures.grows.0 _ _ _ c.len-start.ensures c.remove_at.ensures.grows.1 c.truncate.ensures
-      ∙ ap (λ (m : CowTree). m.nodes) c.self.view_is ∙ none_more _,
-  omega arith,
-)
+returns-in-Ok-None-clause-grows g c = record {
+  kind = ap (λ (m : CowTree). m.kind) c.self.view_is;
+  nodes = (
+    [],
+    cut_back c.self.inside.nodes c.remove_at.ensures.grows.0 _ _ _ c.len-start.ensures c.remove_at.ensures.grows.1 c.truncate.ensures
+        ∙ ap (λ (m : CowTree). m.nodes) c.self.view_is ∙ none_more _,
+    omega arith,
+  );
+}
 
 -- the nodes that the failed removal has added are cut off again, so the list is the old one
 pub returns-in-Err-clause-grows : goal.returns-in-Err-clause-grows
-returns-in-Err-clause-grows g c = (
-  [],
-  cut_back c.self.inside.nodes c.remove_at.ensures.grows.0 _ _ _ c.len-start.ensures c.remove_at.ensures.grows.1
-      c.truncate-in-Err.ensures ∙ ap (λ (m : CowTree). m.nodes) c.self.view_is ∙ none_more _,
-  omega arith,
-)
+returns-in-Err-clause-grows g c = record {
+  kind = ap (λ (m : CowTree). m.kind) c.self.view_is;
+  nodes = (
+    [],
+    cut_back c.self.inside.nodes c.remove_at.ensures.grows.0 _ _ _ c.len-start.ensures c.remove_at.ensures.grows.1
+        c.truncate-in-Err.ensures ∙ ap (λ (m : CowTree). m.nodes) c.self.view_is ∙ none_more _,
+    omega arith,
+  );
+}
 
 -- the items have nothing at the key, so without it they are the same, and so is the map
 pub returns-in-Ok-None-clause-stands : goal.returns-in-Ok-None-clause-stands
