@@ -1,10 +1,8 @@
 -- What a call makes of a draft.
-use Rattle.std.specs.Prelude.{◌≡◌, ℕ, ◌≤◌, Bool, IsTrue, IfErr, Option, Result}
-use Rattle.ledger_spec.specs.Bytes.{Bytes, Hash, Half, Lookup, Items, Nodes}
+use Rattle.std.specs.Prelude.{◌≡◌, ℕ, Bool, IfErr, Option, Result}
+use Rattle.ledger_spec.specs.Bytes.{Bytes, Hash, Half, Lookup, Items}
 use Rattle.ledger_spec.specs.Maps.{hash_cmp, insert_in, has_in, remove_in}
-use Rattle.run_io.specs.Bytes.{Rose}
 use Rattle.cow_map.specs.declared.fault.MapFault.{MapFault}
-use Rattle.cow_map.specs.declared.fault.MapFault.TheVariants as causes
 use Rattle.cow_map.specs.Edits.{GrowsBy, IsSub}
 use Rattle.cow_map.specs.Ways.{Stop, Goes, IsFailure}
 use Rattle.edit_session.specs.Drafts.{Draft, Edits, LeavesToParent}
@@ -42,20 +40,6 @@ pub record SetsTx (old new : Draft) (key : Hash) (value : Bytes) : Type 0 where
   pub maps : (half : Half) (stored : Lookup) (accounts txs : Items) → Edits half stored old accounts txs
       → Edits half stored new accounts (insert_in hash_cmp txs key value)
   pub left : (half : Half) (stored : Lookup) → KeepsLeaving half stored old new
-
--- a failure of the source comes only where its count of faults rose, and no form is named
-abbrev pub IsCause : ℕ → ℕ → MapFault → Type 0
-IsCause before after (causes.Absent h) = Unit {0}
-IsCause before after (causes.Shape place rule) = Unit {0}
-IsCause before after (causes.ZeroHash form) = ⊥
-IsCause before after causes.Fault = Rose before after
-IsCause before after causes.Memory = Unit {0}
-
--- a call only reads its source: what that tells of its map stays, its count of faults doesn't fall, and a fault comes only where it rose
-pub record OnlyReads {X : Type 0} (tells : Bool) (held held_after : Nodes) (before after : ℕ) (result : Result X MapFault) : Type 0 where
-  pub same : IsTrue tells → held_after ≡ held
-  pub later : before ≤ after
-  pub cause : IfErr result (IsCause before after)
 
 -- a call goes all the way, or names what stops it; where the draft has maps over the source nothing does, so only a failure of the source
 -- or want of memory comes

@@ -5,13 +5,14 @@ ghost use Rattle.ledger_spec.specs.declared.Kind.TheVariants.{State as accounts_
 ghost use Rattle.ledger_spec.specs.Bytes.{Half, Items, Lookup};
 ghost use Rattle.ledger_spec.specs.Commits.{AreOwn, IsWholeMap};
 ghost use Rattle.ledger_spec.specs.Findings.{items_of};
+ghost use Rattle.path_proof.specs.Sources.{LeavesSource};
 ghost use Rattle.cow_map.specs.declared.fault.MapFault.TheVariants as causes;
 ghost use Rattle.cow_map.specs.Laws.{IsSized};
 ghost use Rattle.cow_map.specs.Sealing.{AreNamed, IsSealFault};
 ghost use Rattle.cow_map.specs.Trees.{link_to, StandsFor};
-ghost use Rattle.cow_map.specs.Ways.{stop_of, removal_stop_of};
+ghost use Rattle.cow_map.specs.Ways.{stop_of, removal_stop_of, IsSourceFault};
 ghost use Rattle.edit_session.specs.Drafts.{StandsAlone, Keeps, Edits, LeavesToParent};
-ghost use Rattle.edit_session.specs.Changes.{ChangesState, ChangesTxs, SetsAccount, RemovesAccount, SetsTx, GoesBy, OnlyReads};
+ghost use Rattle.edit_session.specs.Changes.{ChangesState, ChangesTxs, SetsAccount, RemovesAccount, SetsTx, GoesBy};
 ghost use Rattle.edit_session.specs.Closing.{IsOccupied, header_after, Follows, Closes, NamesFirst};
 
 use crate::close::closed_with;
@@ -86,8 +87,7 @@ impl Session {
         ensures way { IsTrue S.tells → let stored = map.get (S.stored source.old) in
             GoesBy H.half stored self.old (stop_of H.half stored self.old.state item.key) result }
         ensures err { OnErr result (self.new ≡ self.old) }
-        ensures source { OnlyReads S.tells (S.stored source.old) (S.stored source.new) (S.faults source.old) (S.faults source.new) result }
-        ensures asked { S.rest source.new ≡ S.rest source.old }
+        ensures source { LeavesSource S.tells S.stored S.rest S.faults IsSourceFault source.old source.new result }
     {
         what_is_left_is_whole();
         self.state.put::<H, S>(alloc, source, item)
@@ -109,8 +109,7 @@ impl Session {
         ensures way { IsTrue S.tells → let stored = map.get (S.stored source.old) in
             GoesBy H.half stored self.old (removal_stop_of H.half stored self.old.state key.now) result }
         ensures err { OnErr result (self.new ≡ self.old) }
-        ensures source { OnlyReads S.tells (S.stored source.old) (S.stored source.new) (S.faults source.old) (S.faults source.new) result }
-        ensures asked { S.rest source.new ≡ S.rest source.old }
+        ensures source { LeavesSource S.tells S.stored S.rest S.faults IsSourceFault source.old source.new result }
     {
         what_is_left_is_whole();
         self.state.remove::<H, S>(alloc, source, key)

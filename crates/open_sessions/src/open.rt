@@ -6,13 +6,12 @@ ghost use Rattle.std.specs.List.{list_any};
 ghost use Rattle.std.specs.Map.{values_of};
 ghost use Rattle.ledger_spec.specs.Bytes.{same_bytes};
 ghost use Rattle.ledger_spec.specs.Maps.{numbered_cmp, get_in, has_in, insert_in, remove_in};
-ghost use Rattle.run_io.specs.Bytes.{Rose};
 ghost use Rattle.rotating_store.specs.Stores.{nodes_of};
-ghost use Rattle.rotating_store.specs.Sources.{AreFiled, own_nodes};
-ghost use Rattle.cow_map.specs.Ways.{stop_of, removal_stop_of, NamesNoForm};
+ghost use Rattle.rotating_store.specs.Sources.{AreFiled, LeavesAsked, own_nodes};
+ghost use Rattle.cow_map.specs.Ways.{stop_of, removal_stop_of, IsSourceFault};
 ghost use Rattle.edit_session.specs.Changes.{ChangesState, ChangesTxs, SetsAccount, RemovesAccount, SetsTx, GoesBy};
 ghost use Rattle.edit_session.specs.Drafts.{Draft};
-ghost use Rattle.open_sessions.specs.Changed.{Changed, WasAsked};
+ghost use Rattle.open_sessions.specs.Changed.{Changed};
 
 use cow_map::MapFault;
 use edit_session::Session;
@@ -124,12 +123,10 @@ impl Open {
             → let stored = finite.get (own_nodes H.half (nodes_of store.old)) in
             GoesBy H.half stored d (stop_of H.half stored d.state item.now.key) result }
 
-        // where the session isn't open only memory is wanted, and no form is named
+        // where the session isn't open only memory is wanted
         ensures shut { get_in numbered_cmp self.old id ≡ None → IfErr result (λ e. e ≡ MapFault.Memory) }
-        ensures formless { IfErr result NamesNoForm }
         ensures err { OnErr result (self.new ≡ self.old) }
-        ensures asked { WasAsked Sh.B.tells H.half store.old store.new }
-        ensures fault { IfErr result (λ e. e ≡ MapFault.Fault → Rose store.old.faults store.new.faults) }
+        ensures store { LeavesAsked Sh.B.tells H.half IsSourceFault store.old store.new result }
     {
         let item = copy_of(alloc, item)?;
         let Some(session) = self.sessions.get_mut(&id) else {
@@ -158,12 +155,10 @@ impl Open {
             → let stored = finite.get (own_nodes H.half (nodes_of store.old)) in
             GoesBy H.half stored d (removal_stop_of H.half stored d.state key.now) result }
 
-        // where the session isn't open only memory is wanted, and no form is named
+        // where the session isn't open only memory is wanted
         ensures shut { get_in numbered_cmp self.old id ≡ None → IfErr result (λ e. e ≡ MapFault.Memory) }
-        ensures formless { IfErr result NamesNoForm }
         ensures err { OnErr result (self.new ≡ self.old) }
-        ensures asked { WasAsked Sh.B.tells H.half store.old store.new }
-        ensures fault { IfErr result (λ e. e ≡ MapFault.Fault → Rose store.old.faults store.new.faults) }
+        ensures store { LeavesAsked Sh.B.tells H.half IsSourceFault store.old store.new result }
     {
         let Some(session) = self.sessions.get_mut(&id) else {
             return Ok(None);

@@ -13,7 +13,7 @@ pub invariant_of-self : goal.invariant_of-self
 invariant_of-self g c = record {
   next = c.self.invariant.next;
   state = c.self.invariant.state;
-  txs = c.put.ensures.kind ∙ c.self.invariant.txs;
+  txs = c.put.ensures.grows.kind ∙ c.self.invariant.txs;
   alone = alone_still c.a_map_without_a_source_stands_anywhere.ensures c.put.result g.H.NodeHash.half (finite.get no_nodes)
       c.self.inside.txs c.put.new.self c.args.item.key c.args.item.value
       (c.put.ensures.stands refl) c.put.ensures.err c.self.invariant.alone;

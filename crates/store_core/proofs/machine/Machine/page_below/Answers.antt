@@ -35,6 +35,6 @@ returns-clause-page g c told =
     rw (← c.new-filed.ensures.same) c.in-Ok.ensures.own in
     let paged = is_page g.H.NodeHash.half c.self.inside.store s c.args.kind c.args.after.now c.from-most.result c.args.root.now
     g.Sh.B.Backend.tells c.in-Ok.page.leaves (held_nodes c.in-Ok.page.used.items) told is (c.requires.filed told) c.requires.kind
-    held own c.in-Ok.ensures.page c.in-Ok.ensures.law in
+    held own c.in-Ok.ensures.page c.in-Ok.ensures.maps.law in
     subst (λ n. IsPage g.H.NodeHash.half s c.args.kind c.args.after.now n c.args.root.now (says.Page (pages.Items c.in-Ok.page.leaves))
     (held_nodes c.in-Ok.page.used.items)) c.from-most.ensures paged
