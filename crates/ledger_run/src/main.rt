@@ -1,5 +1,5 @@
 //! `ledger_run replay` reads a script from standard input, `ledger_run swarm` makes one from a plan. It is run over a store that has the
-//! script's records and nothing else, and its journal is printed.
+//! script's records and nothing else, and its journal is printed. `ledger_run stop` runs one on disks that stop.
 #![tactic(auto)]
 
 ghost use Rattle.std.specs.Prelude.{◌≡◌, ◌↔◌, true, ◌∷◌, [], map, IfOk, IfSome, IsSome, IsNone, MatchOption, string_bytes};
@@ -85,7 +85,7 @@ fn run_with<R: Threads + Wait + Sync>(rt: &HostRuntime, threads: &R, words: &[St
     ensures status { IfSome result.run.core (HasStatus (⟦<Half512 as NodeHash>⟧.half) true (exit_status result.code)) }
     ensures dump { MatchOption result.run.core (result.run.dump ≡ DumpEnd.NotAsked) (λ c. (w : Words) → Says (map string_bytes words.now) w
         → HasDumped (dump_in w) (exit_status result.code) result.run.dump c) }
-    ensures none { IsNone result.run.core
+    ensures none { IsNone result.run.core → IsNone result.run.stopped
         → IsOneOf (exit_status result.code) (USAGE ∷ REFUSED ∷ SOURCE_FAILED ∷ STORE_FAILED ∷ NO_MEMORY ∷ []) }
     ensures unopened { IsSome result.run.unopened → IsNone result.run.core }
 {
@@ -120,7 +120,8 @@ fn run_on<R: Threads + Wait + Sync>(
     ensures status { IfSome result.core (HasStatus (⟦<Half512 as NodeHash>⟧.half) true result.status) }
     ensures dump { MatchOption result.core (result.dump ≡ DumpEnd.NotAsked) (λ c. (w : Words) → Asks words.now w
         → HasDumped (dump_in w) result.status result.dump c) }
-    ensures none { IsNone result.core → IsOneOf result.status (USAGE ∷ REFUSED ∷ SOURCE_FAILED ∷ STORE_FAILED ∷ NO_MEMORY ∷ []) }
+    ensures none { IsNone result.core → IsNone result.stopped
+        → IsOneOf result.status (USAGE ∷ REFUSED ∷ SOURCE_FAILED ∷ STORE_FAILED ∷ NO_MEMORY ∷ []) }
     ensures unopened { IsSome result.unopened → IsNone result.core }
 {
     let mut source = StdSource::new(rt.stdin());

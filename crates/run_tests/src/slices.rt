@@ -228,6 +228,19 @@ fn script(alloc: Global, case: &Case) -> Result<MemSource, Fail> {
     Ok(MemSource::new(text, 100_000, Vec::new(alloc)))
 }
 
+/// The status of a replay in which this gate holds the actors.
+fn held_replay<R: Threads + Wait + Sync>(
+    rt: &R,
+    alloc: Global,
+    source: &mut MemSource,
+    sink: &mut MemSink,
+    gate: &Between,
+) -> u8 {
+    let words = ["replay", "--interval", "1"];
+    let shelf = MemShelf::new(alloc, Vec::new(alloc), Vec::new(alloc));
+    ledger_run(rt, alloc, &words, Half512, source, sink, shelf, gate).status
+}
+
 /// Runs the case's session and rotation, with the other actor's lines between two slices.
 fn replay<R: Abort + Threads + Wait + Sync>(
     rt: &R,
@@ -236,22 +249,11 @@ fn replay<R: Abort + Threads + Wait + Sync>(
 ) -> Result<(), Fail> {
     let mut source = script(alloc, case)?;
     let mut sink = MemSink::new(alloc, 1_000_000, Vec::new(alloc))?;
-    let shelf = MemShelf::new(alloc, Vec::new(alloc), Vec::new(alloc));
     let gate = Between::new(case.held_after);
-    let words = ["replay", "--interval", "1"];
-    let ended = ledger_run(
-        rt,
-        alloc,
-        &words,
-        Half512,
-        &mut source,
-        &mut sink,
-        shelf,
-        &gate,
-    );
+    let status = held_replay(rt, alloc, &mut source, &mut sink, &gate);
     let mut answers = Vec::new(alloc);
     add_filled(&mut answers, alloc, case, ANSWERS)?;
-    assert_eq!(rt; ended.status, 0);
+    assert_eq!(rt; status, 0);
     assert_eq!(rt; gate.gave_up.load(Ordering::SeqCst), 0);
     assert_eq!(rt; gate.slices.load(Ordering::SeqCst), case.slices);
     assert!(rt; sink.held().ends_with(&answers));

@@ -6,7 +6,7 @@ use Rattle.run_words.specs.declared.options.Options.{Options}
 use Rattle.run_words.specs.declared.options.Usage.{Usage}
 use Rattle.run_words.specs.declared.words.Words.{Words}
 use Rattle.run_words.specs.Options.{no_options, Gives}
-use Rattle.run_words.specs.declared.words.Words.TheVariants.{Replay, Swarm}
+use Rattle.run_words.specs.declared.words.Words.TheVariants.{Replay, Swarm, Stop}
 use Rattle.swarm_gen.specs.declared.plan.Plan.{Plan}
 use Rattle.run_words.specs.Words.{command_word, MeansSwarm, Means, Says}
 
@@ -47,16 +47,33 @@ one_plan o p q m n = λ i. record {
   interval = (m.interval.0 ∙ sym n.interval.0) i;
 }
 
+-- two commands whose words begin otherwise
+other_word : {A : Type 0} (a b : Bytes) → a ≡ b → (slice_index a 1 ≡ slice_index b 1 → ⊥) → A
+other_word a b e differ = absurd (differ (ap (λ (xs : Bytes). slice_index xs 1) e))
+
 other_command : {A : Type 0} → codes "replay" ≡ codes "swarm" → A
-other_command e = absurd (let f : 114 ≡ 115 = ap (λ (xs : Bytes). slice_index xs 0) e in omega arith)
+other_command e = other_word (codes "replay") (codes "swarm") e (λ (f : 101 ≡ 119). omega arith)
+
+no_stop : {A : Type 0} → codes "replay" ≡ codes "stop" → A
+no_stop e = other_word (codes "replay") (codes "stop") e (λ (f : 101 ≡ 116). omega arith)
+
+no_swarm : {A : Type 0} → codes "stop" ≡ codes "swarm" → A
+no_swarm e = other_word (codes "stop") (codes "swarm") e (λ (f : 116 ≡ 119). omega arith)
 
 -- options mean one thing
 means_one : (o : Options) (w v : Words) → command_word w ≡ command_word v → Means o w → Means o v → w ≡ v
 means_one o (Replay n q d) (Replay n2 q2 d2) e m k = λ i. Replay ((m.0.interval.0 ∙ sym k.0.interval.0) i) ((m.1 ∙ sym k.1) i)
     ((m.2 ∙ sym k.2) i)
 means_one o (Replay n q d) (Swarm p q2 d2) e m k = other_command e
+means_one o (Replay n q d) (Stop at pick n2 q2) e m k = no_stop e
 means_one o (Swarm p q d) (Replay n q2 d2) e m k = other_command (sym e)
 means_one o (Swarm p q d) (Swarm p2 q2 d2) e m k = λ i. Swarm (one_plan o p p2 m.0 k.0 i) ((m.1 ∙ sym k.1) i) ((m.2 ∙ sym k.2) i)
+means_one o (Swarm p q d) (Stop at pick n q2) e m k = no_swarm (sym e)
+means_one o (Stop at pick n q) (Replay n2 q2 d) e m k = no_stop (sym e)
+means_one o (Stop at pick n q) (Swarm p q2 d) e m k = no_swarm e
+means_one o (Stop at pick n q) (Stop at2 pick2 n2 q2) e m k =
+    λ i. Stop (number_of_some at at2 o.at m.0.at k.0.at i) ((m.0.pick.0 ∙ sym k.0.pick.0) i) ((m.0.interval.0 ∙ sym k.0.interval.0) i)
+    ((m.1 ∙ sym k.1) i)
 
 -- the words say nothing else
 pub command_only : (all rest : List Bytes) (command text : Bytes) (o : Options) (r : Result Words Usage) → all ≡ command ∷ rest

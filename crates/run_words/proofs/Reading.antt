@@ -12,7 +12,7 @@ use Rattle.ledger_spec.specs.Bytes.{Bytes}
 use Rattle.script_form.specs.Words.{IsNumber}
 use Rattle.run_words.specs.declared.options.Options.{Options}
 use Rattle.run_words.specs.declared.options.Setting.{Setting}
-use Rattle.run_words.specs.declared.options.Setting.TheVariants.{Number, Ledgers, Items, Liars, Actors, Interval}
+use Rattle.run_words.specs.declared.options.Setting.TheVariants.{Number, Ledgers, Items, Liars, Actors, Interval, At, Pick}
 use Rattle.run_words.specs.declared.options.Switch.{Switch}
 use Rattle.run_words.specs.declared.options.Switch.TheVariants.{Quiet, Dump}
 use Rattle.run_words.specs.declared.options.Name.{Name}
@@ -183,6 +183,8 @@ cut_setting Items = refl
 cut_setting Liars = refl
 cut_setting Actors = refl
 cut_setting Interval = refl
+cut_setting At = refl
+cut_setting Pick = refl
 
 pub cut_joined : (s : Setting) (digits : Bytes) → cut_of (setting_word s ++ 61 ∷ digits) ≡ (setting_word s, Some digits)
 cut_joined Number digits = refl
@@ -191,6 +193,8 @@ cut_joined Items digits = refl
 cut_joined Liars digits = refl
 cut_joined Actors digits = refl
 cut_joined Interval digits = refl
+cut_joined At digits = refl
+cut_joined Pick digits = refl
 
 pub cut_switch : (s : Switch) → cut_of (switch_word s) ≡ (switch_word s, None)
 cut_switch Quiet = refl
@@ -450,7 +454,8 @@ option_of a b =
     if a == 110 then Some (name.Setting Number)
     else if a == 108 then (if b == 101 then Some (name.Setting Ledgers) else Some (name.Setting Liars))
     else if a == 105 then (if b == 116 then Some (name.Setting Items) else Some (name.Setting Interval))
-    else if a == 97 then Some (name.Setting Actors)
+    else if a == 97 then (if b == 99 then Some (name.Setting Actors) else Some (name.Setting At))
+    else if a == 112 then Some (name.Setting Pick)
     else if a == 113 then Some (name.Switch Quiet)
     else Some (name.Switch Dump)
 
@@ -464,6 +469,8 @@ found_setting Items = refl
 found_setting Liars = refl
 found_setting Actors = refl
 found_setting Interval = refl
+found_setting At = refl
+found_setting Pick = refl
 
 found_switch : (s : Switch) → option_at (switch_word s) ≡ Some (name.Switch s)
 found_switch Quiet = refl

@@ -6,7 +6,7 @@ use Rattle.ledger_spec.specs.Bytes.{Bytes}
 use Rattle.script_form.specs.Words.{IsNumber}
 use Rattle.run_words.specs.declared.options.Options.{Options}
 use Rattle.run_words.specs.declared.options.Setting.{Setting}
-use Rattle.run_words.specs.declared.options.Setting.TheVariants.{Number, Ledgers, Items, Liars, Actors, Interval}
+use Rattle.run_words.specs.declared.options.Setting.TheVariants.{Number, Ledgers, Items, Liars, Actors, Interval, At, Pick}
 use Rattle.run_words.specs.declared.options.Switch.{Switch}
 use Rattle.run_words.specs.declared.options.Switch.TheVariants.{Quiet, Dump}
 use Rattle.run_words.specs.declared.options.Name.{Name}
@@ -28,6 +28,8 @@ setting_word Items = codes "--items"
 setting_word Liars = codes "--liars"
 setting_word Actors = codes "--actors"
 setting_word Interval = codes "--interval"
+setting_word At = codes "--at"
+setting_word Pick = codes "--pick"
 
 -- the word of one without a number
 abbrev pub switch_word : Switch → Bytes
@@ -48,6 +50,8 @@ no_options = record {
   liars = None;
   actors = None;
   interval = None;
+  at = None;
+  pick = None;
   quiet = false;
   dump = false;
 }
@@ -60,6 +64,8 @@ number_of o Items = o.items
 number_of o Liars = o.liars
 number_of o Actors = o.actors
 number_of o Interval = o.interval
+number_of o At = o.at
+number_of o Pick = o.pick
 
 -- the options with this number given too
 abbrev pub with_number : Options → Setting → ℕ → Options
@@ -69,6 +75,8 @@ with_number o Items n = record o { items = Some n }
 with_number o Liars n = record o { liars = Some n }
 with_number o Actors n = record o { actors = Some n }
 with_number o Interval n = record o { interval = Some n }
+with_number o At n = record o { at = Some n }
+with_number o Pick n = record o { pick = Some n }
 
 -- whether an option without a number is given
 abbrev pub is_on : Options → Switch → Bool

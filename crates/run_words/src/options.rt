@@ -18,6 +18,8 @@ pub enum Setting {
     Liars,
     Actors,
     Interval,
+    At,
+    Pick,
 }
 
 /// An option without a number, `--quiet` and `--dump`.
@@ -43,6 +45,8 @@ pub struct Options {
     pub liars: Option<u64>,
     pub actors: Option<u64>,
     pub interval: Option<u64>,
+    pub at: Option<u64>,
+    pub pick: Option<u64>,
     pub quiet: bool,
     pub dump: bool,
 }
@@ -63,6 +67,8 @@ impl Options {
             liars: None,
             actors: None,
             interval: None,
+            at: None,
+            pick: None,
             quiet: false,
             dump: false,
         }
@@ -79,6 +85,8 @@ impl Options {
             Setting::Liars => self.liars,
             Setting::Actors => self.actors,
             Setting::Interval => self.interval,
+            Setting::At => self.at,
+            Setting::Pick => self.pick,
         }
     }
 
@@ -93,6 +101,8 @@ impl Options {
             Setting::Liars => self.liars = Some(n),
             Setting::Actors => self.actors = Some(n),
             Setting::Interval => self.interval = Some(n),
+            Setting::At => self.at = Some(n),
+            Setting::Pick => self.pick = Some(n),
         }
     }
 
@@ -160,6 +170,8 @@ fn named(name: &str) -> Option<Name>
         "--liars" => Some(Name::Setting(Setting::Liars)),
         "--actors" => Some(Name::Setting(Setting::Actors)),
         "--interval" => Some(Name::Setting(Setting::Interval)),
+        "--at" => Some(Name::Setting(Setting::At)),
+        "--pick" => Some(Name::Setting(Setting::Pick)),
         "--quiet" => Some(Name::Switch(Switch::Quiet)),
         "--dump" => Some(Name::Switch(Switch::Dump)),
         _ => None,

@@ -5,3 +5,5 @@ pub mod Opening
 pub mod Dumping
 pub mod Ending
 pub mod Asked
+pub mod Again
+pub mod Stops

@@ -12,7 +12,7 @@ use Rattle.std.specs.Borrow.{Bor}
 use Rattle.store_core.specs.Journal.{CoreView}
 use Rattle.top_call.specs.declared.status.TheConstants.{FINE, REFUSED, SINK_FAILED, STORE_FAILED, CLASHED, NO_MEMORY}
 use Rattle.run_words.specs.declared.words.Words.{Words}
-use Rattle.run_words.specs.declared.words.Words.TheVariants.{Replay, Swarm}
+use Rattle.run_words.specs.declared.words.Words.TheVariants.{Replay, Swarm, Stop}
 use Rattle.top_call.specs.Asking.{Asks, IsRead, IsRefusedAt, IsScriptOf}
 use Rattle.top_call.specs.Top.{IsOneOf, IsScriptRefusal}
 
@@ -28,17 +28,22 @@ not_refused half (Replay interval quiet dump) None records lines P script read =
 not_refused half (Replay interval quiet dump) (Some bytes) records lines P script read =
     λ (refused : IsRefusedAt half bytes).
     absurd (script_stands half (take most_read bytes) records lines refused.0 refused.1 script refused.2)
+not_refused half (Stop at pick interval quiet) None records lines P script read = tt
+not_refused half (Stop at pick interval quiet) (Some bytes) records lines P script read =
+    λ (refused : IsRefusedAt half bytes).
+    absurd (script_stands half (take most_read bytes) records lines refused.0 refused.1 script refused.2)
 
 -- a run is of no refused script
 pub run_refusal : (half : Half) (words : List (Bor (List ℕ))) (status : ℕ) (left rest held now : Option Bytes) (before after : ℕ)
-    (core : CoreView) → ((w : Words) → Asks words w → IsScriptOf half w left core.records core.lines)
+    (records : List Record) (lines : List Line) (core : Option CoreView) {E : Type 0} (stopped : Option E)
+    → ((w : Words) → Asks words w → IsScriptOf half w left records lines)
     → IsOneOf status (FINE ∷ SINK_FAILED ∷ STORE_FAILED ∷ CLASHED ∷ NO_MEMORY ∷ [])
-    → IsScriptRefusal half words status left rest held now before after (Some core)
-run_refusal half words status left rest held now before after core script one = record {
+    → IsScriptRefusal half words status left rest held now before after core stopped
+run_refusal half words status left rest held now before after records lines core stopped script one = record {
   read = λ w asks e. absurd (other e);
   refused = λ e. absurd (other e);
-  exact = λ w asks read. not_refused half w left core.records core.lines _ (script w asks) read;
-  never_run = λ w asks read. not_refused half w left core.records core.lines _ (script w asks) read;
+  exact = λ w asks read. not_refused half w left records lines _ (script w asks) read;
+  never_run = λ w asks read. not_refused half w left records lines _ (script w asks) read;
   line = λ e. absurd (other e);
   printed = λ e. absurd (other e);
   taken = λ e. absurd (other e);

@@ -72,7 +72,7 @@ calm_faults : (n opened now : ℕ) → RoseBy n opened now → now ≡ opened �
 calm_faults n opened now (inl few) same below = omega (arith, few, same)
 calm_faults n opened now (inr top) same below = absurd (omega (arith, top, below))
 
-calm_free : (half : Half) (told : Bool) (handed : ℕ) (c : CoreView) → IsJournal half told c → CountsFrom handed c → IsCalm handed c
+pub calm_free : (half : Half) (told : Bool) (handed : ℕ) (c : CoreView) → IsJournal half told c → CountsFrom handed c → IsCalm handed c
     → IsOneOf (status_of c.journal c.missed) (FINE ∷ CLASHED ∷ NO_MEMORY ∷ [])
 calm_free half told handed c kept from calm =
     let still : c.faults ≡ c.opened = omega (arith, from.0, from.1, calm.0) in

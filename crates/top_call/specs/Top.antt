@@ -4,11 +4,7 @@ use Rattle.std.specs.Prelude.{true, ◌==◌, IfSome, IsNone}
 use Rattle.std.specs.Borrow.{Bor}
 use Rattle.std.specs.List.{list_any}
 use Rattle.ledger_spec.specs.Bytes.{Bytes, Half, Nodes}
-use Rattle.ledger_machine.specs.declared.commands.Line.{Line}
-use Rattle.ledger_machine.specs.declared.commands.Record.{Record}
-use Rattle.ledger_machine.specs.State.{State}
-use Rattle.ledger_machine.specs.declared.journal.Entry.{Entry}
-use Rattle.ledger_machine.specs.Runs.{IsFull, IsRunOf}
+use Rattle.ledger_machine.specs.Runs.{IsFull}
 use Rattle.ledger_machine.specs.Collisions.{brought_by, IsShown}
 use Rattle.store_core.specs.Journal.{CoreView, IsJournal, IsRun}
 use Rattle.store_core.specs.Totals.{totals_of}
@@ -141,7 +137,7 @@ pub record IsUsage (words : List (Bor (List ℕ))) (status : ℕ) (held now : Op
 
 -- A refused script.
 pub record IsScriptRefusal (half : Half) (words : List (Bor (List ℕ))) (status : ℕ) (left rest held now : Option Bytes) (before after : ℕ)
-    (core : Option CoreView) : Type 0 where
+    (core : Option CoreView) {E : Type 0} (stopped : Option E) : Type 0 where
   -- only where a script is read, and its bytes are refused
   pub read : (w : Words) → Asks words w → status ≡ REFUSED → IsRead w
   pub refused : status ≡ REFUSED → IfSome left (IsRefusedAt half)
@@ -149,7 +145,7 @@ pub record IsScriptRefusal (half : Half) (words : List (Bor (List ℕ))) (status
   pub exact : (w : Words) → Asks words w → IsRead w
       → IfSome left (λ bytes. IsRefusedAt half bytes → IsOneOf status (REFUSED ∷ SOURCE_FAILED ∷ NO_MEMORY ∷ []))
   -- and are never run
-  pub never_run : (w : Words) → Asks words w → IsRead w → IfSome left (λ bytes. IsRefusedAt half bytes → IsNone core)
+  pub never_run : (w : Words) → Asks words w → IsRead w → IfSome left (λ bytes. IsRefusedAt half bytes → IsNone core × IsNone stopped)
   -- a line and a cause are written, or a front of that where the sink failed
   pub line : status ≡ REFUSED → (line : ℕ) × (cause : ℕ) × WroteOrFailed held now before after (refused_text line cause)
   -- they are those of the bytes
@@ -160,17 +156,17 @@ pub record IsScriptRefusal (half : Half) (words : List (Bor (List ℕ))) (status
 -- What failed. `read` and `read'` are the source's counts of faults before and after, `wrote` and `wrote'` the sink's; `Unwritten` says
 -- that the sink is as it was.
 pub record HasCause (status : ℕ) (left rest : Option Bytes) (read read' wrote wrote' : ℕ) (core : Option CoreView)
-    (Unwritten : Type 0) : Type 0 where
+    {E : Type 0} (stopped : Option E) (Unwritten : Type 0) : Type 0 where
   -- the source failed
   pub source : status ≡ SOURCE_FAILED → Rose read read'
   -- the sink failed
   pub sink : status ≡ SINK_FAILED → Rose wrote wrote'
   -- without a core: other words, a refused script, a failed source or store, or want of memory
-  pub no_core : IsNone core → IsOneOf status (USAGE ∷ REFUSED ∷ SOURCE_FAILED ∷ STORE_FAILED ∷ NO_MEMORY ∷ [])
+  pub no_core : IsNone core → IsNone stopped → IsOneOf status (USAGE ∷ REFUSED ∷ SOURCE_FAILED ∷ STORE_FAILED ∷ NO_MEMORY ∷ [])
   -- where the source failed nothing is written
   pub unwritten : status ≡ SOURCE_FAILED → Unwritten
   -- nor where memory was wanted before the run
-  pub silent : IsNone core → status ≡ NO_MEMORY → Unwritten
+  pub silent : IsNone core → IsNone stopped → status ≡ NO_MEMORY → Unwritten
   -- the counts never fall
   pub later : (read ≤ read') × (wrote ≤ wrote')
   -- a front of the input is gone, and no more than is read at most
@@ -178,8 +174,8 @@ pub record HasCause (status : ℕ) (left rest : Option Bytes) (read read' wrote 
 
 -- Where the store wasn't opened. `unopened` is what is left of the shelf; `Failed` says that it is a shelf whose count of faults rose,
 -- `Wanted` that it is nothing since memory was wanted, `Unwritten` that the sink is as it was, `Done` that the script was read to its end.
-pub record HasNotOpened {U : Type 0} (status : ℕ) (core : Option CoreView) (unopened : Option U) (Failed Wanted : U → Type 0)
-    (Unwritten Done : Type 0) : Type 0 where
+pub record HasNotOpened {U E : Type 0} (status : ℕ) (core : Option CoreView) (stopped : Option E) (unopened : Option U)
+    (Failed Wanted : U → Type 0) (Unwritten Done : Type 0) : Type 0 where
   -- there is no core, and nothing is written
   pub no_core : IsSome unopened → IsNone core
   pub unwritten : IsSome unopened → Unwritten
@@ -188,4 +184,4 @@ pub record HasNotOpened {U : Type 0} (status : ℕ) (core : Option CoreView) (un
   -- the status tells the cause
   pub cause : IfSome unopened (λ u. ((status ≡ STORE_FAILED) × Failed u) ⊎ ((status ≡ NO_MEMORY) × Wanted u))
   -- and without a core the store failed only so
-  pub only : status ≡ STORE_FAILED → IsNone core → IsSome unopened
+  pub only : status ≡ STORE_FAILED → IsNone core → IsNone stopped → IsSome unopened

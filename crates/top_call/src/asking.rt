@@ -1,5 +1,5 @@
 //! What the words ask for.
-ghost use Rattle.std.specs.Prelude.{◌≡◌, ◌≤◌, ◌<◌, ℕ, [], Err, IfOk, IfErr, IfSome, MatchOption, OnOk};
+ghost use Rattle.std.specs.Prelude.{◌≡◌, ◌≤◌, ◌<◌, ℕ, [], Err, IsNone, IfOk, IfErr, IfSome, MatchOption, OnOk};
 ghost use Rattle.run_io.specs.Bytes.{Rose, TookPart};
 ghost use Rattle.script_form.specs.Grammar.{most_read};
 ghost use Rattle.script_form.specs.Servable.{AreServable};
@@ -9,7 +9,9 @@ ghost use Rattle.swarm_gen.specs.Plans.{IsPlan};
 ghost use Rattle.swarm_gen.specs.Swarm.{swarm};
 ghost use Rattle.run_words.specs.declared.words.Words.{Words as Said};
 ghost use Rattle.top_call.specs.Asking.{Asks, AreCommand, interval_in, quiet_in, dump_in, IsRead, IsScriptOf, WasRead, HasPlan};
+ghost use Rattle.top_call.specs.Stopping.{IsStop};
 
+use crate::stop::StopAsked;
 use half_hash::{Memory, NodeHash};
 use ledger_machine::Script;
 use run_io::Source;
@@ -39,6 +41,7 @@ pub(crate) fn interval_of(asked: &Words) -> u32
     match asked {
         Words::Replay { interval, .. } => *interval,
         Words::Swarm { plan, .. } => plan.interval,
+        Words::Stop { interval, .. } => *interval,
     }
 }
 
@@ -49,6 +52,7 @@ pub(crate) fn is_quiet(asked: &Words) -> bool
     match asked {
         Words::Replay { quiet, .. } => *quiet,
         Words::Swarm { quiet, .. } => *quiet,
+        Words::Stop { quiet, .. } => *quiet,
     }
 }
 
@@ -59,6 +63,28 @@ pub(crate) fn has_dump(asked: &Words) -> bool
     match asked {
         Words::Replay { dump, .. } => *dump,
         Words::Swarm { dump, .. } => *dump,
+        Words::Stop { .. } => false,
+    }
+}
+
+/// What is asked of a run on disks that stop; none where the words ask for another one.
+pub(crate) fn stop_of(asked: &Words) -> Option<StopAsked>
+    ensures none { IsNone result → IsStop asked.now → ⊥ }
+    ensures asked { IfSome result (λ s. asked.now ≡ Words.Stop s.at s.pick s.interval s.quiet) }
+{
+    match asked {
+        Words::Stop {
+            at,
+            pick,
+            interval,
+            quiet,
+        } => Some(StopAsked {
+            at: *at,
+            pick: *pick,
+            interval: *interval,
+            quiet: *quiet,
+        }),
+        _ => None,
     }
 }
 
@@ -83,6 +109,7 @@ pub(crate) fn script_for<H: NodeHash, S: Source>(
 {
     match asked {
         Words::Replay { .. } => read_script::<H, S>(alloc, source),
+        Words::Stop { .. } => read_script::<H, S>(alloc, source),
         Words::Swarm { plan, .. } => made::<H>(alloc, plan),
     }
 }

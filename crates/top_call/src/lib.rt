@@ -5,6 +5,7 @@ mod asking;
 mod dump;
 mod run;
 mod status;
+mod stop;
 
 pub use dump::DumpEnd;
 pub use run::{Ended, ledger_run, without_core};

@@ -1,5 +1,6 @@
 //! The top call: reads a script, runs it, and prints its journal.
-ghost use Rattle.std.specs.Prelude.{None, ◌≡◌, ◌⊎◌, ◌≤◌, ◌∷◌, [], IfErr, OnOk, OnErr, IfSome, IsTrue, MatchOption, if◌then◌else◌, map};
+ghost use Rattle.std.specs.Prelude.{None, Some, ◌≡◌, ◌⊎◌, ◌≤◌, ◌∷◌, [], IfErr, IfSome, IsNone, IsTrue, OnOk, OnErr, MatchOption};
+ghost use Rattle.std.specs.Prelude.{if◌then◌else◌, map};
 ghost use Rattle.std.specs.List.{list_any};
 ghost use Rattle.run_io.specs.Bytes.{Rose, Wrote, WrotePart};
 ghost use Rattle.rotating_store.specs.Stores.{Store};
@@ -12,17 +13,21 @@ ghost use Rattle.top_call.specs.Asking.{Asks, quiet_in, dump_in, IsRead, WasRead
 ghost use Rattle.top_call.specs.Top.{IsOneOf, WroteOrFailed, text_of, IsRunOfInput, HasPrinted, HasDumped};
 ghost use Rattle.top_call.specs.Top.{HasStatus, HasSaid, PrintsMore, CountsFrom, IsCalm, EndsWell};
 ghost use Rattle.top_call.specs.Top.{IsUsage, IsScriptRefusal, HasCause, HasNotOpened};
+ghost use Rattle.stop_run.specs.Leaving.{AreLeft};
+ghost use Rattle.top_call.specs.Stopping.{HasStopEnd};
 
-use crate::asking::{asked_for, has_dump, interval_of, is_quiet, script_for};
+use crate::asking::{asked_for, has_dump, interval_of, is_quiet, script_for, stop_of};
 pub use crate::dump::DumpEnd;
 use crate::dump::{DumpFault, print_records};
 use crate::status::{
     CLASHED, FINE, NO_MEMORY, REFUSED, SINK_FAILED, SOURCE_FAILED, STORE_FAILED, USAGE,
 };
+use crate::stop::run_stop;
 use actor_pool::{Gate, run_actors};
 use half_hash::NodeHash;
 use journal_text::{line, summary};
 use ledger_machine::{Entry, Reply};
+use log_shelf::{Disk, MemDisk, MemRoom, Room};
 use node_backend::Shelf;
 use rotating_store::Unopened;
 use run_io::{AllFault, Sink, Source, write_all};
@@ -30,6 +35,7 @@ use script_form::ScriptFault;
 use std::alloc::Global;
 use std::sync::Wait;
 use std::thread::Threads;
+use stop_run::StopEnd;
 use store_core::Core;
 
 /// How a run ended, with the core that it left.
@@ -43,6 +49,8 @@ pub struct Ended<H: NodeHash, Sh: Shelf> {
     pub unopened: Option<Unopened<Sh>>,
     /// How the dump ended.
     pub dump: DumpEnd,
+    /// What a run on disks that stop left; some only where the words ask for one.
+    pub stopped: Option<StopEnd<H>>,
 }
 
 const USAGE_TEXT: &[u8; 33] = b"usage: ledger_run replay | swarm\n";
@@ -91,7 +99,7 @@ fn print_entries<H: NodeHash, Sh: Shelf, K: Sink>(
 }
 
 /// Prints the journal, but not in a quiet run, and the summary.
-fn print<H: NodeHash, Sh: Shelf, K: Sink>(
+pub(crate) fn print<H: NodeHash, Sh: Shelf, K: Sink>(
     alloc: Global,
     core: &Core<H, Sh>,
     sink: &mut K,
@@ -168,7 +176,7 @@ fn unprinted(asked: bool) -> DumpEnd
 }
 
 /// The status of a core whose journal was printed.
-fn own_status<H: NodeHash, Sh: Shelf>(core: &Core<H, Sh>) -> u8
+pub(crate) fn own_status<H: NodeHash, Sh: Shelf>(core: &Core<H, Sh>) -> u8
     ensures { result ≡ status_of core.now.journal core.now.missed }
 {
     journal_status(core.journal(), core.missed())
@@ -258,12 +266,31 @@ pub fn without_core<H: NodeHash, Sh: Shelf>(status: u8) -> Ended<H, Sh>
     ensures core { result.core ≡ None }
     ensures dump { result.dump ≡ DumpEnd.NotAsked }
     ensures unopened { result.unopened ≡ None }
+    ensures stopped { result.stopped ≡ None }
 {
     Ended {
         status,
         core: None,
         unopened: None,
         dump: DumpEnd::NotAsked,
+        stopped: None,
+    }
+}
+
+/// A run on disks that stop ended so.
+fn only_stopped<H: NodeHash, Sh: Shelf>(status: u8, ended: StopEnd<H>) -> Ended<H, Sh>
+    ensures status { result.status ≡ status }
+    ensures core { result.core ≡ None }
+    ensures dump { result.dump ≡ DumpEnd.NotAsked }
+    ensures unopened { result.unopened ≡ None }
+    ensures stopped { result.stopped ≡ Some ended }
+{
+    Ended {
+        status,
+        core: None,
+        unopened: None,
+        dump: DumpEnd::NotAsked,
+        stopped: Some(ended),
     }
 }
 
@@ -275,6 +302,7 @@ fn not_opened<H: NodeHash, Sh: Shelf>(unopened: Unopened<Sh>) -> Ended<H, Sh>
     ensures core { result.core ≡ None }
     ensures dump { result.dump ≡ DumpEnd.NotAsked }
     ensures unopened { result.unopened ≡ Some unopened }
+    ensures stopped { result.stopped ≡ None }
 {
     let status = match &unopened {
         Unopened::Memory => NO_MEMORY,
@@ -285,11 +313,15 @@ fn not_opened<H: NodeHash, Sh: Shelf>(unopened: Unopened<Sh>) -> Ended<H, Sh>
         core: None,
         unopened: Some(unopened),
         dump: DumpEnd::NotAsked,
+        stopped: None,
     }
 }
 
 /// Reads a script, or makes a swarm's, answers each of its lines, and prints the journal of what was answered, of which `--quiet` leaves
 /// the summary alone, and with `--dump` all that is stored then. With `--interval N` a rotation is due at N sequences, else at 256.
+///
+/// `stop` runs a script on disks that stop after so many changing calls, and then opens a core again over what they are left with, and says
+/// how many ledgers the run retained and how many are whole in it. It doesn't use the shelf.
 ///
 /// The first that is met is answered: other words than the commands'; want of memory; the source failed; the
 /// script is refused; the store can't be opened. After the run it is the sink's failing, or want of memory in printing; then a clash,
@@ -310,7 +342,7 @@ pub fn ledger_run<R: Threads + Wait + Sync, H: NodeHash, S: Source, K: Sink, Sh:
         → HasPrinted Sh.B.tells (quiet_in w) (dump_in w) (K.held sink.old) (K.held sink.new) result.status result.dump c) }
     ensures status { IfSome result.core (HasStatus H.half Sh.B.tells result.status) }
     ensures complete { (Rose (S.faults source.old) (S.faults source.new) → ⊥) → (Rose (K.faults sink.old) (K.faults sink.new) → ⊥)
-        → IfSome result.core (IsCalm (Sh.faults shelf)) → IfSome result.unopened (λ u. u ≡ Unopened.Memory)
+        → IsNone result.stopped → IfSome result.core (IsCalm (Sh.faults shelf)) → IfSome result.unopened (λ u. u ≡ Unopened.Memory)
         → EndsWell H.half Sh.B.tells words.now (S.left source.old) result.status result.core }
     ensures counts { IfSome result.core (CountsFrom (Sh.faults shelf)) }
     // Where the words ask for no script that is read, nothing is read.
@@ -318,14 +350,19 @@ pub fn ledger_run<R: Threads + Wait + Sync, H: NodeHash, S: Source, K: Sink, Sh:
     ensures usage { IsUsage words.now result.status (K.held sink.old) (K.held sink.new) (K.faults sink.old) (K.faults sink.new)
         (source.new ≡ source.old) }
     ensures refusal { IsScriptRefusal H.half words.now result.status (S.left source.old) (S.left source.new)
-        (K.held sink.old) (K.held sink.new) (K.faults sink.old) (K.faults sink.new) result.core }
+        (K.held sink.old) (K.held sink.new) (K.faults sink.old) (K.faults sink.new) result.core result.stopped }
     ensures cause { HasCause result.status (S.left source.old) (S.left source.new) (S.faults source.old) (S.faults source.new)
-        (K.faults sink.old) (K.faults sink.new) result.core (sink.new ≡ sink.old) }
-    ensures opening { HasNotOpened result.status result.core result.unopened
+        (K.faults sink.old) (K.faults sink.new) result.core result.stopped (sink.new ≡ sink.old) }
+    ensures opening { HasNotOpened result.status result.core result.stopped result.unopened
         (λ u. ((s : Sh) × (u ≡ Unopened.Shelf s) × Rose (Sh.faults shelf) (Sh.faults s))
         ⊎ ((t : Store) × (u ≡ Unopened.Store t) × Rose (Sh.faults shelf) t.faults))
         (λ u. u ≡ Unopened.Memory) (sink.new ≡ sink.old)
         ((w : Said) → Asks words.now w → WasRead w (S.left source.old) (S.left source.new)) }
+    // A run on disks that stop, where the words ask for one: nothing that it retained is lost.
+    ensures stopped { HasStopEnd H.half
+        (λ pick c. AreLeft (⟦<MemRoom as Room>⟧) (⟦<MemDisk as Disk>⟧) H.half pick c.written c.archived)
+        words.now (S.left source.old) (S.left source.new) (K.held sink.old) (K.held sink.new) (K.faults sink.old) (K.faults sink.new)
+        result.status result.core result.stopped (sink.new ≡ sink.old) }
 {
     let Some(asked) = asked_for(words) else {
         let _ = write_all(sink, USAGE_TEXT);
@@ -339,6 +376,10 @@ pub fn ledger_run<R: Threads + Wait + Sync, H: NodeHash, S: Source, K: Sink, Sh:
             return without_core(refuse(alloc, line, cause, sink));
         }
     };
+    if let Some(stop) = stop_of(&asked) {
+        let (status, ended) = run_stop(rt, alloc, hash, script, stop, sink, gate);
+        return only_stopped(status, ended);
+    }
     let core = match Core::open(alloc, hash, script, interval_of(&asked), shelf) {
         Ok(core) => core,
         Err(unopened) => return not_opened(unopened),
@@ -352,5 +393,6 @@ pub fn ledger_run<R: Threads + Wait + Sync, H: NodeHash, S: Source, K: Sink, Sh:
         core: Some(core),
         unopened: None,
         dump,
+        stopped: None,
     }
 }

@@ -37,3 +37,20 @@ pub returns-in_ok-read_options-in-swarm-clause-only : goal.returns-in_ok-read_op
 returns-in_ok-read_options-in-swarm-clause-only c =
     command_only (texts c.args.words.now) (texts c.in-Some.options.now) c.in-Some.command.now.now _ _ c.swarm.result
     (ap texts c.in-Some.ensures.cases.0) c.in-swarm.is c.in_ok-read_options-in-swarm.ensures c.swarm.ensures
+
+pub returns-in_err-read_options-in-stop-clause-says : goal.returns-in_err-read_options-in-stop-clause-says
+returns-in_err-read_options-in-stop-clause-says c =
+    let p = err_from_is_err_and c.from_residual-in_err-read_options-in-stop.result
+    c.from_residual-in_err-read_options-in-stop.ensures.1 in
+    rw p.1 (no_options_say (texts c.args.words.now) (texts c.in-Some.options.now) c.in-Some.command.now.now
+    (ap texts c.in-Some.ensures.cases.0) c.in_err-read_options-in-stop.ensures)
+
+pub returns-in_ok-read_options-in-stop-clause-says : goal.returns-in_ok-read_options-in-stop-clause-says
+returns-in_ok-read_options-in-stop-clause-says c =
+    command_says (texts c.args.words.now) (texts c.in-Some.options.now) c.in-Some.command.now.now _ _ c.stop.result
+    (ap texts c.in-Some.ensures.cases.0) c.in-stop.is c.in_ok-read_options-in-stop.ensures c.stop.ensures
+
+pub returns-in_ok-read_options-in-stop-clause-only : goal.returns-in_ok-read_options-in-stop-clause-only
+returns-in_ok-read_options-in-stop-clause-only c =
+    command_only (texts c.args.words.now) (texts c.in-Some.options.now) c.in-Some.command.now.now _ _ c.stop.result
+    (ap texts c.in-Some.ensures.cases.0) c.in-stop.is c.in_ok-read_options-in-stop.ensures c.stop.ensures

@@ -4,6 +4,9 @@ use Rattle.std.proofs.Common.{◌≡◌, Bool, Err, arith, refl, is_some, sym, �
 use Rattle.run_words.specs.declared.words.Words.{Words}
 use Rattle.top_call.specs.Asking.{interval_in, quiet_in, dump_in, IsRead, WasRead}
 use Rattle.top_call.specs.Top.{HasPrinted}
+use Rattle.top_call.specs.Stopping.{IsStop}
+use Rattle.top_call.proofs.Again.{none_stopped}
+use Rattle.top_call.proofs.Stops.{ended_cause, ended_status, has_stop_end, run_usage}
 use Rattle.top_call.proofs.Refusals.{run_refusal, script_as, asked_as, full_as}
 use Rattle.top_call.proofs.Statuses.{status_from, ends_from}
 use Rattle.top_call.proofs.run.ledger_run.Goals as goal
@@ -51,7 +54,7 @@ returns-clause-status g c =
     (g.K.Sink.faults c.args.sink.now) (g.K.Sink.faults c.print_all-status.new.sink) c.journal.ensures.kept c.print_all-status.ensures.said
 
 pub returns-clause-refusal : goal.returns-clause-refusal
-returns-clause-refusal g c = run_refusal g.H.NodeHash.half _ _ _ _ _ _ _ _ _ (returns-clause-run g c).script
+returns-clause-refusal g c = run_refusal g.H.NodeHash.half _ _ _ _ _ _ _ _ _ _ _ _ (returns-clause-run g c).script
     (returns-clause-status g c).one_of
 
 -- the store was opened with a count that isn't below the shelf's, and its count never falls
@@ -72,7 +75,7 @@ returns-clause-unread g c w asks none =
     c.script_for.ensures.unread (λ read. none (subst IsRead (sym (c.in-Some.ensures.only w asks)) read))
 
 pub returns-clause-complete : goal.returns-clause-complete
-returns-clause-complete g c _ calm still _ =
+returns-clause-complete g c _ calm _ still _ =
     ends_from g.H.NodeHash.half g.Sh.B.Backend.tells c.args.words.now (g.S.Source.left c.args.source.now) c.print_all-status.result.0
     (g.Sh.Shelf.faults c.args.shelf) c.print_all-status.new.core (g.K.Sink.faults c.args.sink.now)
     (g.K.Sink.faults c.print_all-status.new.sink) c.journal.ensures.kept (returns-clause-counts g c) still calm
@@ -89,5 +92,35 @@ returns-in-Err-clause-opening g c = record {
       (opened_by g.Sh.Shelf.faults (g.Sh.Shelf.faults c.args.shelf) c.not_opened.result.status c.in-Err.unopened
       c.not_opened.ensures.shelf c.not_opened.ensures.store c.not_opened.ensures.memory
       (λ s e. c.open.ensures.shelf s (c.in-Err.is ∙ ap Err e)) (λ t e. c.open.ensures.store t (c.in-Err.is ∙ ap Err e)));
-  only = λ a b. ap is_some c.not_opened.ensures.unopened;
+  only = λ a b n. ap is_some c.not_opened.ensures.unopened;
 }
+
+-- a run on disks that stop is of the script, and its core stands in what it left
+pub returns-in-Some-stop_of-clause-refusal : goal.returns-in-Some-stop_of-clause-refusal
+returns-in-Some-stop_of-clause-refusal g c =
+    rw c.only_stopped.ensures.status
+    (run_refusal g.H.NodeHash.half _ _ _ _ _ _ _ _ c.in-Ok.script.records.items c.in-Ok.script.lines.items _ _
+    (λ w asks. asked_as g.H.NodeHash.half c.in-Some.asked w _ _ _ (c.in-Some.ensures.only w asks) c.in-Ok.ensures.script)
+    (ended_status _ _ _ _ _ _ _ _ _ _ _ _ _ c.run_stop-status.result.1 c.run_stop-status.ensures.ended))
+
+pub returns-in-Some-stop_of-clause-cause : goal.returns-in-Some-stop_of-clause-cause
+returns-in-Some-stop_of-clause-cause g c =
+    rw c.only_stopped.ensures.status (rw c.only_stopped.ensures.core (rw c.only_stopped.ensures.stopped
+    (ended_cause _ _ _ _ _ _ _ _ _ _ _ _ _ _ _ _ _ c.run_stop-status.result.1 c.run_stop-status.ensures.ended
+    c.script_for.ensures.later c.run_stop-status.ensures.later c.script_for.ensures.taken)))
+
+pub returns-in-Some-stop_of-clause-stopped : goal.returns-in-Some-stop_of-clause-stopped
+returns-in-Some-stop_of-clause-stopped g c =
+    rw c.only_stopped.ensures.status (rw c.only_stopped.ensures.core (rw c.only_stopped.ensures.stopped
+    (has_stop_end g.H.NodeHash.half _ _ _ _ _ _ _ _ _ _ c.in-Ok.script.records.items c.in-Ok.script.lines.items c.in-Some-stop_of.stop.at
+    c.in-Some-stop_of.stop.pick c.in-Some-stop_of.stop.interval c.in-Some-stop_of.stop.quiet c.in-Some.asked c.run_stop-status.result.1
+    c.in-Some-stop_of.ensures.asked c.in-Some.ensures.only c.in-Ok.ensures.script c.in-Ok.ensures.read c.run_stop-status.ensures.ended)))
+
+pub returns-clause-usage : goal.returns-clause-usage
+returns-clause-usage g c = run_usage _ _ _ _ _ _ _ c.in-Some.ensures.command (returns-clause-status g c).one_of
+
+-- other words ask for no such run
+pub returns-clause-stopped : goal.returns-clause-stopped
+returns-clause-stopped g c =
+    none_stopped g.H.NodeHash.half _ _ _ _ _ _ _ _ _ _ _
+    (λ w asks stop. absurd (c.in_default-stop_of.ensures.none refl (subst IsStop (c.in-Some.ensures.only w asks) stop)))
