@@ -23,14 +23,14 @@ use Rattle.acquire_core.specs.contracts.acquire.Acquire as Acquire
 use Rattle.online_rotate.specs.contracts.rotator.Rotator as Rotator
 use Rattle.retain_book.specs.contracts.Book as Book
 use Rattle.open_sessions.specs.contracts.open.Open as Open
+use Rattle.store_core.specs.contracts.tables.Tables as Tables
+use Rattle.store_core.specs.contracts.tables.Tables.TheInside as TablesIn
 use Rattle.store_core.specs.contracts.machine.Machine as Machine
 use Rattle.store_core.specs.contracts.machine.Machine.TheInside as MachineIn
-use Rattle.store_core.specs.contracts.bench.Bench as Bench
-use Rattle.store_core.specs.contracts.bench.Bench.TheInside as BenchIn
 use Rattle.store_core.specs.contracts.hall.Hall as Hall
 use Rattle.store_core.specs.contracts.hall.Hall.TheInside as HallIn
-use Rattle.store_core.specs.contracts.store.Core as Core
-use Rattle.store_core.specs.contracts.store.Core.TheInside as CoreIn
+use Rattle.store_core.specs.contracts.core_calls.Core as Core
+use Rattle.store_core.specs.contracts.core_calls.Core.TheInside as CoreIn
 use Rattle.actor_pool.specs.declared.shared.Pinned as pins
 use Rattle.actor_pool.specs.contracts.shared.Shared as Shared
 
@@ -89,9 +89,9 @@ module _ (Sh B : RattleType) (s : shelves.Ghosts Sh.Denot B.Denot) (b : backends
       search sendable depth 20
 
 module _ (H Sh B : RattleType) (h : hashes.Ghosts H.Denot) (s : shelves.Ghosts Sh.Denot B.Denot) (b : backends.Ghosts B.Denot) where
-  Machine-send : IsSend H → IsSend Sh → IsSend B → IsSend (Machine.the_row H Sh B h s b)
-  Machine-send x y q =
-      let all : AllSend (fields (MachineIn.the_type H Sh B h s b)) = (
+  Tables-send : IsSend H → IsSend Sh → IsSend B → IsSend (Tables.the_row H Sh B h s b)
+  Tables-send x y q =
+      let all : AllSend (fields (TablesIn.the_type H Sh B h s b)) = (
         x,
         (
           RotStore-send Sh B s b y q,
@@ -104,22 +104,22 @@ module _ (H Sh B : RattleType) (h : hashes.Ghosts H.Denot) (s : shelves.Ghosts S
           ),
         ),
       ) in
-      let i : IsSend (MachineIn.the_row H Sh B h s b) =
-      recorded_send _ _ _ (MachineIn.the_type H Sh B h s b).to_one (struct_send (shape (MachineIn.the_type H Sh B h s b)) all) in
+      let i : IsSend (TablesIn.the_row H Sh B h s b) =
+      recorded_send _ _ _ (TablesIn.the_type H Sh B h s b).to_one (struct_send (shape (TablesIn.the_type H Sh B h s b)) all) in
       search sendable depth 20
 
-  Bench-send : IsSend H → IsSend Sh → IsSend B → IsSend (Bench.the_row H Sh B h s b)
-  Bench-send x y q =
-      let all : AllSend (fields (BenchIn.the_type H Sh B h s b)) =
-      (Machine-send x y q, (Open-send, tt)) in
-      let i : IsSend (BenchIn.the_row H Sh B h s b) =
-      recorded_send _ _ _ (BenchIn.the_type H Sh B h s b).to_one (struct_send (shape (BenchIn.the_type H Sh B h s b)) all) in
+  Machine-send : IsSend H → IsSend Sh → IsSend B → IsSend (Machine.the_row H Sh B h s b)
+  Machine-send x y q =
+      let all : AllSend (fields (MachineIn.the_type H Sh B h s b)) =
+      (Tables-send x y q, (Open-send, tt)) in
+      let i : IsSend (MachineIn.the_row H Sh B h s b) =
+      recorded_send _ _ _ (MachineIn.the_type H Sh B h s b).to_one (struct_send (shape (MachineIn.the_type H Sh B h s b)) all) in
       search sendable depth 20
 
   Hall-send : IsSend H → IsSend Sh → IsSend B → IsSend (Hall.the_row H Sh B h s b)
   Hall-send x y q =
       let all : AllSend (fields (HallIn.the_type H Sh B h s b)) =
-      (Bench-send x y q, (search (Hash32-send, crosses, maps, send, sendable) depth 40, tt)) in
+      (Machine-send x y q, (search (Hash32-send, crosses, maps, send, sendable) depth 40, tt)) in
       let i : IsSend (HallIn.the_row H Sh B h s b) =
       recorded_send _ _ _ (HallIn.the_type H Sh B h s b).to_one (struct_send (shape (HallIn.the_type H Sh B h s b)) all) in
       search sendable depth 20

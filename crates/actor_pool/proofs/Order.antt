@@ -17,8 +17,8 @@ use Rattle.ledger_machine.specs.Runs.{IsDone, IsBlocked, is_answered, next_line}
 use Rattle.store_core.proofs.Finding.{rising}
 use Rattle.store_core.proofs.Journals.{numbers-append}
 use Rattle.store_core.proofs.Waiting.{answered_any, any_answered, number_at, same_place, next_at, next_left, blocked_at, drop_at}
-use Rattle.store_core.specs.declared.store.Stepped.{Stepped}
-use Rattle.store_core.specs.declared.store.Stepped.TheVariants as step
+use Rattle.store_core.specs.declared.core_calls.Stepped.{Stepped}
+use Rattle.store_core.specs.declared.core_calls.Stepped.TheVariants as step
 use Rattle.actor_pool.specs.Order.{AreAnswered}
 
 -- numbers that rise from above n

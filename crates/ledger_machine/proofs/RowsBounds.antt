@@ -17,7 +17,8 @@ use Rattle.ledger_machine.specs.declared.replies.ViewReply.TheVariants as views
 use Rattle.ledger_machine.specs.declared.replies.WantReply.TheVariants as wants
 use Rattle.ledger_machine.specs.declared.replies.Reply.TheVariants as says
 use Rattle.ledger_machine.specs.Closing.{closing_forms}
-use Rattle.ledger_machine.specs.State.{State, Session, opening, default_interval}
+use Rattle.ledger_machine.specs.Limits.{default_interval}
+use Rattle.ledger_machine.specs.State.{State, Session, opening}
 use Rattle.ledger_spec.specs.Acquiring.{acquiring}
 use Rattle.ledger_machine.specs.Steps.{Refused}
 use Rattle.ledger_machine.specs.Views.{view_reply}

@@ -12,7 +12,8 @@ use Rattle.ledger_machine.specs.declared.replies.EditReply.TheVariants as edits
 use Rattle.ledger_machine.specs.declared.replies.DelReply.TheVariants as dels
 use Rattle.ledger_machine.specs.declared.replies.CloseReply.TheVariants as close
 use Rattle.ledger_machine.specs.declared.replies.Reply.TheVariants as says
-use Rattle.ledger_machine.specs.State.{State, Session, opening, default_interval}
+use Rattle.ledger_machine.specs.Limits.{default_interval}
+use Rattle.ledger_machine.specs.State.{State, Session, opening}
 use Rattle.ledger_machine.specs.Closing.{closing_forms}
 use Rattle.ledger_machine.proofs.RowValues.{at, entries_of, hashes_of, forms_in, item11, leaf10, leaf11, inner11, root11, root12}
 use Rattle.ledger_machine.proofs.RowValues.{bytes11, bytes12, nodes10, nodes11, nodes12}

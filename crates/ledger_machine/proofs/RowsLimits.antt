@@ -15,7 +15,8 @@ use Rattle.ledger_machine.specs.declared.commands.Command.TheVariants as command
 use Rattle.ledger_machine.specs.declared.replies.EditReply.TheVariants as edits
 use Rattle.ledger_machine.specs.declared.replies.TickReply.TheVariants as ticks
 use Rattle.ledger_machine.specs.declared.replies.Reply.TheVariants as says
-use Rattle.ledger_machine.specs.State.{State, Session, opening, default_interval}
+use Rattle.ledger_machine.specs.Limits.{default_interval}
+use Rattle.ledger_machine.specs.State.{State, Session, opening}
 use Rattle.ledger_spec.specs.Acquiring.{Acquiring}
 use Rattle.ledger_machine.specs.Closing.{closing_forms}
 use Rattle.ledger_machine.specs.Steps.{Refused}

@@ -23,7 +23,8 @@ use Rattle.ledger_machine.specs.declared.replies.PageReply.TheVariants as pages
 use Rattle.ledger_machine.specs.declared.replies.ViewReply.TheVariants as views
 use Rattle.ledger_machine.specs.declared.replies.Reply.TheVariants as says
 use Rattle.ledger_machine.specs.Reading.{value_in, leaf_entry}
-use Rattle.ledger_machine.specs.State.{State, opening, default_interval, form_in}
+use Rattle.ledger_machine.specs.Limits.{default_interval}
+use Rattle.ledger_machine.specs.State.{State, opening, form_in}
 use Rattle.ledger_machine.proofs.RowValues.{at, entries_of, hashes_of, leaf10, root10, nodes10}
 use Rattle.ledger_machine.proofs.RowSteps.{in_list, store, read_off, Row, Reads, step, gives, gets_from, pages_from}
 

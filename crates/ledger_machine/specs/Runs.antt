@@ -9,14 +9,11 @@ use Rattle.ledger_spec.specs.Forms.{Held}
 use Rattle.ledger_machine.specs.declared.commands.Line.{Line}
 use Rattle.ledger_machine.specs.declared.commands.Record.{Record}
 use Rattle.ledger_machine.specs.declared.journal.Entry.{Entry}
+use Rattle.ledger_machine.specs.Limits.{actors}
 use Rattle.ledger_machine.specs.State.{State, opening}
 use Rattle.ledger_machine.specs.Steps.{Step}
 use Rattle.ledger_machine.specs.Records.{with_records}
 use Rattle.ledger_machine.specs.Scripts.{line_of, numbers_of}
-
--- how many actors there are, numbered from 0
-abbrev pub actors : ℕ
-actors = 64
 
 abbrev pub used_by : Entry → List Held
 used_by e = map (λ a. held a.value) e.used.items

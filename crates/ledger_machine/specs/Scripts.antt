@@ -4,6 +4,7 @@ use Rattle.std.specs.List.{filter, find}
 use Rattle.ledger_spec.specs.Bytes.{Bytes, Hash, is_nonzero, are_bytes}
 use Rattle.ledger_spec.specs.declared.Kind.{Kind}
 use Rattle.ledger_spec.specs.declared.Kind.TheVariants.{State, Tx, Set}
+use Rattle.ledger_machine.specs.Limits.{most_listed}
 use Rattle.ledger_machine.specs.declared.commands.Command.{Command}
 use Rattle.ledger_machine.specs.declared.commands.Command.TheVariants as command
 use Rattle.ledger_machine.specs.declared.commands.Line.{Line}
@@ -97,7 +98,7 @@ IsInRange (command.Tick t) = IsTrue (is_nonzero t)
 IsInRange (command.View v t) = IsTrue (is_nonzero t)
 IsInRange (command.Unview v) = Unit {0}
 IsInRange (command.Get v kind key) = IsTrue (is_nonzero key) × (length key ≡ 32) × AreBytes key × IsLedgerMap kind
-IsInRange (command.Page v kind key n) = IsLedgerMap kind × (1 ≤ n) × (n ≤ 256)
+IsInRange (command.Page v kind key n) = IsLedgerMap kind × (1 ≤ n) × (n ≤ most_listed)
 IsInRange (command.Edit x t) = IsTrue (is_nonzero t)
 IsInRange (command.Put x item) = AreBytes item.key × AreBytes item.value
 IsInRange (command.Del x key) = IsNamedKey key

@@ -10,6 +10,7 @@ use Rattle.ledger_machine.specs.declared.replies.EditReply.{EditReply}
 use Rattle.ledger_machine.specs.declared.replies.EditReply.TheVariants as edits
 use Rattle.ledger_machine.specs.declared.replies.DelReply.{DelReply}
 use Rattle.ledger_machine.specs.declared.replies.DelReply.TheVariants as dels
+use Rattle.ledger_machine.specs.Limits.{last_seq, most_sessions}
 use Rattle.ledger_machine.specs.State.{State, Session, form_in, stored_seq}
 use Rattle.ledger_machine.specs.Views.{is_retained}
 
@@ -17,8 +18,8 @@ abbrev pub edit_reply : State → ℕ × ℕ → Hash → EditReply
 edit_reply s x t =
     if has_in numbered_cmp s.sessions x then edits.InUse
     else if not (is_retained s t) then edits.NotRetained
-    else if nat_le 4294967295 (stored_seq s t) then edits.LastSeq
-    else if length s.sessions == 64 then edits.TooMany
+    else if nat_le last_seq (stored_seq s t) then edits.LastSeq
+    else if length s.sessions == most_sessions then edits.TooMany
     else edits.Fine
 
 -- a session on the ledger's account state, without transactions

@@ -98,10 +98,6 @@ with_sessions s sessions = record s { sessions = sessions }
 abbrev pub stored_seq : State → Hash → ℕ
 stored_seq s t = option_map_or seq_of (header_in (form_in s) t) 0
 
--- the interval where no word names one
-abbrev pub default_interval : ℕ
-default_interval = 256
-
 -- the opening: nothing but the records, all of them born in epoch 0
 abbrev pub opening : Nodes → ℕ → State
 opening records interval = record {

@@ -5,6 +5,7 @@ use Rattle.ledger_spec.specs.Maps.{numbered_cmp, has_in, insert_in, remove_in}
 use Rattle.ledger_spec.specs.Bytes.{Hash, same_bytes}
 use Rattle.ledger_machine.specs.declared.replies.ViewReply.{ViewReply}
 use Rattle.ledger_machine.specs.declared.replies.ViewReply.TheVariants.{Fine, NotRetained, InUse, TooMany}
+use Rattle.ledger_machine.specs.Limits.{most_views}
 use Rattle.ledger_machine.specs.State.{State, retained}
 
 abbrev pub is_retained : State → Hash → Bool
@@ -14,7 +15,7 @@ abbrev pub view_reply : State → ℕ × ℕ → Hash → ViewReply
 view_reply s v t =
     if has_in numbered_cmp s.views v then InUse
     else if not (is_retained s t) then NotRetained
-    else if length s.views == 1024 then TooMany
+    else if length s.views == most_views then TooMany
     else Fine
 
 abbrev pub after_view : State → ℕ × ℕ → Hash → ViewReply → State

@@ -5,11 +5,8 @@ use Rattle.ledger_spec.specs.Bytes.{Hash}
 use Rattle.ledger_spec.specs.Acquiring.{acquiring}
 use Rattle.ledger_machine.specs.declared.replies.WantReply.{WantReply}
 use Rattle.ledger_machine.specs.declared.replies.WantReply.TheVariants.{Opened, Open, Listed, BelowFloor, TooMany}
+use Rattle.ledger_machine.specs.Limits.{most_wanted}
 use Rattle.ledger_machine.specs.State.{State}
-
--- how many acquisitions may be open
-abbrev pub most_wanted : ℕ
-most_wanted = 64
 
 abbrev pub want_reply : State → Hash → ℕ → WantReply
 want_reply s t seq =

@@ -25,10 +25,10 @@ use Rattle.ledger_machine.specs.Scripts.{IsBeside}
 use Rattle.ledger_machine.specs.State.{State, Session, form_in, roots, bases, with_sessions}
 use Rattle.ledger_machine.specs.Steps.{IsAfter, own_hashes}
 use Rattle.open_sessions.specs.Edited.{sessions_in}
-use Rattle.store_core.specs.Benches.{told_forms, with_open, KeepsDrafts}
+use Rattle.store_core.specs.Machines.{told_forms, with_open, KeepsDrafts}
 use Rattle.store_core.specs.Desks.{Desk}
 use Rattle.store_core.specs.Telling.{IsSteady, TellsRoot, AreTold, BeginsBy, AfterSwap}
-use Rattle.store_core.proofs.Benches.{keeps_same}
+use Rattle.store_core.proofs.Machines.{keeps_same}
 use Rattle.store_core.proofs.Rotations.{open_kept, open_swapped}
 use Rattle.store_core.proofs.Roots.{listed_among, viewed_among, wanted_among, each_stands}
 

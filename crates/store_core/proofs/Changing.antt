@@ -13,7 +13,7 @@ use Rattle.ledger_machine.specs.Sessions.{has_session, after_put, after_tx, del_
 use Rattle.open_sessions.specs.Changed.{Changed}
 use Rattle.open_sessions.specs.Rows.{AllKept, del_said}
 use Rattle.open_sessions.proofs.Rows.{put_gives, tx_gives, del_gives}
-use Rattle.store_core.specs.Benches.{with_open, KeepsDrafts}
+use Rattle.store_core.specs.Machines.{with_open, KeepsDrafts}
 use Rattle.store_core.specs.Desks.{Desk, OnlyReads, Stays}
 
 -- one of two facts of an answer
@@ -56,12 +56,13 @@ del_by half tells m n key old new x (Err e) told same c = tt
 
 -- what only reads the store lists nothing
 pub reads_stays : (half : Half) (tells : Bool) (d d' : Desk) (old new : ForActor Draft) → OnlyReads tells d d'
-    → Stays (record d { state = with_open half tells d.state old }) (record d' { state = with_open half tells d'.state new })
+    → Stays tells (record d { state = with_open half tells d.state old }) (record d' { state = with_open half tells d'.state new })
 reads_stays half tells d d' old new read = record {
   later = read.later;
   listed = ap (λ (s : State). s.listed) read.tables;
   epoch = ap (λ (s : State). s.epoch) read.tables;
   slices = read.slices;
+  copies = read.copies;
 }
 
 -- and tells nothing

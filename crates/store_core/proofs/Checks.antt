@@ -44,7 +44,7 @@ use Rattle.store_core.specs.declared.rotating.Part.{Part}
 use Rattle.store_core.specs.declared.rotating.Part.TheVariants as parts
 use Rattle.store_core.specs.Checking.{AreKept, AsksNothing, ChecksByMarks, HasFound, IsNoCheck, IsOpen, IsSought}
 use Rattle.store_core.specs.Checking.{KeepsSearches, LeavesMarks, LeavesSearch, SearchesBy, Shares, TurnsBy, sought_by}
-use Rattle.store_core.proofs.Tables.{IsOver, filed_over}
+use Rattle.store_core.proofs.Entries.{IsOver, filed_over}
 
 -- what a state's store tells
 pub tells_over : (tells : Bool) (half : Half) (st : Store) (s : State) → IsTrue tells → IsOver st s → AreStored half (form_in s)

@@ -24,7 +24,7 @@ use Rattle.ledger_machine.specs.State.{State, form_in, stored_seq, with_wanted, 
 use Rattle.ledger_machine.specs.Check.{told_by, verdict_of, check_said, check_given, check_reply, after_check}
 use Rattle.store_core.specs.Wanting.{check_told, judged_by, found_seq, settled}
 use Rattle.store_core.proofs.States.{set_same}
-use Rattle.store_core.proofs.Tables.{IsOver, filed_over}
+use Rattle.store_core.proofs.Entries.{IsOver, filed_over}
 
 -- what a header that was read tells is what its bytes tell
 told_is : (head : Option Head) (o : Option Bytes) → option_map (λ (h : Head). header_bytes (fields h)) head ≡ o

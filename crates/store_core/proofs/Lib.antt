@@ -4,8 +4,8 @@ pub mod Waiting
 pub mod Journals
 pub mod Finding
 pub mod Opens
-pub mod Listing
-pub mod Tables
+pub mod Listed
+pub mod Entries
 pub mod Founds
 pub mod Parts
 pub mod Putting
@@ -17,10 +17,10 @@ pub mod Checks
 pub mod Viewing
 pub mod Paging
 pub mod Charging
-pub mod Benches
+pub mod Machines
 pub mod Changing
 pub mod Starting
-pub mod Keeping
+pub mod Kept
 pub mod KeepingAll
 pub mod Sealing
 pub mod Publishing

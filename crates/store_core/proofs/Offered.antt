@@ -45,7 +45,7 @@ use Rattle.ledger_spec.specs.Maps.{ForActor}
 use Rattle.edit_session.specs.Drafts.{Draft}
 use Rattle.ledger_machine.specs.State.{State}
 use Rattle.ledger_machine.specs.Rotation.{AreShaded}
-use Rattle.store_core.specs.Benches.{with_open}
+use Rattle.store_core.specs.Machines.{with_open}
 use Rattle.store_core.specs.Telling.{AreTold, AreWantedTold}
 use Rattle.store_core.proofs.Roots.{wanted_among}
 use Rattle.store_core.proofs.Turns.{forms_add, forms_grow, walking_adds, walking_heeded}

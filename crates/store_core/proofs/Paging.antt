@@ -26,7 +26,7 @@ use Rattle.ledger_machine.specs.declared.replies.Reply.TheVariants as says
 use Rattle.ledger_machine.specs.Reading.{leaf_entry, IsPage}
 use Rattle.ledger_machine.specs.Scripts.{IsLedgerMap}
 use Rattle.ledger_machine.specs.State.{State, form_in}
-use Rattle.store_core.proofs.Tables.{IsOver}
+use Rattle.store_core.proofs.Entries.{IsOver}
 
 -- a ledger's map is no set
 pub no_set : (kind : Kind) → IsLedgerMap kind → kind ≢ kinds.Set

@@ -43,7 +43,7 @@ use Rattle.store_core.specs.Desks.{over}
 use Rattle.store_core.specs.Refusals.{search_refusal}
 use Rattle.store_core.specs.Wanting.{base_answer, node_answer}
 use Rattle.store_core.proofs.States.{set_same, same_shaded, refused_nothing}
-use Rattle.store_core.proofs.Tables.{IsOver, stored_over}
+use Rattle.store_core.proofs.Entries.{IsOver, stored_over}
 
 -- a base reply's parts, and a node, as they were judged
 parts_ok : (r : Result Judged Clash) (j : Judged) → acquire.parts_reply r ≡ Ok (Some j) → r ≡ Ok j

@@ -39,7 +39,7 @@ use Rattle.ledger_laws.proofs.SoundTables.{all_found}
 use Rattle.ledger_laws.proofs.SoundViews.{numbered_total}
 use Rattle.ledger_laws.proofs.Stored.{Goes, on, begun, swapped, row_goes}
 use Rattle.open_sessions.proofs.Tables.{over_get, over_has, over_insert, over_remove, over_values}
-use Rattle.store_core.specs.Benches.{IsHeaderOf}
+use Rattle.store_core.specs.Machines.{IsHeaderOf}
 use Rattle.store_core.specs.Halls.{AreViews, root_of, root_by}
 use Rattle.store_core.specs.declared.jobs.View.{View}
 use Rattle.store_core.proofs.Sighting.{LeavesViews, row_views, refused_view}

@@ -36,12 +36,12 @@ use Rattle.ledger_machine.specs.State.{State, Session, form_in, with_form, with_
 use Rattle.ledger_machine.specs.Steps.{Does, IsAfter, Refused, own_hashes, want_target}
 use Rattle.open_sessions.specs.Edited.{sessions_in}
 use Rattle.open_sessions.specs.Rows.{AllKept}
-use Rattle.store_core.specs.Benches.{with_open, KeepsDrafts}
+use Rattle.store_core.specs.Machines.{with_open, KeepsDrafts}
 use Rattle.store_core.specs.Closing.{MayKeepAll, KeptSome, IsMade, IsUnclosed}
 use Rattle.store_core.specs.Refusals.{refusal_of}
 use Rattle.store_core.specs.Telling.{Hears, TellsRoot}
-use Rattle.store_core.proofs.Listing.{insert_few}
-use Rattle.store_core.proofs.Benches.{all_grow, sessions_stay, ended_state, ended_keeps, keeps_same}
+use Rattle.store_core.proofs.Listed.{insert_few}
+use Rattle.store_core.proofs.Machines.{all_grow, sessions_stay, ended_state, ended_keeps, keeps_same}
 use Rattle.store_core.proofs.States.{after_on, form_after}
 
 -- forms that are given with their own hashes have these

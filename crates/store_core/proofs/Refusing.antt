@@ -20,7 +20,7 @@ use Rattle.node_offer.specs.declared.fault.OfferFault.{OfferFault}
 use Rattle.node_offer.specs.declared.fault.OfferFault.TheVariants as faults
 use Rattle.open_sessions.specs.Edited.{sessions_in}
 use Rattle.rotating_store.specs.Stores.{Store}
-use Rattle.store_core.specs.Benches.{with_open, told_forms}
+use Rattle.store_core.specs.Machines.{with_open, told_forms}
 use Rattle.store_core.specs.Closing.{MayKeepAll}
 use Rattle.store_core.specs.Desks.{KeepsRest, over}
 use Rattle.store_core.specs.Refusals.{IsRefusal}

@@ -18,7 +18,7 @@ use Rattle.ledger_laws.proofs.SoundCheck.{key_inserted}
 use Rattle.ledger_laws.proofs.SoundForms.{in_head, in_tail}
 use Rattle.ledger_machine.specs.State.{State, retained}
 use Rattle.edit_session.specs.Drafts.{Draft}
-use Rattle.store_core.specs.Benches.{with_open}
+use Rattle.store_core.specs.Machines.{with_open}
 use Rattle.store_core.specs.Retaining.{AreRising, AreRetained, HaveKeys}
 use Rattle.store_core.proofs.Rotations.{bases_open}
 use Rattle.store_core.proofs.Retold.{key_in}

@@ -49,7 +49,7 @@ use Rattle.open_sessions.specs.Edited.{IsKept, session_in, sessions_in, items_in
 use Rattle.open_sessions.specs.Rows.{AllKept}
 use Rattle.open_sessions.proofs.Editing.{edited}
 use Rattle.open_sessions.proofs.Tables.{over_same, over_values}
-use Rattle.store_core.specs.Benches.{told_forms, with_open}
+use Rattle.store_core.specs.Machines.{told_forms, with_open}
 use Rattle.store_core.specs.Refusals.{read_refusal}
 use Rattle.store_core.specs.Telling.{AreTold, Carried, BeginsBy, SwapsTold, AfterSwap}
 use Rattle.store_core.proofs.States.{same_shaded, refused_nothing}

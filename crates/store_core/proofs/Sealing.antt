@@ -38,7 +38,7 @@ use Rattle.ledger_machine.specs.State.{State, Session, form_in, with_forms}
 use Rattle.open_sessions.specs.Edited.{IsKept, items_in, session_in}
 use Rattle.open_sessions.proofs.Closing.{picks_same, header_same, forms_same}
 use Rattle.open_sessions.proofs.Tables.{over_get}
-use Rattle.store_core.specs.Benches.{told_forms, with_open, KeepsDrafts}
+use Rattle.store_core.specs.Machines.{told_forms, with_open, KeepsDrafts}
 use Rattle.store_core.specs.Closing.{IsMade, IsUnmade, fields_of, unsealed_by}
 
 -- forms that are given under their hashes are those forms

@@ -29,7 +29,7 @@ use Rattle.ledger_machine.specs.declared.replies.BeginReply.TheVariants as begin
 use Rattle.ledger_machine.specs.State.{State}
 use Rattle.store_core.specs.Journal.{CoreView}
 use Rattle.store_core.specs.Journal as journal
-use Rattle.store_core.specs.Benches.{with_open}
+use Rattle.store_core.specs.Machines.{with_open}
 use Rattle.store_core.specs.Desks.{Desk, Grows, KeepsRest, backs, behind, desk_of}
 use Rattle.store_core.specs.Telling.{CountsFrom, CountsSlice, CopiesBy, CopiesFew, most_copied, most_slices, slice_told}
 use Rattle.std.specs.Prelude.{List, slice_set}

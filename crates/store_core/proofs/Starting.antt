@@ -28,7 +28,7 @@ use Rattle.open_sessions.specs.Rows.{AllKept}
 use Rattle.open_sessions.proofs.Opening.{opened_kept}
 use Rattle.open_sessions.proofs.Rows.{open_gives}
 use Rattle.open_sessions.proofs.Tables.{over_insert}
-use Rattle.store_core.specs.Benches.{with_open, KeepsDrafts, IsHeaderOf, IsFit, edit_by}
+use Rattle.store_core.specs.Machines.{with_open, KeepsDrafts, IsHeaderOf, IsFit, edit_by}
 
 -- what a form that is stored reads as
 pub header_found : (s : State) (t : Hash) (form given : Bytes) (r : Option Header) → form_in s t ≡ Some form → given ≡ form

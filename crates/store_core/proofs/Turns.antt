@@ -458,6 +458,15 @@ hears_shaded r r' h told same = at r.turning refl
     }
     at false e = subst (λ (x : Turning). Hears r.shaded (h ∷ []) x.shaded) (sym (same e)) (hears_none r.shaded (h ∷ []))
 
+-- and its count of slices stays
+pub shaded_slices : (r r' : Turning) (h : Hash) → (r.turning ≡ true → Shades r h r') → (r.turning ≡ false → r' ≡ r)
+    → r'.slices ≡ r.slices
+shaded_slices r r' h told same = at r.turning refl
+  where
+    at : (t : Bool) → r.turning ≡ t → r'.slices ≡ r.slices
+    at true e = ap (λ (x : Turning). x.slices) (told e).rest
+    at false e = ap (λ (x : Turning). x.slices) (same e)
+
 pub told_shaded : (r r' : Turning) (b : Retention) (h : Hash) → InStep r b → (r.turning ≡ true → Shades r h r') → IsSome b.turning
     → Contains r'.shaded h
 told_shaded r r' b h step told some = ((told (step ∙ some)).told h).1 (inr refl)

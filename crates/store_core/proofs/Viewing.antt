@@ -37,7 +37,7 @@ use Rattle.ledger_machine.specs.declared.commands.Command.TheVariants as command
 use Rattle.ledger_machine.specs.declared.replies.Reply.TheVariants as says
 use Rattle.ledger_machine.specs.Steps.{Does}
 use Rattle.store_core.proofs.States.{refused_nothing}
-use Rattle.store_core.proofs.Tables.{IsOver, same_over}
+use Rattle.store_core.proofs.Entries.{IsOver, same_over}
 
 -- the root of an open view's map
 root_at : (half : Half) (st : Store) (s : State) (v : ℕ × ℕ) (t : Hash) (kind : Kind) → IsOver st s → AreStored half (form_in s)

@@ -7,8 +7,8 @@ use Rattle.path_proof.specs.declared.reading.ReadFault.TheVariants as faults
 use Rattle.run_io.specs.Bytes.{Rose}
 use Rattle.store_core.specs.Failing.{is_among}
 use Rattle.store_core.specs.Journal.{CoreView, AdvancesFor, Slices, ChecksFew, CopiesFew}
-use Rattle.store_core.specs.declared.store.Stepped.{Stepped}
-use Rattle.store_core.specs.declared.store.Stepped.TheVariants.{Answered, More, Blocked, Finished}
+use Rattle.store_core.specs.declared.core_calls.Stepped.{Stepped}
+use Rattle.store_core.specs.declared.core_calls.Stepped.TheVariants.{Answered, More, Blocked, Finished}
 
 -- It is a section of the actor's next line, as `step` does one, but that a `fault` may also be the one that was handed in, where the
 -- actor's fetch failed.

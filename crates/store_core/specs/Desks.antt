@@ -67,12 +67,13 @@ desk_of st wanted views b r = record {
 abbrev pub IsFiled : Half → Bool → State → Type 0
 IsFiled half tells s = IsTrue tells → AreStored half (form_in s)
 
--- a section that lists nothing: the store's count of faults never falls, and the epoch stays
-pub record Stays (d d' : Desk) : Type 0 where
+-- a section that lists and copies nothing: the store's count of faults never falls, and the epoch stays
+pub record Stays (tells : Bool) (d d' : Desk) : Type 0 where
   pub later : d.faults ≤ d'.faults
   pub listed : d'.state.listed ≡ d.state.listed
   pub epoch : d'.state.epoch ≡ d.state.epoch
   pub slices : d'.slices ≡ d.slices
+  pub copies : IsTrue tells → backs d' ≡ backs d
 
 -- and one that lists a ledger at most, and ends an epoch at most
 pub record Grows (d d' : Desk) : Type 0 where

@@ -8,8 +8,8 @@ use Rattle.ledger_spec.specs.Bytes.{Bytes, Hash, Nodes, are_bytes, zero_hash}
 use Rattle.ledger_spec.specs.Maps.{hash_cmp}
 use Rattle.ledger_machine.specs.declared.commands.Record.{Record}
 use Rattle.node_backend.specs.Counts.{held_sum}
-use Rattle.store_core.specs.declared.store.OpenFault.{OpenFault}
-use Rattle.store_core.specs.declared.store.OpenFault.TheVariants as faults
+use Rattle.store_core.specs.declared.core_calls.OpenFault.{OpenFault}
+use Rattle.store_core.specs.declared.core_calls.OpenFault.TheVariants as faults
 use Rattle.store_core.specs.Journal.{CoreView, CopiesAFew}
 
 -- a hash comes after another one, where there is one

@@ -15,7 +15,7 @@ use Rattle.ledger_machine.specs.declared.replies.Reply.{Reply}
 use Rattle.ledger_machine.specs.declared.replies.Reply.TheVariants as says
 use Rattle.ledger_machine.specs.State.{State}
 use Rattle.ledger_machine.specs.Steps.{Step}
-use Rattle.store_core.specs.Benches.{IsHeaderOf}
+use Rattle.store_core.specs.Machines.{IsHeaderOf}
 use Rattle.store_core.specs.Desks.{Desk, Grows, KeepsRest}
 use Rattle.store_core.specs.Refusals.{IsRefusal}
 use Rattle.store_core.specs.Telling.{AreTold, CopiesFew, CountsFrom}

@@ -16,7 +16,8 @@ use Rattle.ledger_machine.specs.declared.replies.Reply.TheVariants as says
 use Rattle.ledger_machine.specs.Scripts.{numbers_of}
 use Rattle.ledger_machine.specs.State.{State, form_in, retained}
 use Rattle.ledger_machine.specs.Sound.{Sound}
-use Rattle.ledger_machine.specs.Runs.{Answers, IsRunOf, opening_of, Projects, answered_by, actors, Waits, next_line}
+use Rattle.ledger_machine.specs.Limits.{actors}
+use Rattle.ledger_machine.specs.Runs.{Answers, IsRunOf, opening_of, Projects, answered_by, Waits, next_line}
 use Rattle.ledger_machine.specs.Receipts.{AllStay}
 use Rattle.ledger_machine.specs.Exact.{AreEveryMaps}
 use Rattle.ledger_machine.specs.Complete.{IsAllStored, AreExact}

@@ -7,7 +7,7 @@ pub mod Journal
 pub mod Dumping
 pub mod Totals
 pub mod Reads
-pub mod Benches
+pub mod Machines
 pub mod Closing
 pub mod Telling
 pub mod Failing

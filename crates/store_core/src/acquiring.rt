@@ -11,7 +11,7 @@ ghost use Rattle.missing_walk.specs.Founds.{IsFound};
 ghost use Rattle.store_core.specs.Checking.{AreKept, HasFound, IsSought, LeavesSearch, Shares, sought_by};
 ghost use Rattle.ledger_searches.specs.Hunting.{IsUnbegun, hunt_of};
 ghost use Rattle.missing_walk.specs.Passes.{HasMarkedRoots};
-ghost use Rattle.ledger_machine.specs.Runs.{actors};
+ghost use Rattle.ledger_machine.specs.Limits.{actors};
 ghost use Rattle.ledger_machine.specs.Scripts.{AreBytes, AreOffered};
 ghost use Rattle.ledger_machine.specs.State.{form_in, stored_seq, with_wanted, ended};
 ghost use Rattle.ledger_machine.specs.Want.{want_reply, after_want};
@@ -27,9 +27,10 @@ ghost use Rattle.store_core.specs.Telling.{Hears, TellsRoot, AreWantedTold};
 ghost use Rattle.store_core.specs.Wanting.{judged_by, found_seq as seq_found, settled, told_at};
 
 use crate::heeding::{take_base, take_node};
-use crate::machine::Machine;
+use crate::limits::MOST_WANTED;
+use crate::replies::{base_answer, check_told, node_answer, peer_told};
 use crate::rotating::Part;
-use crate::told::{base_answer, check_told, node_answer, peer_told};
+use crate::tables::Tables;
 use acquire_core::{Acquire, CheckReply as Checked, TickReply as Ticked};
 use half_hash::{Blob, Hash32, Memory, NodeHash, known_half};
 use ledger_machine::{
@@ -42,9 +43,6 @@ use node_backend::Shelf;
 use shamap_node::Kind;
 use std::alloc::Global;
 
-/// The most acquisitions that are open at a time.
-const MOST_WANTED: usize = 64;
-
 /// What was searched of a ledger before a check of it is answered.
 #[derive(Drop)]
 pub(crate) enum Sought {
@@ -54,7 +52,7 @@ pub(crate) enum Sought {
     More,
 }
 
-impl<H: NodeHash, Sh: Shelf> Machine<H, Sh> {
+impl<H: NodeHash, Sh: Shelf> Tables<H, Sh> {
     /// Opens an acquisition.
     pub(crate) fn want(
         &mut self,
@@ -69,8 +67,7 @@ impl<H: NodeHash, Sh: Shelf> Machine<H, Sh> {
         ensures tells { IfOk result (λ r. Tells self.old.state self.new.state []) }
         ensures may_tell { OnErr result (Tells self.old.state self.new.state (target.now ∷ [])) }
         ensures names { IfOk result (λ r. TellsRoot self.old.state (Command.Want target.now seq) (Reply.Want r) self.new.state) }
-        ensures stays { Stays self.old self.new }
-        ensures copies { IsTrue Sh.B.tells → backs self.new ≡ backs self.old }
+        ensures stays { Stays Sh.B.tells self.old self.new }
     {
         if self.book.is_listed(target) {
             return Ok(WantReply::Listed);
@@ -96,10 +93,9 @@ impl<H: NodeHash, Sh: Shelf> Machine<H, Sh> {
         ensures err { OnErr result (IsAfter self.old.state self.new.state) }
         ensures hears { Hears self.old.state.shaded (target.now ∷ []) self.new.state.shaded }
         ensures told { OnOk result (IsSome self.old.state.turning → Contains self.new.state.shaded target.now) }
-        ensures stays { Stays self.old self.new }
-        ensures copies { IsTrue Sh.B.tells → backs self.new ≡ backs self.old }
+        ensures stays { Stays Sh.B.tells self.old self.new }
     {
-        self.tell(target)?;
+        self.shade(target)?;
         self.begin_search(alloc, target, seq)
     }
 
@@ -109,8 +105,7 @@ impl<H: NodeHash, Sh: Shelf> Machine<H, Sh> {
         ensures ok { OnOk result (self.new.state ≡ after_want self.old.state target.now seq WantReply.Opened) }
         ensures err { OnErr result (self.new ≡ self.old) }
         ensures told { self.new.state.shaded ≡ self.old.state.shaded }
-        ensures stays { Stays self.old self.new }
-        ensures copies { IsTrue Sh.B.tells → backs self.new ≡ backs self.old }
+        ensures stays { Stays Sh.B.tells self.old self.new }
     {
         self.wanted
             .insert(*target, Acquire::new(alloc, *target, seq))?;
@@ -123,8 +118,7 @@ impl<H: NodeHash, Sh: Shelf> Machine<H, Sh> {
         ensures after { IfOk result (λ _. self.new.state ≡ after_peer self.old.state peer target.now) }
         ensures told { self.new.state.shaded ≡ self.old.state.shaded }
         ensures err { OnErr result (self.new ≡ self.old) }
-        ensures stays { Stays self.old self.new }
-        ensures copies { IsTrue Sh.B.tells → backs self.new ≡ backs self.old }
+        ensures stays { Stays Sh.B.tells self.old self.new }
     {
         let Some(acquire) = self.wanted.get_mut(target) else {
             return Ok(PeerReply::NotOpen);
@@ -150,8 +144,7 @@ impl<H: NodeHash, Sh: Shelf> Machine<H, Sh> {
         ensures does { IsTrue Sh.B.tells → (actor : ℕ)
             → Does H.half self.old.state actor (Command.Base peer target.now header.now state.now tx.now) result [] self.new.state }
         ensures refused { IsRefusal result → KeepsRest self.old.state self.new.state }
-        ensures stays { Stays self.old self.new }
-        ensures copies { IsTrue Sh.B.tells → backs self.new ≡ backs self.old }
+        ensures stays { Stays Sh.B.tells self.old self.new }
         ensures told { self.new.state.shaded ≡ self.old.state.shaded }
         ensures fault { result ≡ Reply.Fault → Rose self.old.faults self.new.faults }
     {
@@ -191,8 +184,7 @@ impl<H: NodeHash, Sh: Shelf> Machine<H, Sh> {
         ensures does { IsTrue Sh.B.tells → (actor : ℕ)
             → Does H.half self.old.state actor (Command.Node peer target.now kind id.now blob.now) result [] self.new.state }
         ensures refused { IsRefusal result → KeepsRest self.old.state self.new.state }
-        ensures stays { Stays self.old self.new }
-        ensures copies { IsTrue Sh.B.tells → backs self.new ≡ backs self.old }
+        ensures stays { Stays Sh.B.tells self.old self.new }
         ensures told { self.new.state.shaded ≡ self.old.state.shaded }
         ensures fault { result ≡ Reply.Fault → Rose self.old.faults self.new.faults }
     {
@@ -289,9 +281,8 @@ impl<H: NodeHash, Sh: Shelf> Machine<H, Sh> {
             (λ a. after_verdict a (found_verdict a self.old.state.floor found.now))) }
         ensures err { OnErr result (self.new ≡ self.old) }
         ensures told { self.new.state.shaded ≡ self.old.state.shaded }
-        ensures stays { Stays self.old self.new }
+        ensures stays { Stays Sh.B.tells self.old self.new }
         ensures gets { self.new.gets ≡ self.old.gets }
-        ensures copies { IsTrue Sh.B.tells → backs self.new ≡ backs self.old }
     {
         let floor = self.book.floor();
         let Some(acquire) = self.wanted.get_mut(target) else {
@@ -324,42 +315,6 @@ impl<H: NodeHash, Sh: Shelf> Machine<H, Sh> {
         Ok(())
     }
 
-    // Lists a ledger with a sequence, which the rotation under way is told of first, and ends its acquisition.
-    fn list(&mut self, target: &Hash32, seq: u32) -> Result<(), Memory>
-        ensures ok { OnOk result (IsAfter (after_check self.old.state target.now seq CheckReply.Complete) self.new.state) }
-        ensures err { OnErr result (IsAfter self.old.state self.new.state) }
-        ensures hears { Hears self.old.state.shaded (target.now ∷ []) self.new.state.shaded }
-        ensures faults { self.new.faults ≡ self.old.faults }
-        ensures gets { self.new.gets ≡ self.old.gets }
-        ensures epoch { self.new.state.epoch ≡ self.old.state.epoch }
-        ensures slices { self.new.slices ≡ self.old.slices }
-        ensures copies { IsTrue Sh.B.tells → backs self.new ≡ backs self.old }
-    {
-        // a complete ledger isn't below the floor; only a backend that doesn't tell what it holds may show one without a header
-        if seq < self.floor() {
-            return Err(Memory);
-        }
-        self.tell(target)?;
-        self.enlist(target, seq)
-    }
-
-    // The same, once the rotation was told.
-    fn enlist(&mut self, target: &Hash32, seq: u32) -> Result<(), Memory>
-        requires { self.old.state.floor ≤ seq }
-        ensures ok { OnOk result (self.new.state ≡ after_check self.old.state target.now seq CheckReply.Complete) }
-        ensures err { OnErr result (self.new ≡ self.old) }
-        ensures told { self.new.state.shaded ≡ self.old.state.shaded }
-        ensures faults { self.new.faults ≡ self.old.faults }
-        ensures gets { self.new.gets ≡ self.old.gets }
-        ensures epoch { self.new.state.epoch ≡ self.old.state.epoch }
-        ensures slices { self.new.slices ≡ self.old.slices }
-        ensures copies { IsTrue Sh.B.tells → backs self.new ≡ backs self.old }
-    {
-        self.book.list(target, seq)?;
-        self.wanted.remove(target);
-        Ok(())
-    }
-
     // Ends an acquisition.
     fn end(&mut self, target: &Hash32)
         ensures after { self.new.state ≡ ended self.old.state target.now }
@@ -378,8 +333,7 @@ impl<H: NodeHash, Sh: Shelf> Machine<H, Sh> {
         ensures reply { result ≡ tick_reply self.old.state target.now }
         ensures after { self.new.state ≡ after_tick self.old.state target.now result }
         ensures told { self.new.state.shaded ≡ self.old.state.shaded }
-        ensures stays { Stays self.old self.new }
-        ensures copies { IsTrue Sh.B.tells → backs self.new ≡ backs self.old }
+        ensures stays { Stays Sh.B.tells self.old self.new }
     {
         let Some(acquire) = self.wanted.get_mut(target) else {
             return TickReply::NotOpen;

@@ -1,26 +1,31 @@
-//! The commands that open, change and end edit sessions.
-ghost use Rattle.std.specs.Prelude.{◌≡◌, IsTrue, IfErr, IfOk, IfSome, OnErr, length};
+//! The commands that open, change and end edit sessions, and what these ask of the store.
+ghost use Rattle.std.specs.Prelude.{◌≡◌, IsTrue, IfErr, IfOk, IfSome, OnErr, is_some, length, unwrap_or, false};
 ghost use Rattle.run_io.specs.Bytes.{Rose};
+ghost use Rattle.edit_session.specs.Changes.{ChangesState, ChangesTxs, SetsAccount, RemovesAccount, SetsTx};
 ghost use Rattle.ledger_machine.specs.Sessions.{has_session, after_put, after_tx, del_reply, after_del, without_session};
 ghost use Rattle.ledger_machine.specs.Sessions.{edit_reply, after_edit};
 ghost use Rattle.ledger_machine.specs.Sound.{Sound};
+ghost use Rattle.ledger_machine.specs.State.{form_in};
+ghost use Rattle.open_sessions.specs.Changed.{Changed};
 ghost use Rattle.open_sessions.specs.Rows.{del_said};
-ghost use Rattle.store_core.specs.Benches.{IsHeaderOf, IsFit, edit_by};
-ghost use Rattle.store_core.specs.Desks.{backs, IsFiled, Stays, KeepsRest, OnlyReads};
+ghost use Rattle.store_core.specs.Machines.{IsHeaderOf, IsFit, edit_by};
+ghost use Rattle.store_core.specs.Desks.{IsFiled, Stays, KeepsRest, OnlyReads};
 
-use crate::bench::Bench;
+use crate::limits::{LAST_SEQ, MOST_SESSIONS};
+use crate::machine::Machine;
+use crate::refusals::unedited;
+use crate::tables::Tables;
 use edit_session::Session;
 use half_hash::{Hash32, Memory, NodeHash, known_half};
 use ledger_header::Header;
 use ledger_machine::{DelReply, EditReply};
 use node_backend::{BackFault, Shelf};
+use open_sessions::Open;
+use rotating_store::own_form;
 use shamap_node::Item;
 use std::alloc::Global;
 
-/// The most sessions that are open at a time.
-const MOST_SESSIONS: usize = 64;
-
-impl<H: NodeHash, Sh: Shelf> Bench<H, Sh> {
+impl<H: NodeHash, Sh: Shelf> Machine<H, Sh> {
     /// Opens a session on a retained ledger, unless that is the last that a header can number.
     pub(crate) fn edit(
         &mut self,
@@ -36,8 +41,7 @@ impl<H: NodeHash, Sh: Shelf> Bench<H, Sh> {
         ensures err { IsTrue Sh.B.tells → OnErr result (self.new.state ≡ self.old.state) }
         ensures told { self.new.state.shaded ≡ self.old.state.shaded }
         ensures kept { OnErr result (KeepsRest self.old.state self.new.state) }
-        ensures stays { Stays self.old self.new }
-        ensures copies { IsTrue Sh.B.tells → backs self.new ≡ backs self.old }
+        ensures stays { Stays Sh.B.tells self.old self.new }
         ensures fault { IfErr result (λ e. e ≡ BackFault.Fault → Rose self.old.faults self.new.faults) }
     {
         let id = (actor, session);
@@ -65,7 +69,7 @@ impl<H: NodeHash, Sh: Shelf> Bench<H, Sh> {
         ensures reads { OnlyReads Sh.B.tells self.old self.new }
         ensures fault { IfErr result (λ e. e ≡ BackFault.Fault → Rose self.old.faults self.new.faults) }
     {
-        self.machine.header_of(alloc, target)
+        self.tables.header_of(alloc, target)
     }
 
     // Opens a session on the ledger with this header.
@@ -81,11 +85,10 @@ impl<H: NodeHash, Sh: Shelf> Bench<H, Sh> {
         ensures after { IsTrue Sh.B.tells → IfOk result (λ r. self.new.state ≡ after_edit H.half self.old.state id target.now r) }
         ensures err { OnErr result (self.new ≡ self.old) }
         ensures told { self.new.state.shaded ≡ self.old.state.shaded }
-        ensures stays { Stays self.old self.new }
-        ensures copies { IsTrue Sh.B.tells → backs self.new ≡ backs self.old }
+        ensures stays { Stays Sh.B.tells self.old self.new }
     {
         known_half::<H>();
-        if header.seq == 4_294_967_295 {
+        if header.seq == LAST_SEQ {
             return Ok(EditReply::LastSeq);
         }
         if self.sessions.len() == MOST_SESSIONS {
@@ -111,11 +114,10 @@ impl<H: NodeHash, Sh: Shelf> Bench<H, Sh> {
         ensures err { IsTrue Sh.B.tells → OnErr result (self.new.state ≡ self.old.state) }
         ensures told { self.new.state.shaded ≡ self.old.state.shaded }
         ensures kept { OnErr result (KeepsRest self.old.state self.new.state) }
-        ensures stays { Stays self.old self.new }
-        ensures copies { IsTrue Sh.B.tells → backs self.new ≡ backs self.old }
+        ensures stays { Stays Sh.B.tells self.old self.new }
         ensures fault { IfErr result (λ e. e ≡ BackFault.Fault → Rose self.old.faults self.new.faults) }
     {
-        self.machine
+        self.tables
             .put(alloc, &mut self.sessions, (actor, session), item)
     }
 
@@ -134,12 +136,11 @@ impl<H: NodeHash, Sh: Shelf> Bench<H, Sh> {
         ensures err { IsTrue Sh.B.tells → OnErr result (self.new.state ≡ self.old.state) }
         ensures told { self.new.state.shaded ≡ self.old.state.shaded }
         ensures kept { OnErr result (KeepsRest self.old.state self.new.state) }
-        ensures stays { Stays self.old self.new }
-        ensures copies { IsTrue Sh.B.tells → backs self.new ≡ backs self.old }
+        ensures stays { Stays Sh.B.tells self.old self.new }
         ensures fault { IfErr result (λ e. e ≡ BackFault.Fault → Rose self.old.faults self.new.faults) }
     {
         let there = self
-            .machine
+            .tables
             .remove(alloc, &mut self.sessions, (actor, session), key)?;
         Ok(removed(there))
     }
@@ -158,10 +159,9 @@ impl<H: NodeHash, Sh: Shelf> Bench<H, Sh> {
             → IfOk result (λ _. self.new.state ≡ after_tx self.old.state (actor, session) item.now.key item.now.value) }
         ensures err { OnErr result (self.new ≡ self.old) }
         ensures told { self.new.state.shaded ≡ self.old.state.shaded }
-        ensures stays { Stays self.old self.new }
-        ensures copies { IsTrue Sh.B.tells → backs self.new ≡ backs self.old }
+        ensures stays { Stays Sh.B.tells self.old self.new }
     {
-        self.machine
+        self.tables
             .tx(alloc, &mut self.sessions, (actor, session), item)
     }
 
@@ -170,8 +170,7 @@ impl<H: NodeHash, Sh: Shelf> Bench<H, Sh> {
         ensures reply { result ≡ has_session self.old.state (actor, session) }
         ensures after { self.new.state ≡ without_session self.old.state (actor, session) }
         ensures told { self.new.state.shaded ≡ self.old.state.shaded }
-        ensures stays { Stays self.old self.new }
-        ensures copies { IsTrue Sh.B.tells → backs self.new ≡ backs self.old }
+        ensures stays { Stays Sh.B.tells self.old self.new }
     {
         self.sessions.end((actor, session))
     }
@@ -185,5 +184,86 @@ fn removed(there: Option<bool>) -> DelReply
         None => DelReply::NoSession,
         Some(true) => DelReply::Fine,
         Some(false) => DelReply::Absent,
+    }
+}
+
+impl<H: NodeHash, Sh: Shelf> Tables<H, Sh> {
+    /// The header that is held under a ledger's hash.
+    pub(crate) fn header_of(
+        &mut self,
+        alloc: Global,
+        target: &Hash32,
+    ) -> Result<Option<Header>, BackFault>
+        requires { IsFiled H.half Sh.B.tells self.old.state }
+        ensures header { IsTrue Sh.B.tells → IfOk result (λ found. IfSome found (IsHeaderOf self.old.state target.now)) }
+        ensures reads { OnlyReads Sh.B.tells self.old self.new }
+        ensures fault { IfErr result (λ e. e ≡ BackFault.Fault → Rose self.old.faults self.new.faults) }
+    {
+        match own_form::<H, Sh>(alloc, &mut self.store, target)? {
+            Some(form) => Ok(Header::from_form(form.bytes())),
+            None => Ok(None),
+        }
+    }
+
+    /// Sets an item of a session's account state; whether the session is open.
+    pub(crate) fn put(
+        &mut self,
+        alloc: Global,
+        sessions: &mut Open,
+        id: (u8, u16),
+        item: &Item,
+    ) -> Result<bool, BackFault>
+        requires { IsFiled H.half Sh.B.tells self.old.state }
+        ensures changed { IsTrue Sh.B.tells → IfOk result (Changed (λ d d'. ChangesState 65 d d'
+            × SetsAccount H.half (form_in self.old.state) d d' item.now.key item.now.value) sessions.old sessions.new id) }
+        ensures err { OnErr result (sessions.new ≡ sessions.old) }
+        ensures reads { OnlyReads Sh.B.tells self.old self.new }
+        ensures fault { IfErr result (λ e. e ≡ BackFault.Fault → Rose self.old.faults self.new.faults) }
+    {
+        match sessions.put::<H, Sh>(alloc, &mut self.store, id, item) {
+            Ok(was) => Ok(was),
+            Err(fault) => Err(unedited(fault)),
+        }
+    }
+
+    /// Removes a key of a session's account state, and tells whether it was there; none where the session isn't open.
+    pub(crate) fn remove(
+        &mut self,
+        alloc: Global,
+        sessions: &mut Open,
+        id: (u8, u16),
+        key: &Hash32,
+    ) -> Result<Option<bool>, BackFault>
+        requires { IsFiled H.half Sh.B.tells self.old.state }
+        ensures changed { IsTrue Sh.B.tells → IfOk result (λ there. Changed (λ d d'. ChangesState 64 d d'
+            × RemovesAccount H.half (form_in self.old.state) d d' key.now (unwrap_or there false))
+            sessions.old sessions.new id (is_some there)) }
+        ensures err { OnErr result (sessions.new ≡ sessions.old) }
+        ensures reads { OnlyReads Sh.B.tells self.old self.new }
+        ensures fault { IfErr result (λ e. e ≡ BackFault.Fault → Rose self.old.faults self.new.faults) }
+    {
+        match sessions.remove::<H, Sh>(alloc, &mut self.store, id, key) {
+            Ok(there) => Ok(there),
+            Err(fault) => Err(unedited(fault)),
+        }
+    }
+
+    /// Sets an item of a session's transactions; whether the session is open.
+    pub(crate) fn tx(
+        &mut self,
+        alloc: Global,
+        sessions: &mut Open,
+        id: (u8, u16),
+        item: &Item,
+    ) -> Result<bool, Memory>
+        ensures changed { IfOk result (Changed (λ d d'. ChangesTxs 65 d d' × SetsTx d d' item.now.key item.now.value)
+            sessions.old sessions.new id) }
+        ensures err { OnErr result (sessions.new ≡ sessions.old) }
+        ensures same { self.new ≡ self.old }
+    {
+        match sessions.tx::<H, Sh>(alloc, &mut self.store, id, item) {
+            Ok(was) => Ok(was),
+            Err(_) => Err(Memory),
+        }
     }
 }

@@ -7,7 +7,7 @@ ghost use Rattle.ledger_spec.specs.Bytes.{Hash, Half};
 ghost use Rattle.ledger_spec.specs.Forms.{hash_of};
 ghost use Rattle.ledger_spec.specs.Maps.{numbered_cmp, get_in, has_in};
 ghost use Rattle.ledger_spec.specs.declared.Kind.{Kind as the_kind};
-ghost use Rattle.ledger_machine.specs.Runs.{actors};
+ghost use Rattle.ledger_machine.specs.Limits.{actors};
 ghost use Rattle.ledger_machine.specs.Scripts.{IsInRange};
 ghost use Rattle.ledger_machine.specs.Sound.{Sound};
 ghost use Rattle.ledger_machine.specs.State.{form_in, opening};
@@ -16,7 +16,7 @@ ghost use Rattle.path_proof.specs.Sources.{Gives};
 ghost use Rattle.rotating_store.specs.Stores.{merged};
 ghost use Rattle.run_io.specs.Bytes.{Rose};
 ghost use Rattle.shamap_node.specs.Nodes.{held};
-ghost use Rattle.store_core.specs.Benches.{IsHeaderOf};
+ghost use Rattle.store_core.specs.Machines.{IsHeaderOf};
 ghost use Rattle.store_core.specs.Checking.{AreKept};
 ghost use Rattle.store_core.specs.Desks.{IsFiled, OnlyReads, backs, over};
 ghost use Rattle.store_core.specs.Dumping.{IsNextRecord, Follows};
@@ -26,9 +26,9 @@ ghost use Rattle.store_core.specs.Reads.{IsFollowed, IsReplied};
 ghost use Rattle.store_core.specs.Retaining.{AreRetained, IsStoreOf};
 ghost use Rattle.store_core.specs.Telling.{AreTold};
 
-use crate::bench::Bench;
 use crate::jobs::{Followed, Handed, ReadJob, View};
-use crate::machine::unread;
+use crate::machine::Machine;
+use crate::refusals::unread;
 use crate::rotating::Part;
 use crate::views::answered;
 use half_hash::{Blob, Hash32, Memory, NodeHash};
@@ -46,7 +46,7 @@ use std::sync::Arc;
 
 #[derive(Drop)]
 pub(crate) struct Hall<H: NodeHash, Sh: Shelf> {
-    bench: Bench<H, Sh>,
+    machine: Machine<H, Sh>,
     views: BTreeMap<(u8, u16), View>,
 }
 
@@ -60,9 +60,9 @@ impl<H: NodeHash, Sh: Shelf> Model for Hall<H, Sh> {
 
     ghost coded = { Prim.hlevel (codes, map_code, set_code) };
 
-    ghost view = { λ h. record { desk = h.bench; views = h.views.entries } };
+    ghost view = { λ h. record { desk = h.machine; views = h.views.entries } };
 
-    ghost invariant = { λ h. IsTrue Sh.B.tells → AreViews h.bench.state h.views.entries };
+    ghost invariant = { λ h. IsTrue Sh.B.tells → AreViews h.machine.state h.views.entries };
 }
 
 impl<H: NodeHash, Sh: Shelf> Hall<H, Sh> {
@@ -76,53 +76,53 @@ impl<H: NodeHash, Sh: Shelf> Hall<H, Sh> {
         ensures views { result.views ≡ [] }
     {
         Hall {
-            bench: Bench::new(alloc, hash, interval, store),
+            machine: Machine::new(alloc, hash, interval, store),
             views: BTreeMap::new(alloc),
         }
     }
 
     /// The hash that nodes are stored under.
     pub(crate) fn hash(&self) -> H {
-        self.bench.machine.hash
+        self.machine.tables.hash
     }
 
     /// The store that the commands act on.
     pub(crate) fn store(&self) -> &RotStore<Sh>
         ensures { IsStoreOf self.now.desk result.now }
     {
-        self.bench.store()
+        self.machine.store()
     }
 
     /// The retained ledgers, rising, each once.
     pub(crate) fn retained(&self, alloc: Global) -> Result<Vec<Hash32>, Memory>
         ensures { IfOk result (λ hashes. AreRetained self.now.desk.state hashes.items) }
     {
-        self.bench.retained(alloc)
+        self.machine.retained(alloc)
     }
 
     /// How many ledgers are listed.
     pub(crate) fn listed(&self) -> usize
         ensures { result ≡ length self.now.desk.state.listed }
     {
-        self.bench.listed()
+        self.machine.listed()
     }
 
     pub(crate) fn floor(&self) -> u32
         ensures { result ≡ self.now.desk.state.floor }
     {
-        self.bench.floor()
+        self.machine.floor()
     }
 
     pub(crate) fn last(&self) -> Option<u32>
         ensures { result ≡ self.now.desk.state.last }
     {
-        self.bench.last()
+        self.machine.last()
     }
 
     pub(crate) fn epoch(&self) -> u64
         ensures { result ≡ self.now.desk.state.epoch }
     {
-        self.bench.epoch()
+        self.machine.epoch()
     }
 
     /// For proofs: the views are the state's, with the headers that are stored, and what is stored lies in the two backends.
@@ -130,7 +130,7 @@ impl<H: NodeHash, Sh: Shelf> Hall<H, Sh> {
         ensures views { IsTrue Sh.B.tells → AreViews self.now.desk.state self.now.views }
         ensures nodes { self.now.desk.state.nodes ≡ merged self.now.desk.written self.now.desk.archived }
     {
-        self.bench.known();
+        self.machine.known();
         let _ = &self.views;
     }
 
@@ -147,7 +147,7 @@ impl<H: NodeHash, Sh: Shelf> Hall<H, Sh> {
         ensures views { self.new.views ≡ self.old.views }
         ensures fault { IfErr result (λ e. e ≡ BackFault.Fault → Rose self.old.desk.faults self.new.desk.faults) }
     {
-        let next = self.bench.next_stored(alloc, after)?;
+        let next = self.machine.next_stored(alloc, after)?;
         Ok(next)
     }
 
@@ -164,7 +164,7 @@ impl<H: NodeHash, Sh: Shelf> Hall<H, Sh> {
         ensures views { self.new.views ≡ self.old.views }
         ensures fault { IfErr result (λ e. e ≡ FetchFault.Fault → Rose self.old.desk.faults self.new.desk.faults) }
     {
-        self.bench.node_at(alloc, h)
+        self.machine.node_at(alloc, h)
     }
 
     /// The bytes of a hash, as the store gives them: nothing of them is hashed.
@@ -176,7 +176,7 @@ impl<H: NodeHash, Sh: Shelf> Hall<H, Sh> {
         ensures views { self.new.views ≡ self.old.views }
         ensures fault { IfErr result (λ e. e ≡ FetchFault.Fault → Rose self.old.desk.faults self.new.desk.faults) }
     {
-        self.bench.form_at(alloc, h)
+        self.machine.form_at(alloc, h)
     }
 
     /// The read that an actor's line asks for: a `get` by a view that is open.
@@ -312,7 +312,7 @@ impl<H: NodeHash, Sh: Shelf> Hall<H, Sh> {
                 Some(self.view(alloc, actor, command, *view, target))
             }
             Command::Unview { view } => Some(self.unview(alloc, actor, command, *view)),
-            _ => self.bench.section(alloc, searches, actor, command, part),
+            _ => self.machine.section(alloc, searches, actor, command, part),
         }
     }
 
@@ -333,7 +333,7 @@ impl<H: NodeHash, Sh: Shelf> Hall<H, Sh> {
             (map (λ a. held a.value) result.1.items) self.new.desk }
         ensures copies { IsTrue Sh.B.tells → backs self.new.desk ≡ backs self.old.desk }
     {
-        let answered = self.bench.answer(alloc, actor, command, &None);
+        let answered = self.machine.answer(alloc, actor, command, &None);
         self.views.remove(&(actor, view));
         answered
     }
@@ -357,9 +357,9 @@ impl<H: NodeHash, Sh: Shelf> Hall<H, Sh> {
         ensures copies { IsTrue Sh.B.tells → backs self.new.desk ≡ backs self.old.desk }
     {
         if !self.is_openable((actor, view), target) {
-            return self.bench.answer(alloc, actor, command, &None);
+            return self.machine.answer(alloc, actor, command, &None);
         }
-        match self.bench.header_of(alloc, target) {
+        match self.machine.header_of(alloc, target) {
             Ok(Some(header)) => {
                 let opened = View {
                     target: *target,
@@ -381,7 +381,7 @@ impl<H: NodeHash, Sh: Shelf> Hall<H, Sh> {
         if self.views.contains_key(&id) {
             return false;
         }
-        self.bench.is_retained(target)
+        self.machine.is_retained(target)
     }
 
     // Opens a view that isn't open, and keeps it with its header. What is kept is taken back where the view isn't opened.
@@ -408,7 +408,7 @@ impl<H: NodeHash, Sh: Shelf> Hall<H, Sh> {
         let Ok(_) = self.views.insert(id, opened) else {
             return (Reply::Memory, Vec::new(alloc));
         };
-        let answered = self.bench.answer(alloc, actor, command, &None);
+        let answered = self.machine.answer(alloc, actor, command, &None);
         if !is_opened(&answered.0) {
             self.views.remove(&id);
         }

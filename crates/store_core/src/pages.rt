@@ -7,7 +7,7 @@ ghost use Rattle.path_proof.specs.Paths.{held_nodes};
 ghost use Rattle.store_core.specs.Desks.{IsFiled, OnlyReads};
 ghost use Rattle.store_core.specs.Reads.{IsListed};
 
-use crate::machine::Machine;
+use crate::tables::Tables;
 use half_hash::{Hash32, NodeHash};
 use ledger_machine::{PageReply, Reply};
 use map_cursor::page;
@@ -25,7 +25,7 @@ pub(crate) struct Paged {
     pub(crate) used: Vec<Arc<Node>>,
 }
 
-impl<H: NodeHash, Sh: Shelf> Machine<H, Sh> {
+impl<H: NodeHash, Sh: Shelf> Tables<H, Sh> {
     /// Lists the first `n` items behind a key in the map of a view.
     pub(crate) fn page(
         &mut self,

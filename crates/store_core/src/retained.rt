@@ -5,16 +5,16 @@ ghost use Rattle.ledger_spec.specs.Bytes.{Hash};
 ghost use Rattle.ledger_spec.specs.Maps.{IsMap, hash_cmp};
 ghost use Rattle.store_core.specs.Retaining.{AreRising, AreRetained, IsStoreOf, HaveKeys};
 
-use crate::bench::Bench;
 use crate::machine::Machine;
 use crate::rotating::viewed;
+use crate::tables::Tables;
 use half_hash::{Hash32, Memory, NodeHash};
 use node_backend::Shelf;
 use rotating_store::RotStore;
 use std::alloc::Global;
 use std::collections::BTreeMap;
 
-impl<H: NodeHash, Sh: Shelf> Machine<H, Sh> {
+impl<H: NodeHash, Sh: Shelf> Tables<H, Sh> {
     // The listed ledgers, those of views, and these.
     fn pinned(&self, alloc: Global, bases: &[Hash32]) -> Result<Vec<Hash32>, Memory>
         ensures { IfOk result (λ hashes. (listed : List Hash) × HaveKeys self.now.state.listed listed
@@ -28,12 +28,12 @@ impl<H: NodeHash, Sh: Shelf> Machine<H, Sh> {
     }
 }
 
-impl<H: NodeHash, Sh: Shelf> Bench<H, Sh> {
+impl<H: NodeHash, Sh: Shelf> Machine<H, Sh> {
     /// The store that the commands act on.
     pub(crate) fn store(&self) -> &RotStore<Sh>
         ensures { IsStoreOf self.now result.now }
     {
-        &self.machine.store
+        &self.tables.store
     }
 
     /// The retained ledgers, rising, each once.
@@ -41,7 +41,7 @@ impl<H: NodeHash, Sh: Shelf> Bench<H, Sh> {
         ensures { IfOk result (λ hashes. AreRetained self.now.state hashes.items) }
     {
         let bases = self.sessions.bases(alloc)?;
-        let hashes = self.machine.pinned(alloc, &bases)?;
+        let hashes = self.tables.pinned(alloc, &bases)?;
         rising(alloc, &hashes)
     }
 }

@@ -1,7 +1,6 @@
 //! The commands that begin and end a rotation, and what one is told meanwhile.
-ghost use Rattle.std.specs.Prelude.{◌≡◌, ◌⊎◌, false, ◌<◌, ◌≤◌, ◌-◌, ◌^◌, ◌++◌, ◌∷◌, [], IsTrue, IsSome, IfErr, IfOk, OnErr, OnOk, Ok};
+ghost use Rattle.std.specs.Prelude.{◌≡◌, ◌⊎◌, false, ◌<◌, ◌≤◌, ◌-◌, ◌^◌, ◌++◌, [], IsTrue, IsSome, IfErr, IfOk, OnErr, Ok};
 ghost use Rattle.std.specs.FinMap as finite;
-ghost use Rattle.std.specs.List.{Contains};
 ghost use Rattle.copy_walk.specs.Counts.{CopiesAtMost};
 ghost use Rattle.std.specs.Map.{keys_of, values_of};
 ghost use Rattle.run_io.specs.Bytes.{Rose};
@@ -10,14 +9,16 @@ ghost use Rattle.ledger_machine.specs.Sound.{Sound};
 ghost use Rattle.ledger_machine.specs.Steps.{IsAfter};
 ghost use Rattle.ledger_machine.specs.Steps.{Does};
 ghost use Rattle.ledger_machine.specs.State.{bases as edited};
-ghost use Rattle.store_core.specs.Desks.{backs, behind, IsFiled, Stays, Grows, KeepsRest};
+ghost use Rattle.store_core.specs.Desks.{backs, behind, IsFiled, Grows, KeepsRest};
 ghost use Rattle.store_core.specs.Refusals.{IsRefusal};
-ghost use Rattle.store_core.specs.Telling.{most_slices, most_copied, CopiesBy, CountsSlice, IsSlice, Hears, BeginsBy, AfterSwap};
+ghost use Rattle.store_core.specs.Telling.{most_slices, most_copied, CopiesBy, CountsSlice, IsSlice, BeginsBy, AfterSwap};
 ghost use Rattle.store_core.specs.Telling.{IsRotating, AreTold, Carried, CountsFrom};
 
-use crate::bench::Bench;
-use crate::machine::{Machine, unread};
-use crate::told::{begin_told, slice_told, swap_told};
+use crate::limits::{MOST_COPIED, MOST_SLICES};
+use crate::machine::Machine;
+use crate::refusals::unread;
+use crate::replies::{begin_told, slice_told, swap_told};
+use crate::tables::Tables;
 use acquire_core::Acquire;
 use edit_session::a_session_stays_over_its_ledger;
 use half_hash::{Hash32, Memory, NodeHash};
@@ -26,12 +27,6 @@ use node_backend::{BackFault, Shelf};
 use online_rotate::Left;
 use std::alloc::Global;
 use std::collections::BTreeMap;
-
-/// How many slices of a rotation a swap does before it copies what is left in one section.
-const MOST_SLICES: u32 = 64;
-
-/// How many hashes of the walk one slice takes.
-const SLICE: usize = 256;
 
 /// How much of a command one section does.
 #[derive(Clone, Copy, Debug, PartialEq, Eq)]
@@ -42,22 +37,7 @@ pub(crate) enum Part {
     Whole,
 }
 
-impl<H: NodeHash, Sh: Shelf> Machine<H, Sh> {
-    /// Tells the rotation under way, where there is one, to keep what a hash reaches. Each new root and each form of a close is told by
-    /// here, before anything else is done with it.
-    pub(crate) fn tell(&mut self, h: &Hash32) -> Result<(), Memory>
-        ensures after { IsAfter self.old.state self.new.state }
-        ensures hears { Hears self.old.state.shaded (h.now ∷ []) self.new.state.shaded }
-        ensures told { OnOk result (IsSome self.old.state.turning → Contains self.new.state.shaded h.now) }
-        ensures stays { Stays self.old self.new }
-        ensures copies { IsTrue Sh.B.tells → backs self.new ≡ backs self.old }
-        ensures faults { self.new.faults ≡ self.old.faults }
-        ensures gets { self.new.gets ≡ self.old.gets }
-    {
-        self.rotator.shade(h)?;
-        Ok(())
-    }
-
+impl<H: NodeHash, Sh: Shelf> Tables<H, Sh> {
     /// Begins the rotation that is due, which is told of the ledgers that stay listed, of those of views, of the open targets and of these.
     pub(crate) fn begin(&mut self, alloc: Global, bases: &[Hash32]) -> Result<BeginReply, Memory>
         ensures reply { IfOk result (λ r. r ≡ begin_reply self.old.state) }
@@ -129,7 +109,7 @@ impl<H: NodeHash, Sh: Shelf> Machine<H, Sh> {
     }
 }
 
-impl<H: NodeHash, Sh: Shelf> Bench<H, Sh> {
+impl<H: NodeHash, Sh: Shelf> Machine<H, Sh> {
     /// The slice that a section of a swap begins with, where a rotation is under way that may do one more. `Done` where there is none.
     pub(crate) fn slice_first(
         &mut self,
@@ -152,7 +132,7 @@ impl<H: NodeHash, Sh: Shelf> Bench<H, Sh> {
         let Command::Swap = command else {
             return Ok(Left::Done);
         };
-        if part == Part::Whole || !self.machine.may_slice() {
+        if part == Part::Whole || !self.tables.may_slice() {
             return Ok(Left::Done);
         }
         self.slice(alloc)
@@ -170,7 +150,7 @@ impl<H: NodeHash, Sh: Shelf> Bench<H, Sh> {
         ensures later { self.old.faults ≤ self.new.faults }
         ensures fault { IfErr result (λ e. e ≡ BackFault.Fault → Rose self.old.faults self.new.faults) }
     {
-        self.machine.slice(alloc, SLICE)
+        self.tables.slice(alloc, MOST_COPIED)
     }
 
     /// One step of a command that begins or ends a rotation. It reads no nodes.
@@ -245,7 +225,7 @@ impl<H: NodeHash, Sh: Shelf> Bench<H, Sh> {
         ensures copies { IsTrue Sh.B.tells → backs self.new ≡ backs self.old }
     {
         let bases = self.sessions.bases(alloc)?;
-        self.machine.begin(alloc, &bases)
+        self.tables.begin(alloc, &bases)
     }
 
     // Ends the rotation under way. What a session leaves to the store is reached from the ledger that it edits, so that it stays.
@@ -262,7 +242,7 @@ impl<H: NodeHash, Sh: Shelf> Bench<H, Sh> {
         ensures fault { IfErr result (λ e. e ≡ BackFault.Fault → Rose self.old.faults self.new.faults) }
     {
         a_session_stays_over_its_ledger();
-        self.machine.swap(alloc)
+        self.tables.swap(alloc)
     }
 }
 

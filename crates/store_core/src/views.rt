@@ -14,12 +14,13 @@ ghost use Rattle.ledger_spec.specs.declared.Kind.{Kind as the_kind};
 ghost use Rattle.run_io.specs.Bytes.{Rose};
 ghost use Rattle.ledger_machine.specs.Views.{is_retained as state_retains, after_view, unview_reply, after_unview};
 ghost use Rattle.ledger_machine.specs.Reading.{IsRead, view_root};
-ghost use Rattle.store_core.specs.Benches.{view_by};
-ghost use Rattle.store_core.specs.Desks.{backs, IsFiled, Stays, OnlyReads};
+ghost use Rattle.store_core.specs.Machines.{view_by};
+ghost use Rattle.store_core.specs.Desks.{IsFiled, Stays, OnlyReads};
 ghost use Rattle.path_proof.specs.Paths.{held_nodes};
 ghost use Rattle.store_core.specs.Reads.{IsFollowed, IsGot, Says};
 
-use crate::machine::Machine;
+use crate::limits::MOST_VIEWS;
+use crate::tables::Tables;
 use half_hash::{Blob, Hash32, Memory, NodeHash};
 use ledger_machine::{GetReply, Reply, ViewReply};
 use node_backend::{BackFault, Shelf};
@@ -31,9 +32,6 @@ use std::alloc::Global;
 use std::collections::BTreeMap;
 use std::sync::Arc;
 
-/// The most views that are open at a time.
-const MOST_VIEWS: usize = 1024;
-
 /// A reply to `get`, with the nodes of the path that was read.
 #[derive(Drop)]
 pub(crate) struct Got {
@@ -41,7 +39,7 @@ pub(crate) struct Got {
     pub(crate) used: Vec<Arc<Node>>,
 }
 
-impl<H: NodeHash, Sh: Shelf> Machine<H, Sh> {
+impl<H: NodeHash, Sh: Shelf> Tables<H, Sh> {
     /// Opens a view of a ledger, if that is retained.
     pub(crate) fn view(
         &mut self,
@@ -54,8 +52,7 @@ impl<H: NodeHash, Sh: Shelf> Machine<H, Sh> {
         ensures after { IfOk result (λ r. self.new.state ≡ after_view self.old.state (actor, view) target.now r) }
         ensures told { self.new.state.shaded ≡ self.old.state.shaded }
         ensures err { OnErr result (self.new ≡ self.old) }
-        ensures stays { Stays self.old self.new }
-        ensures copies { IsTrue Sh.B.tells → backs self.new ≡ backs self.old }
+        ensures stays { Stays Sh.B.tells self.old self.new }
     {
         let id = (actor, view);
         if self.views.contains_key(&id) {
@@ -83,8 +80,7 @@ impl<H: NodeHash, Sh: Shelf> Machine<H, Sh> {
         ensures reply { result ≡ unview_reply self.old.state (actor, view) }
         ensures after { self.new.state ≡ after_unview self.old.state (actor, view) }
         ensures told { self.new.state.shaded ≡ self.old.state.shaded }
-        ensures stays { Stays self.old self.new }
-        ensures copies { IsTrue Sh.B.tells → backs self.new ≡ backs self.old }
+        ensures stays { Stays Sh.B.tells self.old self.new }
     {
         self.views.remove(&(actor, view)).is_some()
     }

@@ -18,10 +18,10 @@ returns-in_default-clause-serves g c =
 -- the machine didn't open the view, so what was kept is taken back
 pub invariant_of-self-then-not-is_opened : goal.invariant_of-self-then-not-is_opened
 invariant_of-self-then-not-is_opened g c told =
-    views_back g.H.NodeHash.half c.self.inside.bench.state c.answer-answered.new.self.state c.args.actor c.args.view c.args.opened
+    views_back g.H.NodeHash.half c.self.inside.machine.state c.answer-answered.new.self.state c.args.actor c.args.view c.args.opened
     c.answer-answered.result.0 (map (λ a. held a.value) c.answer-answered.result.1.items) c.self.inside.views.entries
     c.insert.new.self.entries c.remove.new.self.entries
-    (subst (λ (x : Command). Outcomes g.H.NodeHash.half c.self.inside.bench.state c.args.actor x c.answer-answered.result.0
+    (subst (λ (x : Command). Outcomes g.H.NodeHash.half c.self.inside.machine.state c.args.actor x c.answer-answered.result.0
     (map (λ a. held a.value) c.answer-answered.result.1.items) c.answer-answered.new.self.state) c.requires.is
     (c.answer-answered.ensures.step told).outcome)
     (rw c.if-not-is_opened.true at c.is_opened.ensures) (rw (← c.self.view_is) at c.requires.closed) c.in-Ok.ensures.entries
@@ -30,10 +30,10 @@ invariant_of-self-then-not-is_opened g c told =
 -- it did, and its header is stored
 pub invariant_of-self-else-not-is_opened : goal.invariant_of-self-else-not-is_opened
 invariant_of-self-else-not-is_opened g c told =
-    views_more g.H.NodeHash.half c.self.inside.bench.state c.answer-answered.new.self.state c.args.actor c.args.view c.args.opened
+    views_more g.H.NodeHash.half c.self.inside.machine.state c.answer-answered.new.self.state c.args.actor c.args.view c.args.opened
     c.answer-answered.result.0 (map (λ a. held a.value) c.answer-answered.result.1.items) c.self.inside.views.entries
     c.insert.new.self.entries
-    (subst (λ (x : Command). Outcomes g.H.NodeHash.half c.self.inside.bench.state c.args.actor x c.answer-answered.result.0
+    (subst (λ (x : Command). Outcomes g.H.NodeHash.half c.self.inside.machine.state c.args.actor x c.answer-answered.result.0
     (map (λ a. held a.value) c.answer-answered.result.1.items) c.answer-answered.new.self.state) c.requires.is
     (c.answer-answered.ensures.step told).outcome)
     (rw c.if-not-is_opened.false at c.is_opened.ensures) ((rw (← c.self.view_is) at c.requires.header) told) c.in-Ok.ensures.entries

@@ -9,7 +9,7 @@ use Rattle.store_core.proofs.hall.Hall.serve.Goals as goal
 pub invariant_of-self : goal.invariant_of-self
 invariant_of-self g c told =
     views_kept c.section.result (λ r. r.0) (λ r. map (λ a. held a.value) r.1.items) g.H.NodeHash.half
-    c.self.inside.bench.state c.section.new.self.state c.args.actor c.args.command.now
+    c.self.inside.machine.state c.section.new.self.state c.args.actor c.args.command.now
     c.self.inside.views.entries (leaves c.args.command.now (λ v t e. c.in_default.not-View v t e) (λ v e. c.in_default.not-Unview v e))
     (c.section.ensures.step told) (c.section.ensures.same told) (c.self.invariant told)
 
@@ -30,7 +30,7 @@ pub returns-in_default-clause-does : goal.returns-in_default-clause-does
 returns-in_default-clause-does g c =
     rw (← c.self.view_is)
     (section_does c.section.result (λ r. r.0) (λ r. map (λ a. held a.value) r.1.items) g.H.NodeHash.half g.Sh.B.Backend.tells
-    c.self.inside.bench c.args.actor c.args.command.now c.args.part c.args.searches.now c.section.new.searches
+    c.self.inside.machine c.args.actor c.args.command.now c.args.part c.args.searches.now c.section.new.searches
     c.section.new.self c.section.ensures.step c.section.ensures.shares c.section.ensures.search c.section.ensures.told
     c.section.ensures.refused c.section.ensures.grows c.section.ensures.fault c.section.ensures.more c.section.ensures.slices
     c.section.ensures.idle c.section.ensures.few c.section.ensures.still c.section.ensures.same)

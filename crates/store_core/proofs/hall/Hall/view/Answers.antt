@@ -10,11 +10,11 @@ use Rattle.store_core.proofs.hall.Hall.view.Goals as goal
 -- where a view may not be opened it isn't
 pub invariant_of-self : goal.invariant_of-self
 invariant_of-self g c told =
-    views_unopened g.H.NodeHash.half c.self.inside.bench.state c.answer.new.self.state c.args.actor c.args.view c.args.target.now
+    views_unopened g.H.NodeHash.half c.self.inside.machine.state c.answer.new.self.state c.args.actor c.args.view c.args.target.now
     c.answer.result.0 (map (λ a. held a.value) c.answer.result.1.items) c.self.inside.views.entries
-    (subst (λ (x : Command). Outcomes g.H.NodeHash.half c.self.inside.bench.state c.args.actor x c.answer.result.0
+    (subst (λ (x : Command). Outcomes g.H.NodeHash.half c.self.inside.machine.state c.args.actor x c.answer.result.0
     (map (λ a. held a.value) c.answer.result.1.items) c.answer.new.self.state) c.requires.is (c.answer.ensures.step told).outcome)
-    (unopenable c.self.inside.bench.state c.self.inside.views.entries (c.args.actor, c.args.view) c.args.target.now (c.self.invariant told)
+    (unopenable c.self.inside.machine.state c.self.inside.views.entries (c.args.actor, c.args.view) c.args.target.now (c.self.invariant told)
     (rw (← c.self.view_is) at (rw c.if-not-is_openable.true at c.is_openable.ensures)))
     (c.self.invariant told)
 

@@ -1,34 +1,19 @@
--- all that is stored are forms under their own hashes, so the store gives what is held; and it was only read
-use Rattle.std.proofs.Common.{◌≡◌, IfOk, refl, sym, ap, subst}
-use Rattle.std.specs.FinMap as finite
-use Rattle.ledger_spec.specs.Bytes.{Nodes}
-use Rattle.store_core.specs.Desks.{Desk}
-use Rattle.store_core.proofs.Tables.{IsOver}
-use Rattle.store_core.proofs.Turns.{keeps_was_read}
-use Rattle.store_core.proofs.Viewing.{form_stands, only_reads}
+-- what only reads the store leaves what drafts are kept by
+use Rattle.std.proofs.Common.{sym, subst}
+use Rattle.store_core.specs.Desks.{Desk, IsFiled}
+use Rattle.store_core.proofs.Machines.{keeps_read, reads_beside}
 use Rattle.store_core.proofs.machine.Machine.form_at.Goals as goal
 
-pub returns-clause-exact : goal.returns-clause-exact
-returns-clause-exact g c told =
-    let is : IsOver c.self.inside.store c.args.self.now.state =
-    rw (← c.self.view_is) (record { nodes = refl; born = refl; epoch = refl }) in
-    subst (λ (n : Nodes). IfOk c.bytes_at.result (λ b. b ≡ finite.get n c.args.h.now)) (sym is.nodes) (c.bytes_at.ensures.found told)
+pub form_at-requires-after_bounds : goal.form_at-requires-after_bounds
+form_at-requires-after_bounds g c κs within =
+    subst (λ (d : Desk). IsFiled g.H.NodeHash.half g.Sh.B.Backend.tells d.state) (sym c.self.view_is) c.requires
 
-pub returns-clause-own : goal.returns-clause-own
-returns-clause-own g c =
-    form_stands g.H.NodeHash.half g.Sh.B.Backend.tells c.args.self.now.state c.args.h.now c.bytes_at.result c.requires
-    (returns-clause-exact g c)
+pub invariant_of-self : goal.invariant_of-self
+invariant_of-self g c =
+    keeps_read g.H.NodeHash.half g.Sh.B.Backend.tells c.self.inside.tables c.form_at.new.self c.self.inside.sessions
+    c.form_at.ensures.reads c.self.invariant
 
 pub returns-clause-reads : goal.returns-clause-reads
 returns-clause-reads g c =
-    let d : Desk = c.args.self.now in
-    let is : IsOver c.self.inside.store d.state = rw (← c.self.view_is) (record { nodes = refl; born = refl; epoch = refl }) in
-    only_reads _ _ _ _ c.self.inside.store c.bytes_at.new.store c.self.view_is refl is (ap (λ (x : Desk). x.faults) c.self.view_is)
-    c.bytes_at.ensures.read
-
-pub invariant_of-self : goal.invariant_of-self
-invariant_of-self g c = (
-  c.self.invariant.0,
-  keeps_was_read g.Sh.B.Backend.tells c.self.inside.book c.self.inside.rotator c.self.inside.store c.self.invariant.1
-      g.H.NodeHash.half c.bytes_at.new.store c.bytes_at.ensures.read,
-)
+    rw (← c.self.view_is)
+    (reads_beside g.H.NodeHash.half g.Sh.B.Backend.tells c.self.inside.sessions _ c.form_at.new.self c.form_at.ensures.reads)

@@ -1,9 +1,30 @@
-use Rattle.std.proofs.Common.{refl}
-use Rattle.store_core.proofs.Tables.{IsOver, filed_over}
+-- what only reads the store leaves what drafts are kept by
+use Rattle.std.proofs.Common.{sym, subst}
+use Rattle.store_core.specs.Desks.{Desk, IsFiled}
+use Rattle.store_core.proofs.Machines.{keeps_read}
+use Rattle.store_core.proofs.Machines.{reads_beside}
 use Rattle.store_core.proofs.machine.Machine.next_stored.Goals as goal
 
-pub next_record-requires-after_bounds : goal.next_record-requires-after_bounds
-next_record-requires-after_bounds g c κs within told =
-    let is : IsOver c.self.inside.store c.args.self.now.state =
-    rw (← c.self.view_is) (record { nodes = refl; born = refl; epoch = refl }) in
-    filed_over g.H.NodeHash.half c.self.inside.store c.args.self.now.state is (c.requires told)
+pub next_stored-requires-after_bounds : goal.next_stored-requires-after_bounds
+next_stored-requires-after_bounds g c κs within =
+    subst (λ (d : Desk). IsFiled g.H.NodeHash.half g.Sh.B.Backend.tells d.state) (sym c.self.view_is) c.requires
+
+pub invariant_of-self : goal.invariant_of-self
+invariant_of-self g c =
+    keeps_read g.H.NodeHash.half g.Sh.B.Backend.tells c.self.inside.tables c.next_stored.new.self c.self.inside.sessions
+    c.next_stored.ensures.reads c.self.invariant
+
+pub invariant_of-self-2 : goal.invariant_of-self-2
+invariant_of-self-2 g c =
+    keeps_read g.H.NodeHash.half g.Sh.B.Backend.tells c.self.inside.tables c.next_stored.new.self c.self.inside.sessions
+    c.next_stored.ensures.reads c.self.invariant
+
+pub returns-in_err-next-clause-reads : goal.returns-in_err-next-clause-reads
+returns-in_err-next-clause-reads g c =
+    rw (← c.self.view_is)
+    (reads_beside g.H.NodeHash.half g.Sh.B.Backend.tells c.self.inside.sessions _ c.next_stored.new.self c.next_stored.ensures.reads)
+
+pub returns-clause-reads : goal.returns-clause-reads
+returns-clause-reads g c =
+    rw (← c.self.view_is)
+    (reads_beside g.H.NodeHash.half g.Sh.B.Backend.tells c.self.inside.sessions _ c.next_stored.new.self c.next_stored.ensures.reads)

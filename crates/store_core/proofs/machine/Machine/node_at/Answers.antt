@@ -1,27 +1,19 @@
--- all that is stored are forms under their own hashes, so the store gives what is held
-use Rattle.std.proofs.Common.{refl, subst}
-use Rattle.ledger_spec.specs.Bytes.{Lookup}
-use Rattle.path_proof.specs.Sources.{Gives}
-use Rattle.rotating_store.specs.Sources.{own_nodes}
-use Rattle.rotating_store.specs.Stores.{nodes_of}
-use Rattle.std.specs.FinMap as finite
-use Rattle.store_core.proofs.Tables.{IsOver}
-use Rattle.store_core.proofs.Paging.{gives_all}
-use Rattle.store_core.proofs.Viewing.{filed_by}
+-- what only reads the store leaves what drafts are kept by
+use Rattle.std.proofs.Common.{sym, subst}
+use Rattle.store_core.specs.Desks.{Desk, IsFiled}
+use Rattle.store_core.proofs.Machines.{keeps_read, reads_beside}
 use Rattle.store_core.proofs.machine.Machine.node_at.Goals as goal
 
--- all that the store holds is forms under their own hashes
-pub new-filed-requires-clause-filed : goal.new-filed-requires-clause-filed
-new-filed-requires-clause-filed g c κs within =
-    let is : IsOver c.self.inside.store c.args.self.now.state =
-    rw (← c.self.view_is) (record { nodes = refl; born = refl; epoch = refl }) in
-    filed_by g.H.NodeHash.half g.Sh.B.Backend.tells c.args.self.now.state c.self.inside.store is c.requires
+pub node_at-requires-after_bounds : goal.node_at-requires-after_bounds
+node_at-requires-after_bounds g c κs within =
+    subst (λ (d : Desk). IsFiled g.H.NodeHash.half g.Sh.B.Backend.tells d.state) (sym c.self.view_is) c.requires
 
-pub returns-clause-exact : goal.returns-clause-exact
-returns-clause-exact g c told =
-    let is : IsOver c.self.inside.store c.args.self.now.state =
-    rw (← c.self.view_is) (record { nodes = refl; born = refl; epoch = refl }) in
-    let given : Gives g.H.NodeHash.half (finite.get (own_nodes g.H.NodeHash.half (nodes_of c.self.inside.store)) c.args.h.now)
-    c.fetched.result = rw (← c.new-filed.ensures.same) (c.fetched.ensures.exact told) in
-    subst (λ (n : Lookup). Gives g.H.NodeHash.half (n c.args.h.now) c.fetched.result)
-    (gives_all g.H.NodeHash.half c.self.inside.store c.args.self.now.state is (c.requires told)) given
+pub invariant_of-self : goal.invariant_of-self
+invariant_of-self g c =
+    keeps_read g.H.NodeHash.half g.Sh.B.Backend.tells c.self.inside.tables c.node_at.new.self c.self.inside.sessions
+    c.node_at.ensures.reads c.self.invariant
+
+pub returns-clause-reads : goal.returns-clause-reads
+returns-clause-reads g c =
+    rw (← c.self.view_is)
+    (reads_beside g.H.NodeHash.half g.Sh.B.Backend.tells c.self.inside.sessions _ c.node_at.new.self c.node_at.ensures.reads)

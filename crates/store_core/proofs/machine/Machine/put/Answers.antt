@@ -1,27 +1,41 @@
--- what the store gives is the state's
-use Rattle.std.proofs.Common.{refl}
-use Rattle.ledger_machine.specs.State.{State}
-use Rattle.store_core.proofs.Tables.{IsOver}
-use Rattle.store_core.proofs.Paging.{gives_all}
-use Rattle.store_core.proofs.Changing.{put_by}
-use Rattle.store_core.proofs.Viewing.{filed_by}
+-- the draft that was changed is the machine's session after the row
+use Rattle.std.proofs.Common.{sym, subst}
+use Rattle.store_core.specs.Desks.{Desk, IsFiled}
+use Rattle.store_core.proofs.Changing.{put_row, put_kept, reads_stays, row_keeps, ok_first, ok_second}
 use Rattle.store_core.proofs.machine.Machine.put.Goals as goal
-use Rattle.store_core.proofs.machine.Machine.put.Goals.{in-Ok, in-Err}
 
--- all that the store holds is forms under their own hashes
-pub put-requires-clause-filed : goal.put-requires-clause-filed
-put-requires-clause-filed g c κs within =
-    let is : IsOver c.self.inside.store c.args.self.now.state =
-    rw (← c.self.view_is) (record { nodes = refl; born = refl; epoch = refl }) in
-    filed_by g.H.NodeHash.half g.Sh.B.Backend.tells c.args.self.now.state c.self.inside.store is c.requires
+pub put-requires-after_bounds : goal.put-requires-after_bounds
+put-requires-after_bounds g c κs within =
+    subst (λ (d : Desk). IsFiled g.H.NodeHash.half g.Sh.B.Backend.tells d.state) (sym c.self.view_is) c.requires
 
-pub returns-clause-changed : goal.returns-clause-changed
-returns-clause-changed g c told =
-    let s : State = c.args.self.now.state in
-    let is : IsOver c.self.inside.store s = rw (← c.self.view_is) (record { nodes = refl; born = refl; epoch = refl }) in
-    let by = put_by g.H.NodeHash.half g.Sh.B.Backend.tells _ _ c.args.item.now.key c.args.item.now.value c.args.sessions.now c.put.new.self
-    c.args.id c.put.result told (gives_all g.H.NodeHash.half c.self.inside.store s is (c.requires told)) c.put.ensures.changed in
-    elim c.match-put.branch [
-      | in-Ok w ↦ rw w.result-is (rw w.in-Ok.is at by)
-      | in-Err w ↦ rw w.result-is tt
-    ]
+pub invariant_of-self : goal.invariant_of-self
+invariant_of-self g c =
+    let filed : IsFiled g.H.NodeHash.half g.Sh.B.Backend.tells c.self.inside.tables.state =
+    subst (λ (d : Desk). IsFiled g.H.NodeHash.half g.Sh.B.Backend.tells d.state) (sym c.self.view_is) c.requires in
+    row_keeps g.H.NodeHash.half g.Sh.B.Backend.tells c.self.inside.tables.state c.put.new.self.state c.self.inside.sessions
+    c.put.new.sessions (c.args.actor, c.args.session) c.put.result c.put.ensures.reads.state filed
+    (λ told kept. put_kept g.H.NodeHash.half c.self.inside.tables.state c.self.inside.sessions c.put.new.sessions
+    (c.args.actor, c.args.session) c.args.item.now.key c.args.item.now.value c.put.result kept (c.put.ensures.changed told))
+    c.put.ensures.err c.self.invariant
+
+pub returns-clause-reply : goal.returns-clause-reply
+returns-clause-reply g c told =
+    let filed : IsFiled g.H.NodeHash.half g.Sh.B.Backend.tells c.self.inside.tables.state =
+    subst (λ (d : Desk). IsFiled g.H.NodeHash.half g.Sh.B.Backend.tells d.state) (sym c.self.view_is) c.requires in
+    rw (← c.self.view_is) (ok_first _ _ c.put.result (put_row g.H.NodeHash.half g.Sh.B.Backend.tells c.self.inside.tables.state
+    c.put.new.self.state c.self.inside.sessions c.put.new.sessions (c.args.actor, c.args.session) c.args.item.now.key c.args.item.now.value
+    c.put.result told (c.put.ensures.reads.state told) (c.self.invariant told (filed told)) (c.put.ensures.changed told)))
+
+pub returns-clause-after : goal.returns-clause-after
+returns-clause-after g c told =
+    let filed : IsFiled g.H.NodeHash.half g.Sh.B.Backend.tells c.self.inside.tables.state =
+    subst (λ (d : Desk). IsFiled g.H.NodeHash.half g.Sh.B.Backend.tells d.state) (sym c.self.view_is) c.requires in
+    rw (← c.self.view_is) (ok_second _ _ c.put.result (put_row g.H.NodeHash.half g.Sh.B.Backend.tells c.self.inside.tables.state
+    c.put.new.self.state c.self.inside.sessions c.put.new.sessions (c.args.actor, c.args.session) c.args.item.now.key c.args.item.now.value
+    c.put.result told (c.put.ensures.reads.state told) (c.self.invariant told (filed told)) (c.put.ensures.changed told)))
+
+pub returns-clause-stays : goal.returns-clause-stays
+returns-clause-stays g c =
+    rw (← c.self.view_is)
+    (reads_stays g.H.NodeHash.half g.Sh.B.Backend.tells c.self.inside.tables c.put.new.self c.self.inside.sessions c.put.new.sessions
+    c.put.ensures.reads)

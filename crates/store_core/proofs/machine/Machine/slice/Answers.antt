@@ -1,24 +1,23 @@
--- the walk strides on, over the same map
-use Rattle.std.proofs.Common.{◌∙◌, sym, ap}
-use Rattle.store_core.proofs.Sections.{slice_few, slice_done}
-use Rattle.store_core.specs.Desks.{Desk}
-use Rattle.store_core.proofs.Turns.{sliced_as, slice_stays}
+-- a slice leaves the state, and so what the open sessions are
+use Rattle.std.proofs.Common.{ap}
+use Rattle.ledger_machine.specs.State.{State, form_in}
+use Rattle.store_core.specs.Machines.{with_open}
+use Rattle.store_core.proofs.Machines.{keeps_same}
+use Rattle.store_core.proofs.Sections.{open_rest}
 use Rattle.store_core.proofs.machine.Machine.slice.Goals as goal
+
+pub invariant_of-self : goal.invariant_of-self
+invariant_of-self g c told =
+    keeps_same g.H.NodeHash.half g.Sh.B.Backend.tells c.self.inside.tables.state c.slice.new.self.state c.self.inside.sessions
+    (ap (λ (s : State). form_in s) (c.slice.ensures.same told)) c.self.invariant told
 
 pub returns-clause-same : goal.returns-clause-same
 returns-clause-same g c told =
-    let by = sliced_as c.self.inside.rotator c.slice-sliced.new.self c.slice-sliced.result c.slice-sliced.ensures.counts in
-    slice_stays g.Sh.B.Backend.tells c.self.inside.book c.self.inside.rotator c.slice-sliced.new.self c.self.inside.store
-    c.slice-sliced.new.store c.self.invariant.1 by.0 by.1 c.self.inside.wanted.entries c.self.inside.views.entries
-    (c.slice-sliced.ensures.walks told (c.self.invariant.1.walks told)).0 c.slice-sliced.ensures.rest.0.0
-    ∙ ap (λ (d : Desk). d.state) c.self.view_is
+    rw (← c.self.view_is)
+    (ap (λ (s : State). with_open g.H.NodeHash.half g.Sh.B.Backend.tells s c.self.inside.sessions) (c.slice.ensures.same told))
 
-pub returns-clause-few : goal.returns-clause-few
-returns-clause-few g c told =
-    rw (← c.self.view_is) (slice_few c.args.n c.self.inside.rotator.walk c.slice-sliced.new.self.walk c.self.inside.store
-    c.slice-sliced.new.store c.slice-sliced.result (c.slice-sliced.ensures.ok told) (c.slice-sliced.ensures.err told))
-
-pub returns-clause-done : goal.returns-clause-done
-returns-clause-done g c is =
-    slice_done c.args.n c.self.inside.rotator.walk c.slice-sliced.new.self.walk c.self.inside.store c.slice-sliced.new.store
-    c.slice-sliced.result c.slice-sliced.ensures.left (sym c.slice_told.ensures ∙ is)
+pub returns-clause-rest : goal.returns-clause-rest
+returns-clause-rest g c =
+    rw (← c.self.view_is)
+    (open_rest g.H.NodeHash.half g.Sh.B.Backend.tells c.self.inside.tables.state c.slice.new.self.state c.self.inside.sessions
+    c.slice.ensures.same c.slice.ensures.rest)

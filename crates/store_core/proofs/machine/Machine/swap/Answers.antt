@@ -1,51 +1,29 @@
--- the rotation ends with all that it was told to keep copied, or goes on
-use Rattle.std.proofs.Common.{◌≡◌, true, [], sym, ◌∙◌, subst}
-use Rattle.store_core.specs.Desks.{Desk}
-use Rattle.store_core.proofs.Sections.{finish_still}
-use Rattle.store_core.proofs.Turns.{finish_keeps, finish_swaps, finish_stays, finish_grows, finish_fault}
+-- what a session leaves to the store is reached from the ledger that it edits, which the rotation was told of
+use Rattle.std.proofs.Common.{IsTrue, sym, subst}
+use Rattle.ledger_spec.specs.Own.{AreStored}
+use Rattle.ledger_machine.specs.State.{form_in}
+use Rattle.store_core.specs.Desks.{Desk, IsFiled}
+use Rattle.store_core.specs.Telling.{AreTold}
+use Rattle.store_core.proofs.Besides.{swap_keeps, swap_after}
 use Rattle.store_core.proofs.machine.Machine.swap.Goals as goal
 
 pub invariant_of-self : goal.invariant_of-self
 invariant_of-self g c =
-    let k = c.self.invariant.1 in
-    let turning : c.self.inside.rotator.turning ≡ true = sym c.busy.ensures ∙ c.if-not-busy.false in (
-      c.self.invariant.0,
-      finish_keeps g.Sh.B.Backend.tells c.self.inside.book c.self.inside.rotator c.self.inside.store k turning
-          c.finish-ended.result c.finish-ended.new.book c.finish-ended.new.self c.finish-ended.new.store c.finish-ended.ensures.after
-          (λ told. c.finish-ended.ensures.nodes told (k.walks told)) (λ told. c.finish-ended.ensures.fit told (k.walks told) (k.fit told))
-          (λ told. c.finish-ended.ensures.walks told (k.walks told)),
-    )
+    let half = g.H.NodeHash.half in
+    let tells = g.Sh.B.Backend.tells in
+    swap_keeps half tells c.self.inside.tables c.swap.new.self c.self.inside.sessions c.swap.result
+    c.a_session_stays_over_its_ledger.ensures
+    (subst (λ (d : Desk). IsFiled half tells d.state) (sym c.self.view_is) c.requires.filed)
+    (subst (λ (d : Desk). IsTrue tells → AreTold d.state) (sym c.self.view_is) c.requires.told)
+    c.swap.ensures.swaps c.swap.ensures.err c.self.invariant
 
 pub returns-clause-swaps : goal.returns-clause-swaps
 returns-clause-swaps g c told =
-    let k = c.self.invariant.1 in
-    rw c.swap_told.ensures (rw (← c.self.view_is) (finish_swaps c.self.inside.wanted.entries c.self.inside.views.entries c.self.inside.book
-    c.finish-ended.new.book c.self.inside.rotator c.finish-ended.new.self c.self.inside.store c.finish-ended.new.store
-    c.finish-ended.result c.finish-ended.ensures.after (c.finish-ended.ensures.nodes told (k.walks told))
-    (c.finish-ended.ensures.fit told (k.walks told) (k.fit told))
-    (sym k.step ∙ sym c.busy.ensures ∙ c.if-not-busy.false)))
-
-pub returns-clause-err : goal.returns-clause-err
-returns-clause-err g c told =
-    rw c.swap_told.ensures (rw (← c.self.view_is) (finish_stays c.self.inside.wanted.entries c.self.inside.views.entries c.self.inside.book
-    c.finish-ended.new.book c.self.inside.rotator c.finish-ended.new.self c.self.inside.store c.finish-ended.new.store
-    c.finish-ended.result c.finish-ended.ensures.after (c.finish-ended.ensures.nodes told (c.self.invariant.1.walks told))))
-
-pub returns-clause-grows : goal.returns-clause-grows
-returns-clause-grows g c =
-    rw (← c.self.view_is) (finish_grows c.self.inside.wanted.entries c.self.inside.views.entries c.self.inside.book
-    c.finish-ended.new.book c.self.inside.rotator c.finish-ended.new.self c.self.inside.store c.finish-ended.new.store
-    c.finish-ended.result c.finish-ended.ensures.after c.finish-ended.ensures.later)
-
-pub returns-clause-fault : goal.returns-clause-fault
-returns-clause-fault g c =
-    rw c.swap_told.ensures (rw (← c.self.view_is) (finish_fault c.finish-ended.result c.self.inside.store c.finish-ended.new.store
-    c.finish-ended.ensures.cause))
-
--- nothing is grey, so nothing is copied before the swap
-pub returns-clause-still : goal.returns-clause-still
-returns-clause-still g c told none =
-    rw (← c.self.view_is) (finish_still c.self.inside.wanted.entries c.self.inside.views.entries c.self.inside.book
-    c.finish-ended.new.book c.self.inside.rotator c.finish-ended.new.self c.self.inside.store c.finish-ended.new.store
-    c.finish-ended.result c.finish-ended.ensures.after
-    (c.finish-ended.ensures.still told (subst (λ (d : Desk). d.grey ≡ []) (sym c.self.view_is) none)))
+    let half = g.H.NodeHash.half in
+    let tells = g.Sh.B.Backend.tells in
+    let filed : AreStored half (form_in c.self.inside.tables.state) =
+    (subst (λ (d : Desk). IsFiled half tells d.state) (sym c.self.view_is) c.requires.filed) told in
+    rw (← c.self.view_is) (swap_after half tells c.self.inside.tables c.swap.new.self c.self.inside.sessions c.swap.result
+    c.a_session_stays_over_its_ledger.ensures told filed
+    ((subst (λ (d : Desk). IsTrue tells → AreTold d.state) (sym c.self.view_is) c.requires.told) told)
+    (c.self.invariant told filed) (c.swap.ensures.swaps told))

@@ -1,0 +1,19 @@
+use Rattle.std.proofs.Common.{⊎_elim, inl, inr, refl}
+use Rattle.store_core.proofs.Handing.{advances_for, handed_fault}
+use Rattle.store_core.proofs.core_calls.Core.commit_followed.Goals as goal
+
+-- a fault that is handed in is this one
+pub returns-clause-does : goal.returns-clause-does
+returns-clause-does g c = record {
+  answered = λ is. advances_for g.H.NodeHash.half g.Sh.B.Backend.tells _ _ c.args.self.now c.args.actor _
+      (λ cause. ⊎_elim (λ rose. inl rose) (λ by. inr (handed_fault c.args.handed by.0, by.1)) cause)
+      (c.advance.ensures.answered is);
+  more = λ is. (c.advance.ensures.more is).1;
+  copies = λ told. c.advance.ensures.copies told refl;
+  slices = c.advance.ensures.slices;
+  asks = c.advance.ensures.asks refl;
+  unchanged = c.advance.ensures.unchanged;
+}
+
+pub returns-clause-takes : goal.returns-clause-takes
+returns-clause-takes g c asked = c.advance.ensures.takes c.args.handed refl asked

@@ -1,0 +1,10 @@
+use Rattle.std.proofs.Common.{◌≡◌, ◌≤◌, take}
+use Rattle.std.specs.Prelude.{count_by}
+use Rattle.store_core.specs.Totals.{is_complete}
+use Rattle.store_core.proofs.core_calls.complete_in.Given as goal
+
+abbrev pub invariant-loop-entry : goal.invariant-loop-entry
+invariant-loop-entry l = record {
+  value : l.count ≡ count_by is_complete (take l.entry-index l.journal);
+  few : l.count ≤ l.entry-index;
+}

@@ -1,0 +1,27 @@
+-- a ledger is listed, and the other drafts are kept as before
+use Rattle.std.proofs.Common.{ap}
+use Rattle.ledger_machine.specs.State.{form_in}
+use Rattle.store_core.specs.Desks.{Desk}
+use Rattle.store_core.proofs.Machines.{keeps_same}
+use Rattle.store_core.proofs.Publishing.{enlisted, enlisted_keeps}
+use Rattle.store_core.proofs.machine.Machine.list_closed.Goals as goal
+
+pub invariant_of-self : goal.invariant_of-self
+invariant_of-self g c =
+    keeps_same g.H.NodeHash.half g.Sh.B.Backend.tells c.self.inside.tables.state c.list_closed.new.self.state c.self.inside.sessions
+    (ap (λ (d : Desk). form_in d.state) c.in_err-list_closed.ensures.err) c.self.invariant
+
+pub invariant_of-self-2 : goal.invariant_of-self-2
+invariant_of-self-2 g c =
+    enlisted_keeps g.H.NodeHash.half g.Sh.B.Backend.tells c.self.inside.tables.state _ c.self.inside.sessions _ c.args.id c.args.target.now
+    c.args.seq c.in_ok-list_closed.ensures.ok c.end.ensures.after c.self.invariant
+
+pub returns-clause-ok : goal.returns-clause-ok
+returns-clause-ok g c =
+    rw (← c.self.view_is)
+    (enlisted g.H.NodeHash.half g.Sh.B.Backend.tells c.self.inside.tables.state _ c.self.inside.sessions _ c.args.id c.args.target.now
+    c.args.seq c.in_ok-list_closed.ensures.ok c.end.ensures.after)
+
+-- the machine copies nothing
+pub returns-clause-copies : goal.returns-clause-copies
+returns-clause-copies g c told = rw (← c.self.view_is) (c.list_closed.ensures.copies told)

@@ -1,9 +1,0 @@
-use Rattle.std.proofs.Common.{⊎_elim}
-use Rattle.store_core.proofs.Handing.{advances_for, none_handed}
-use Rattle.store_core.proofs.store.Core.step_whole.Goals as goal
-
--- nothing is handed in, so a fault is one of this section
-pub returns-clause-answered : goal.returns-clause-answered
-returns-clause-answered g c is =
-    advances_for g.H.NodeHash.half g.Sh.B.Backend.tells _ _ c.args.self.now c.args.actor _
-    (λ cause. ⊎_elim (λ rose. rose) (λ by. absurd (none_handed by.0)) cause) (c.advance.ensures.answered is)
