@@ -18,7 +18,7 @@ use std::alloc::AllocError;
 use std::process::ExitCode;
 use std::sync::Wait;
 use std::thread::Threads;
-use std::{env, io};
+use std::{env, io, mem};
 use top_call::{DumpEnd, Ended, NO_MEMORY, ledger_run, without_core};
 
 /// How the process ends: the code, and the run that it is of.
@@ -29,7 +29,10 @@ struct ProgramEnd {
 }
 
 fn main(rt: HostRuntime) -> ExitCode {
-    run_program(&rt, &rt).code
+    let ProgramEnd { code, run } = run_program(&rt, &rt);
+    // The process ends, and gives all of its memory back at once.
+    mem::forget(run);
+    code
 }
 
 /// The run with the words behind the program's name. Words that are no text are other words than the command's. The runtime is handed in
