@@ -1,12 +1,11 @@
 //! An acquisition.
-ghost use Rattle.std.specs.Prelude.{◌≡◌, ◌<◌, IsTrue, IfOk, IfErr, IsSome, OnErr, Ok};
+ghost use Rattle.std.specs.Prelude.{◌≡◌, ◌<◌, IsTrue, IfOk, IsSome, OnErr, Ok};
 ghost use Rattle.std.specs.Option.{option_copied};
-ghost use Rattle.run_io.specs.Bytes.{Rose};
 ghost use Rattle.ledger_spec.specs.Bytes.{is_nonzero};
 ghost use Rattle.ledger_spec.specs.Own.{AreStored};
 ghost use Rattle.ledger_spec.specs.Peers.{added, after_adding, is_present, ticked, after_tick, most_ticks};
 ghost use Rattle.ledger_spec.specs.Acquiring.{acquiring, after_verdict};
-ghost use Rattle.rotating_store.specs.Reading.{IsLater, IsReadable};
+ghost use Rattle.rotating_store.specs.Reading.{KeepsReadable};
 ghost use Rattle.missing_walk.specs.Founds.{IsFound};
 ghost use Rattle.acquire_core.specs.Answers.{forms_in, Answers};
 ghost use Rattle.acquire_core.specs.Replies.{peer_reply, tick_reply, found_verdict, check_reply};
@@ -105,9 +104,7 @@ impl Acquire {
 
         // an absent peer's reply isn't looked at
         ensures unasked { result ≡ Ok BaseReply.Unasked → store.new ≡ store.old }
-        ensures notes { IsReadable Sh.B.tells H.half store.old → IsReadable Sh.B.tells H.half store.new }
-        ensures later { IsLater store.old store.new }
-        ensures fault { IfErr result (λ e. e ≡ OfferFault.Fault → Rose store.old.faults store.new.faults) }
+        ensures store { KeepsReadable Sh.B.tells H.half OfferFault.Fault store.old store.new result }
     {
         if !self.peers.has(peer) {
             return Ok(BaseReply::Unasked);
@@ -142,9 +139,7 @@ impl Acquire {
 
         // an absent peer's node isn't looked at
         ensures unasked { result ≡ Ok NodeReply.Unasked → store.new ≡ store.old }
-        ensures notes { IsReadable Sh.B.tells H.half store.old → IsReadable Sh.B.tells H.half store.new }
-        ensures later { IsLater store.old store.new }
-        ensures fault { IfErr result (λ e. e ≡ OfferFault.Fault → Rose store.old.faults store.new.faults) }
+        ensures store { KeepsReadable Sh.B.tells H.half OfferFault.Fault store.old store.new result }
     {
         if !self.peers.has(peer) {
             return Ok(NodeReply::Unasked);

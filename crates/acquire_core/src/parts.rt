@@ -1,13 +1,12 @@
 //! The parts of a base reply, judged over a store.
-ghost use Rattle.std.specs.Prelude.{◌≡◌, [], IsTrue, IfErr, OnOk};
+ghost use Rattle.std.specs.Prelude.{◌≡◌, [], IsTrue, OnOk};
 ghost use Rattle.std.specs.Option.{option_copied};
-ghost use Rattle.run_io.specs.Bytes.{Rose};
 ghost use Rattle.ledger_spec.specs.Bytes.{is_nonzero};
 ghost use Rattle.ledger_spec.specs.Own.{AreStored};
 ghost use Rattle.ledger_spec.specs.Wire.{read_wire};
 ghost use Rattle.ledger_spec.specs.Offers.{head_outcome, head_forms, node_outcome, stored_by};
 ghost use Rattle.ledger_spec.specs.Bases.{root_outcome, root_forms, base_outcome, base_forms};
-ghost use Rattle.rotating_store.specs.Reading.{IsLater, IsReadable};
+ghost use Rattle.rotating_store.specs.Reading.{KeepsReadable};
 ghost use Rattle.acquire_core.specs.Answers.{forms_in, Answers};
 ghost use Rattle.acquire_core.specs.Parts.{judged, said, said_root};
 
@@ -41,9 +40,7 @@ pub(crate) fn take_parts<H: NodeHash, Sh: Shelf>(
         (base_outcome H.half (forms_in store.old) target.now header.now (option_copied state.entry) (option_copied tx.entry))
         (base_forms H.half (forms_in store.old) target.now header.now (option_copied state.entry) (option_copied tx.entry))
         store.old (judged result) store.new }
-    ensures notes { IsReadable Sh.B.tells H.half store.old → IsReadable Sh.B.tells H.half store.new }
-    ensures later { IsLater store.old store.new }
-    ensures fault { IfErr result (λ e. e ≡ OfferFault.Fault → Rose store.old.faults store.new.faults) }
+    ensures store { KeepsReadable Sh.B.tells H.half OfferFault.Fault store.old store.new result }
 {
     let header = take_header::<H, Sh>(alloc, store, target, header)?;
     let state = take_root::<H, Sh>(alloc, store, target, Kind::State, state)?;
@@ -62,9 +59,7 @@ fn take_header<H: NodeHash, Sh: Shelf>(
     ensures answer { IsTrue Sh.B.tells → Answers H.half (head_outcome H.half (forms_in store.old) target.now header.now)
         (head_forms (head_outcome H.half (forms_in store.old) target.now header.now) header.now) store.old result store.new }
     ensures kept { IsTrue Sh.B.tells → AreStored H.half (forms_in store.old) → OnOk result (AreStored H.half (forms_in store.new)) }
-    ensures notes { IsReadable Sh.B.tells H.half store.old → IsReadable Sh.B.tells H.half store.new }
-    ensures later { IsLater store.old store.new }
-    ensures fault { IfErr result (λ e. e ≡ OfferFault.Fault → Rose store.old.faults store.new.faults) }
+    ensures store { KeepsReadable Sh.B.tells H.half OfferFault.Fault store.old store.new result }
 {
     offer_header::<H, Sh>(alloc, store, target, header)
 }
@@ -81,9 +76,7 @@ fn take_root<H: NodeHash, Sh: Shelf>(
         (root_outcome H.half (forms_in store.old) target.now kind (option_copied blob.entry))
         (root_forms H.half (forms_in store.old) target.now kind (option_copied blob.entry)) store.old (said_root result) store.new }
     ensures kept { IsTrue Sh.B.tells → AreStored H.half (forms_in store.old) → OnOk result (AreStored H.half (forms_in store.new)) }
-    ensures notes { IsReadable Sh.B.tells H.half store.old → IsReadable Sh.B.tells H.half store.new }
-    ensures later { IsLater store.old store.new }
-    ensures fault { IfErr result (λ e. e ≡ OfferFault.Fault → Rose store.old.faults store.new.faults) }
+    ensures store { KeepsReadable Sh.B.tells H.half OfferFault.Fault store.old store.new result }
 {
     let Some(blob) = blob else {
         return Ok(None);
@@ -106,9 +99,7 @@ pub(crate) fn take_node<H: NodeHash, Sh: Shelf>(
         (stored_by (read_wire H.half blob.now) (node_outcome H.half (forms_in store.old) target.now kind id.now blob.now))
         store.old (said result) store.new }
     ensures kept { IsTrue Sh.B.tells → AreStored H.half (forms_in store.old) → OnOk result (AreStored H.half (forms_in store.new)) }
-    ensures notes { IsReadable Sh.B.tells H.half store.old → IsReadable Sh.B.tells H.half store.new }
-    ensures later { IsLater store.old store.new }
-    ensures fault { IfErr result (λ e. e ≡ OfferFault.Fault → Rose store.old.faults store.new.faults) }
+    ensures store { KeepsReadable Sh.B.tells H.half OfferFault.Fault store.old store.new result }
 {
     known_half::<H>();
     offer::<H, Sh>(alloc, store, target, kind, id, blob)

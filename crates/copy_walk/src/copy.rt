@@ -1,11 +1,10 @@
 //! The copy of one form.
-ghost use Rattle.std.specs.Prelude.{◌≡◌, ◌≤◌, IsTrue, IfOk, IfErr, IfSome, OnOk, Err, length};
+ghost use Rattle.std.specs.Prelude.{◌≡◌, ◌≤◌, IsTrue, IfOk, IfErr, IfSome, OnOk, length};
 ghost use Rattle.std.specs.FinMap as finite;
 ghost use Rattle.std.specs.Option.{option_map};
-ghost use Rattle.run_io.specs.Bytes.{Rose};
 ghost use Rattle.rotating_store.specs.Puts.{IsPlain};
-ghost use Rattle.rotating_store.specs.Stores.{nodes_of};
-ghost use Rattle.copy_walk.specs.Slices.{CopiesOne, KidsAt, SameRest};
+ghost use Rattle.rotating_store.specs.Stores.{LeavesStore, nodes_of};
+ghost use Rattle.copy_walk.specs.Slices.{CopiesOne, KidsAt};
 
 use crate::kids::kids_of;
 use half_hash::Hash32;
@@ -24,10 +23,8 @@ pub(crate) fn copy_one<Sh: Shelf>(
     ensures kids { IsTrue Sh.B.tells
         → IfOk result (λ kids. KidsAt (finite.get (nodes_of store.old) h.now) (option_map (λ v. v.items) kids)) }
     ensures few { IfOk result (λ kids. IfSome kids (λ v. length v.items ≤ 16)) }
-    ensures rest { SameRest store.old store.new }
-    ensures later { store.old.faults ≤ store.new.faults }
-    ensures gets { store.old.gets ≤ store.new.gets }
-    ensures cause { (result ≡ Err StoreFault.Fault → Rose store.old.faults store.new.faults) × IfErr result IsPlain }
+    ensures store { LeavesStore StoreFault.Fault store.old store.new result }
+    ensures kind { IfErr result IsPlain }
 {
     let moved = store.forward_form(alloc, h)?;
     match moved.1 {

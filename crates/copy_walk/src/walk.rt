@@ -1,10 +1,10 @@
 //! The walk. The next hash to be taken is the last grey one, so that what one root reaches is copied before the next: few are grey at a
 //! time. A hash leaves the grey list only as it becomes black, or isn't stored: after a refusal it is still there.
-ghost use Rattle.std.specs.Prelude.{◌≡◌, ◌≢◌, ◌↔◌, ◌≤◌, ◌<◌, [], ℕ, List, IsTrue, Some, IfOk, IfErr, OnOk, OnErr, Err, length};
+ghost use Rattle.std.specs.Prelude.{◌≡◌, ◌≢◌, ◌↔◌, ◌≤◌, ◌<◌, [], ℕ, List, IsTrue, Some, IfOk, IfErr, OnOk, OnErr, length};
 ghost use Rattle.std.specs.List.{Contains, slice_get};
-ghost use Rattle.run_io.specs.Bytes.{Rose};
 ghost use Rattle.rotating_store.specs.Puts.{IsPlain};
-ghost use Rattle.copy_walk.specs.Slices.{Blackens, Strode, Slices, IsCutShort, Drains, KeepsRule, LeftBy, SameRest};
+ghost use Rattle.rotating_store.specs.Stores.{LeavesStore};
+ghost use Rattle.copy_walk.specs.Slices.{Blackens, Strode, Slices, IsCutShort, Drains, KeepsRule, LeftBy};
 
 use crate::copy::copy_one;
 use half_hash::{Hash32, Memory};
@@ -77,10 +77,8 @@ impl CopyWalk {
         ensures err { IsTrue Sh.B.tells → OnErr result (IsCutShort n self.old store.old self.new store.new) }
         ensures rule { IsTrue Sh.B.tells → KeepsRule self.old store.old self.new store.new }
         ensures left { IfOk result (λ l. LeftBy l self.new) }
-        ensures rest { SameRest store.old store.new }
-        ensures later { store.old.faults ≤ store.new.faults }
-        ensures gets { store.old.gets ≤ store.new.gets }
-        ensures cause { (result ≡ Err StoreFault.Fault → Rose store.old.faults store.new.faults) × IfErr result IsPlain }
+        ensures store { LeavesStore StoreFault.Fault store.old store.new result }
+        ensures kind { IfErr result IsPlain }
     {
         for _ in 0..n {
             if self.is_done() {
@@ -103,10 +101,8 @@ impl CopyWalk {
 
         // where nothing is grey, nothing is done
         ensures none { self.old.grey ≡ [] → store.new ≡ store.old }
-        ensures rest { SameRest store.old store.new }
-        ensures later { store.old.faults ≤ store.new.faults }
-        ensures gets { store.old.gets ≤ store.new.gets }
-        ensures cause { (result ≡ Err StoreFault.Fault → Rose store.old.faults store.new.faults) × IfErr result IsPlain }
+        ensures store { LeavesStore StoreFault.Fault store.old store.new result }
+        ensures kind { IfErr result IsPlain }
     {
         while !self.is_done() {
             self.take(alloc, store)?;
@@ -172,10 +168,8 @@ impl CopyWalk {
         ensures ok { IsTrue Sh.B.tells → OnOk result (Strode 1 1 self.old store.old self.new store.new) }
         ensures err { IsTrue Sh.B.tells → OnErr result (Strode 0 1 self.old store.old self.new store.new) }
         ensures less { OnOk result (left_of self.new < left_of self.old) }
-        ensures rest { SameRest store.old store.new }
-        ensures later { store.old.faults ≤ store.new.faults }
-        ensures gets { store.old.gets ≤ store.new.gets }
-        ensures cause { (result ≡ Err StoreFault.Fault → Rose store.old.faults store.new.faults) × IfErr result IsPlain }
+        ensures store { LeavesStore StoreFault.Fault store.old store.new result }
+        ensures kind { IfErr result IsPlain }
     {
         let Some(kids) = copy_one(alloc, store, hash)? else {
             self.grey.swap_remove(place);
@@ -191,10 +185,8 @@ impl CopyWalk {
         ensures ok { IsTrue Sh.B.tells → OnOk result (Strode 1 1 self.old store.old self.new store.new) }
         ensures err { IsTrue Sh.B.tells → OnErr result (Strode 0 1 self.old store.old self.new store.new) }
         ensures less { OnOk result (left_of self.new < left_of self.old) }
-        ensures rest { SameRest store.old store.new }
-        ensures later { store.old.faults ≤ store.new.faults }
-        ensures gets { store.old.gets ≤ store.new.gets }
-        ensures cause { (result ≡ Err StoreFault.Fault → Rose store.old.faults store.new.faults) × IfErr result IsPlain }
+        ensures store { LeavesStore StoreFault.Fault store.old store.new result }
+        ensures kind { IfErr result IsPlain }
     {
         let place = self.grey.len() - 1;
         let hash = self.grey[place];

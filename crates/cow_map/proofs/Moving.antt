@@ -8,11 +8,12 @@ use Rattle.ledger_spec.specs.declared.Kind.{Kind}
 use Rattle.ledger_spec.specs.declared.Kind.TheVariants.{State, Tx, Set}
 use Rattle.ledger_spec.specs.Bytes.{Bytes, Hash, Half, Lookup, is_zero, is_nonzero}
 use Rattle.ledger_spec.specs.Forms as held
-use Rattle.ledger_spec.specs.Forms.{Held, inner_of, header_of, keyed_leaf_of, bare_leaf_of, leaf_of}
+use Rattle.ledger_spec.specs.Forms.{Held, inner_of, header_of, keyed_leaf_of, bare_leaf_of}
 use Rattle.ledger_spec.specs.Rules.{fault_of}
 use Rattle.ledger_spec.specs.Findings.{sight_of, held_of, sound}
 use Rattle.ledger_spec.specs.Reach.{Reach, root, kid, named_by, Stored}
 use Rattle.ledger_spec.specs.Tree.{Entry}
+pub use Rattle.tree_laws.proofs.Joins.{in_head}
 use Rattle.cow_map.specs.declared.link.Link.{Link}
 use Rattle.cow_map.specs.declared.link.Link.TheVariants.{Empty, Unloaded, Own}
 use Rattle.cow_map.specs.Bodies.{Body, leaf, inner}
@@ -21,9 +22,6 @@ use Rattle.cow_map.specs.Unloaded.{unloaded_of, unloaded_at, unloaded, StaysOver
 use Rattle.cow_map.proofs.Leading.{body_fork, seen_fork}
 use Rattle.cow_map.proofs.Standing.{Below, stands_from, stands_into, holds_map}
 use Rattle.cow_map.proofs.Sealing.{sound_held}
-
-pub in_head : {A : Type 0} (x : A) (xs : List A) → Contains (x ∷ xs) x
-in_head x xs = (0, omega arith, refl)
 
 pub in_tail : {A : Type 0} (x y : A) (xs : List A) → Contains xs y → Contains (x ∷ xs) y
 in_tail x y xs c = (suc c.0, omega (arith, c.1), c.2)

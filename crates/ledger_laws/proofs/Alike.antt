@@ -1,6 +1,7 @@
 -- Two stores with the same forms under all that a ledger reaches hold the same ledger.
 use Rattle.std.proofs.Common.{◌≡◌, ℕ, zero, suc, Bool, true, false, not, if◌then◌else◌, List, [], ◌∷◌, ◌++◌, Option, None, Some}
 use Rattle.std.proofs.Common.{filter_map, flat_map, slice_index_or, refl, sym, ap, ◌∙◌, subst, IsTrue, IsSomeAnd}
+use Rattle.std.proofs.lemmas.Option.{none-some}
 use Rattle.std.specs.Option.{option_and_then}
 use Rattle.ledger_spec.specs.declared.Kind.{Kind}
 use Rattle.ledger_spec.specs.declared.Kind.TheVariants.{State, Tx}
@@ -17,7 +18,7 @@ use Rattle.ledger_spec.specs.Findings.{header_sight, maps_of, walk_ledger, Whole
 use Rattle.ledger_spec.proofs.Growth.{found, met}
 use Rattle.ledger_spec.proofs.ReachLaws.{Grows}
 use Rattle.ledger_machine.specs.Sound.{IsWholeLedger}
-use Rattle.ledger_laws.proofs.SoundForms.{none_some, in_head}
+use Rattle.ledger_laws.proofs.SoundForms.{in_head}
 use Rattle.ledger_laws.proofs.Closure.{sound_held, held_inner, sound_header, whole_all}
 use Rattle.ledger_laws.proofs.Ways.{IsNamed, branch_named, root_named}
 
@@ -48,7 +49,7 @@ module _ (half : Half) (m n : Lookup) (t : Hash) (fewer : Grows n m) (alike : (h
     where
       gone : (o : Option Bytes) → m h ≡ None → n h ≡ o → o ≡ None
       gone None is now = refl
-      gone (Some form) is now = absurd (none_some (sym is ∙ fewer h form now))
+      gone (Some form) is now = absurd (none-some _ (sym is ∙ fewer h form now))
 
       at : (o : Option Bytes) → m h ≡ o → n h ≡ m h
       at None is = gone (n h) is refl ∙ sym is

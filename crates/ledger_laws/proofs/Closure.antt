@@ -8,6 +8,7 @@ use Rattle.std.proofs.lemmas.Bool.{eq-eqb}
 use Rattle.std.proofs.lemmas.List.{get_or_default}
 use Rattle.std.proofs.lemmas.List.FromFn.{get_or-range_with_len}
 use Rattle.std.proofs.lemmas.List.Elements.{All-nil, All-cons, All-head, All-tail, All-append, All-weaker, All-contains, filter_map-append}
+use Rattle.std.proofs.lemmas.Option.{none-some}
 use Rattle.ledger_spec.specs.declared.Kind.{Kind}
 use Rattle.ledger_spec.specs.declared.Kind.TheVariants.{State, Tx, Set}
 use Rattle.ledger_spec.specs.declared.Place.{Place}
@@ -25,7 +26,7 @@ use Rattle.ledger_spec.specs.Findings.{findings, Whole}
 use Rattle.ledger_spec.proofs.Growth.{no_cons, both_nil, found, met, whole_stored}
 use Rattle.ledger_spec.proofs.OfferLaws.{count_hashes}
 use Rattle.ledger_machine.specs.Complete.{IsAllStored, IsUnbroken}
-use Rattle.ledger_laws.proofs.SoundForms.{none_some, some_same, in_nothing, in_head, in_tail}
+use Rattle.ledger_laws.proofs.SoundForms.{some_same, in_nothing, in_head, in_tail}
 use Rattle.ledger_spec.proofs.Storing.{in_one}
 use Rattle.ledger_laws.proofs.Ways.{IsNamed, branch_named, root_named, header_names}
 
@@ -61,11 +62,11 @@ judged_there rules (Some n) e = at (rules n) e
 -- what is stored isn't missing
 stored_there : (half : Half) (rules : Held → Option ShapeFault) (o : Option Bytes) → ((form : Bytes) × (o ≡ Some form))
     → sight_of half rules o ≡ missing → ⊥
-stored_there half rules None stored e = none_some stored.1
+stored_there half rules None stored e = none-some _ stored.1
 stored_there half rules (Some form) stored e = judged_there rules (held_of half form) e
 
 header_there : (o : Option Bytes) → ((form : Bytes) × (o ≡ Some form)) → header_sight o ≡ missing → ⊥
-header_there None stored e = none_some stored.1
+header_there None stored e = none-some _ stored.1
 header_there (Some form) stored e = at (header_of form) e
   where
     at : (h : Option Bytes) → header_or_foreign h ≡ missing → ⊥
@@ -270,7 +271,7 @@ inner_count form hashes e = at _ e
   where
     at : (z : Bool) → (if z then Some (hashes_of 16 (drop 4 form)) else None) ≡ Some hashes → length hashes ≡ 16
     at true e = ap length (some_same (sym e)) ∙ count_hashes 16 (drop 4 form)
-    at false e = absurd (none_some e)
+    at false e = absurd (none-some _ e)
 
 -- lists whose join holds nothing hold nothing
 flat_clean : {A B F : Type 0} (find : B → Option F) (f : A → List B) (xs : List A) → filter_map find (flat_map f xs) ≡ []

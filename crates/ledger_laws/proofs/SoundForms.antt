@@ -4,6 +4,7 @@ use Rattle.std.proofs.Common.{None, Some, is_some, Contains, refl, sym, ap, ◌�
 use Rattle.std.specs.Ordering.{eq_by_cmp}
 use Rattle.std.proofs.lemmas.Cmp.{nat_list_cmp_total}
 use Rattle.std.proofs.lemmas.Map.Text.{is_eq-slice_cmp}
+use Rattle.std.proofs.lemmas.Option.{none-some}
 use Rattle.std.specs.Cmp.Lexicographic.{same_text}
 use Rattle.std.specs.FinMap as finite
 use Rattle.std.specs.FinMap.{get-insert}
@@ -13,16 +14,13 @@ use Rattle.ledger_spec.specs.Bytes.{Bytes, Hash, Half, Lookup, Nodes, is_nonzero
 use Rattle.ledger_spec.specs.Bases as lookup
 use Rattle.ledger_spec.specs.Forms.{Held, Form}
 use Rattle.ledger_spec.proofs.ReachLaws.{Grows}
+pub use Rattle.tree_laws.proofs.Joins.{in_head}
 use Rattle.ledger_machine.specs.declared.commands.Command.{Command}
 use Rattle.ledger_machine.specs.State.{State, form_in, with_form, with_forms}
 use Rattle.ledger_machine.specs.Sound.{IsStoredAt}
 use Rattle.ledger_machine.specs.Steps.{Refused, own_forms}
 use Rattle.ledger_laws.proofs.SoundTables.{same_tables}
 use Rattle.ledger_laws.proofs.SoundKeeps.{Keeps, keeps_self, keeps_on, keeps_after}
-
--- nothing isn't something
-pub none_some : {A : Type 0} {x : A} → None ≡ Some x → ⊥
-none_some e = cc
 
 -- what is found at one place is one
 pub some_same : {A : Type 0} {x y : A} → Some x ≡ Some y → x ≡ y
@@ -68,7 +66,7 @@ pub old_stays : (nodes : Nodes) (k : Hash) (form : Bytes) → finite.get nodes k
 old_stays nodes k form free h was e = at (eq_by_cmp hash_cmp h k) refl
   where
     at : (b : Bool) → eq_by_cmp hash_cmp h k ≡ b → finite.get (finite.insert nodes k form) h ≡ Some was
-    at true same = absurd (none_some (sym free ∙ sym (ap (finite.get nodes) (same_hash h k same)) ∙ e))
+    at true same = absurd (none-some _ (sym free ∙ sym (ap (finite.get nodes) (same_hash h k same)) ∙ e))
     at false other = get_more nodes k form h false other ∙ e
 
 -- and what is stored then was stored, or is the new form under its hash
@@ -119,11 +117,7 @@ pub with_forms_grow : (half : Half) (s : State) (forms : List Bytes) → Grows (
 with_forms_grow half s [] = λ h was x. x
 with_forms_grow half s (form ∷ forms) = grows_on (with_form_grows half s form) (with_forms_grow half (with_form half s form) forms)
 
--- the first entry is in the list
-pub in_head : {A : Type 0} (x : A) (xs : List A) → Contains (x ∷ xs) x
-in_head x xs = (0, omega arith, refl)
-
--- and so is each entry behind it
+-- each entry behind the first is in the list
 pub in_tail : {A : Type 0} (x y : A) (xs : List A) → Contains xs y → Contains (x ∷ xs) y
 in_tail x y xs c = (suc c.0, omega (arith, c.1), c.2)
 

@@ -10,3 +10,4 @@ mod RowsRotation
 mod RowsViews
 mod RowsPinned
 mod RowsBounds
+pub mod Entries

@@ -1,7 +1,7 @@
 -- What is reached in a list of entries, and that an entry found in a part of a list is found in the list.
 use Rattle.std.specs.Prelude.{◌≡◌, Bool, true, false, ◌&&◌, ◌||◌, List, [], ◌∷◌, map, Option, None, Some, cond, refl}
 use Rattle.std.specs.List.{list_all, list_any, Contains, AllByRecursion}
-use Rattle.std.specs.FinMap.{slice_cmp-IsAntisymmetric, nat_cmp-IsAntisymmetric}
+use Rattle.std.proofs.lemmas.Map.Lookups.{exact_bytes}
 use Rattle.std.specs.Ordering.{eq_by_cmp, is_eq}
 use Rattle.std.specs.declared.cmp.Ordering.{Ordering}
 use Rattle.std.specs.declared.cmp.Ordering.TheVariants.{Less, Equal, Greater}
@@ -19,9 +19,6 @@ use Rattle.std.proofs.lemmas.List.Elements.{All-contains}
 abbrev pub among : List Hash → Hash → Bool
 among all h = list_any (eq_by_cmp hash_cmp h) all
 
-same_hash : (q x : Hash) → hash_cmp q x ≡ Equal → q ≡ x
-same_hash = slice_cmp-IsAntisymmetric nat_cmp-IsAntisymmetric
-
 pub first_passes : (a b : Bool) → (a && b) ≡ true → a ≡ true
 first_passes true b e = refl
 first_passes false b e = e
@@ -37,7 +34,7 @@ one_passes p q (x ∷ rest) pass one = by (hash_cmp q x) refl one (one_passes p 
   where
     by : (o : Ordering) → hash_cmp q x ≡ o → (is_eq o || among rest q) ≡ true → (among rest q ≡ true → p q ≡ true) → p q ≡ true
     by Less is one later = later one
-    by Equal is one later = ap p (same_hash q x is) ∙ first_passes (p x) (list_all p rest) pass
+    by Equal is one later = ap p (exact_bytes q x is) ∙ first_passes (p x) (list_all p rest) pass
     by Greater is one later = later one
 
 pub contained_passes : {X : Type 0} (p : X → Bool) (xs : List X) (x : X) → list_all p xs ≡ true → Contains xs x → p x ≡ true
@@ -69,7 +66,7 @@ found_in_part (e ∷ part) all are h form is = by (hash_cmp h e.0) refl is (foun
     by : (o : Ordering) → hash_cmp h e.0 ≡ o → cond (is_eq o) (Some e.1) (in_list part h) ≡ Some form
         → (in_list part h ≡ Some form → in_list all h ≡ Some form) → in_list all h ≡ Some form
     by Less same found later = later found
-    by Equal same found later = ap (in_list all) (same_hash h e.0 same) ∙ are.0 ∙ found
+    by Equal same found later = ap (in_list all) (exact_bytes h e.0 same) ∙ are.0 ∙ found
     by Greater same found later = later found
 
 -- where an entry is found, its hash is one of the entries'
@@ -90,7 +87,7 @@ at_one P q (x ∷ rest) each one = by (hash_cmp q x) refl one (at_one P q rest e
   where
     by : (o : Ordering) → hash_cmp q x ≡ o → (is_eq o || among rest q) ≡ true → (among rest q ≡ true → P q) → P q
     by Less is one later = later one
-    by Equal is one later = subst P (sym (same_hash q x is)) each.0
+    by Equal is one later = subst P (sym (exact_bytes q x is)) each.0
     by Greater is one later = later one
 
 same_of : (x y : Hash) → eq_by_cmp hash_cmp x y ≡ true → x ≡ y
@@ -98,7 +95,7 @@ same_of x y e = by (hash_cmp x y) refl e
   where
     by : (o : Ordering) → hash_cmp x y ≡ o → is_eq o ≡ true → x ≡ y
     by Less is e = absurd (true≢false (sym e))
-    by Equal is e = same_hash x y is
+    by Equal is e = exact_bytes x y is
     by Greater is e = absurd (true≢false (sym e))
 
 -- a hash that is found among these is one of them

@@ -3,6 +3,7 @@ use Rattle.std.specs.Prelude.{slice_index_or, slice_set}
 use Rattle.std.proofs.Common.{[], ◌∷◌, zero, suc, ◌≡◌, ℕ, ◌≤◌, ◌==◌, true, false, is_some, if◌then◌else◌, length, Contains, List}
 use Rattle.std.proofs.Common.{Option, None, Some, IfSome, sym, ap, ◌∙◌, subst, arith}
 use Rattle.std.proofs.lemmas.Bool.Decides.{nat_tests}
+use Rattle.std.proofs.lemmas.Option.{none-some}
 use Rattle.lru.proofs.Splits.{Contains-nil}
 use Rattle.ledger_spec.specs.Bytes.{Hash, Half, Lookup, is_zero}
 use Rattle.ledger_spec.specs.Header.{header_bytes, state_root_of, tx_root_of}
@@ -113,16 +114,13 @@ pub true_forgot : (half : Half) (nodes : Lookup) (a : ℕ) (x x' : Searches) →
 true_forgot half nodes a x x' forgets t = true_set half nodes a None x x' forgets.hunts forgets.marks forgets.cache tt t
 
 -- a search that nobody has begun is true
-none_some : (n : ℕ) → None ≡ Some n → ⊥
-none_some n e = cc
-
 pub new_rule : (half : Half) (nodes : Lookup) (x : Searches) (s : Search) → IsNew s → AreTrueOf half nodes x → Rule half nodes s x.cache x.marks
 new_rule half nodes x s new t = record {
   marks = t.marks;
   cache = t.cache;
   past = subst (λ o. IfSome o (λ g. g ≤ x.marks.generation)) (sym new.generation) tt;
   unbroken = new.broken;
-  search = λ generation there. absurd (none_some x.marks.generation (sym new.generation ∙ generation));
+  search = λ generation there. absurd (none-some x.marks.generation (sym new.generation ∙ generation));
 }
 
 -- ---- in the generation of the first slice
@@ -143,7 +141,7 @@ present_on first mid now after fresh is same =
     (λ i. stale_in (at i) (same i)) ∙ ap (λ b. if b then None else Some now) (test_own now)
 
 pub not_stale : (first : Option ℕ) (now seen : ℕ) → IsPresent first now → stale_in first now ≡ Some seen → ⊥
-not_stale first now seen fresh stale = none_some seen (sym fresh ∙ stale)
+not_stale first now seen fresh stale = none-some seen (sym fresh ∙ stale)
 
 pub few_left : (s : Search) → has_ended s ≡ false → length s.missing.items ≤ 256
 few_left s more = omega (arith, (goes_on s more).1)

@@ -82,9 +82,6 @@ held_some : (half : Half) (sized : (x : Bytes) → length (half x) ≡ 32) (form
 held_some half sized form None e some = absurd (cc)
 held_some half sized form (Some n) e some = (n, (held_by_form half sized n form).1 e)
 
-same_hash : (a b : Bytes) → same_bytes a b ≡ true → b ≡ a
-same_hash a b e = sym (same_text a b (sym e))
-
 -- what fits may be stored, and what may be stored is a record
 pub fit_stored : (half : Half) (sized : (x : Bytes) → length (half x) ≡ 32) (h : Hash) (form : Bytes) → is_fit half h form ≡ true
     → IsStoredAt half h form
@@ -92,7 +89,7 @@ fit_stored half sized h form fit =
     let parts = parts_of (is_nonzero h) (is_own half h form) (are_bytes form) fit in
     let own = two_of (same_bytes (half form) h) (is_some (held_of half form)) parts.1 in
     record {
-      own = same_hash (half form) h own.0;
+      own = sym (same_text (half form) h (sym own.0));
       nonzero = parts.0;
       held = held_some half sized form (held_of half form) refl own.1;
       bytes = parts.2;

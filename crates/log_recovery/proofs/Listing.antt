@@ -1,11 +1,9 @@
 -- What is recovered is what a store may begin with: forms that may be stored, each under a hash of its own, no hash twice.
-use Rattle.std.proofs.Common.{◌≡◌, inl, inr, ◌<◌, ◌∙◌, sym, ap, refl, subst, ℕ, Bool, true, false, ◌&&◌, List, [], ◌∷◌, cond, map}
+use Rattle.std.proofs.Common.{◌≡◌, inl, inr, ◌<◌, ◌∙◌, sym, ap, refl, subst, ℕ, Bool, true, false, List, [], ◌∷◌, cond, map}
 use Rattle.std.proofs.Common.{length, take, drop, Option, Some, None, arith}
 use Rattle.std.specs.Prelude.{T}
 use Rattle.std.specs.List.{All, Contains, filter}
-use Rattle.std.specs.declared.cmp.Ordering.{Ordering}
-use Rattle.std.specs.declared.cmp.Ordering.TheVariants.{Less, Equal, Greater}
-use Rattle.std.specs.Ordering.{is_lt, is_eq, eq_by_cmp}
+use Rattle.std.specs.Ordering.{is_eq, eq_by_cmp}
 use Rattle.std.specs.Cmp.{tied_itself}
 use Rattle.std.specs.Cmp.Lexicographic.{nat_list_cmp_total}
 use Rattle.std.specs.FinMap as finite
@@ -15,6 +13,7 @@ use Rattle.std.proofs.lemmas.List.Elements.{All-nil, All-cons, Contains-push_cas
 use Rattle.ledger_spec.specs.Maps.{hash_cmp}
 use Rattle.ledger_spec.specs.Bytes.{Bytes, Hash, Half, Nodes}
 use Rattle.ledger_spec.specs.Own.{IsStoredAt}
+use Rattle.ledger_machine.proofs.Entries.{Entries, said, first, second, found_below, found_first}
 use Rattle.ledger_machine.specs.declared.commands.Record.{Record}
 use Rattle.ledger_machine.specs.Records.{hashes_of, AreDistinct, AreRecords}
 use Rattle.log_shelf.specs.Backends.{nodes_after}
@@ -65,36 +64,6 @@ module _ (half : Half) (sized : (x : Bytes) → length (half x) ≡ 32) where
   all_stored files found is =
       subst (λ (m : Nodes). AreStored half m) (sym is.nodes)
       (stored_recovered files is.numbers finite.empty (λ h v some. some_none _ v (get-empty {X = Bytes} hash_cmp h) some))
-
--- entries whose keys rise
-abbrev Entries : Type 0
-Entries = List (Hash × Bytes)
-
-abbrev said : Hash × Bytes → Record
-said e = record { hash = e.0; form = e.1 }
-
-first : (a b : Bool) → T (a && b) → T a
-first true b p = tt
-first false b p = p
-
-second : (a b : Bool) → T (a && b) → T b
-second true b p = p
-second false b p = absurd p
-
-less : (o : Ordering) → T (is_lt o) → is_eq o ≡ false
-less Less p = refl
-less Equal p = absurd p
-less Greater p = absurd p
-
-found_below : (q : Hash) (es : Entries) → T (below_all hash_cmp q es) → find hash_cmp q es ≡ None
-found_below q [] below = refl
-found_below q (e ∷ es) below =
-    ap (λ (b : Bool). cond b (Some e.1) (find hash_cmp q es)) (less (hash_cmp q e.0) (first (is_lt (hash_cmp q e.0)) (below_all hash_cmp q
-    es) below))
-    ∙ found_below q es (second (is_lt (hash_cmp q e.0)) (below_all hash_cmp q es) below)
-
-found_first : (e : Hash × Bytes) (es : Entries) → find hash_cmp e.0 (e ∷ es) ≡ Some e.1
-found_first e es = ap (λ r. cond (is_eq r) (Some e.1) (find hash_cmp e.0 es)) (tied_itself nat_list_cmp_total e.0)
 
 found_later : (b : Bool) (q k : Hash) (v w : Bytes) (o : Option Bytes) → (b ≡ true → q ≡ k) → (q ≡ k → o ≡ None) → o ≡ Some v
     → cond b (Some w) o ≡ Some v

@@ -7,6 +7,7 @@ use Rattle.std.specs.Cmp.Lexicographic.{slice_cmp, nat_list_cmp_total}
 use Rattle.std.specs.FinMap as map
 use Rattle.std.specs.FinMap.{get-insert, get-empty}
 use Rattle.std.proofs.lemmas.List.{take_at, drop_at, take_all, take-append-le, drop-append-le, append-nil, length-take-le}
+use Rattle.std.proofs.lemmas.Option.{none-some}
 use Rattle.ledger_spec.specs.Bytes.{Bytes, Nodes}
 use Rattle.node_backend.specs.Doubts.{Pair, MayDoubt}
 use Rattle.log_shelf.specs.declared.index.Place64.{Place64}
@@ -142,11 +143,8 @@ pub log-withstands : {D : Type 0} {disk : Ghosts D} (log : Log D disk) (file : L
     → HoldsOrDoubts file (held_in log.tail (disk.seen log.disk)) (pair_in_doubt log.tail log.doubt (disk.seen log.disk))
 log-withstands {D} {disk} log file left = withstands log.tail log.doubt (disk.seen log.disk) (disk.may_leave log.disk) file log.kept left
 
-none_some : (place : Place64) → None ≡ Some place → ⊥
-none_some place e = cc
-
 no_place : {P : Type 0} (found : Option Place64) (place : Place64) → found ≡ None → found ≡ Some place → P
-no_place found place none some = absurd (none_some place (sym none ∙ some))
+no_place found place none some = absurd (none-some place (sym none ∙ some))
 
 -- no place shows nothing
 pub shows-empty : (places : Places) (front : List ℕ) (held : Nodes) → places ≡ map.empty → held ≡ map.empty → Shows places front held

@@ -31,7 +31,7 @@ use Rattle.map_changes.specs.Tracking.{place_of, link_hash, node_at, kid_at, ent
 use Rattle.map_changes.specs.Tracking.{leaves_in, items_in, shown_in, HaveTwoHashes}
 use Rattle.map_changes.proofs.Closing.{none_closed, closed_more}
 use Rattle.map_changes.proofs.Linking.{hash_is, link_grows}
-use Rattle.map_changes.proofs.Walking.{same_is}
+use Rattle.std.specs.Cmp.Lexicographic.{same_text}
 use Rattle.map_changes.proofs.Sharing.{some_within, nothing_there, hash_law, share_law, entries_law}
 use Rattle.map_changes.proofs.Standings.{shared_map}
 use Rattle.map_changes.proofs.Walking.{shared_say}
@@ -376,7 +376,7 @@ two_forms half kind nodes bodies hashes i j two are = by (same_bytes (form_of (n
         → false ≡ same_bytes (form_of (node_at half kind nodes i)) (form_of (node_at half kind nodes j))
     by false e = sym e
     by true e = absurd (two.apart (hash_at i two.own.0 two.own.1
-        ∙ ap half (same_is (form_of (node_at half kind nodes i)) (form_of (node_at half kind nodes j)) e)
+        ∙ ap half (same_text (form_of (node_at half kind nodes i)) (form_of (node_at half kind nodes j)) (sym e))
         ∙ sym (hash_at j two.others.0 two.others.1)))
 
 -- a hash more, where it is that of the next node

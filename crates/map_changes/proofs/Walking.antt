@@ -7,8 +7,9 @@ use Rattle.std.proofs.lemmas.Bool.{and_parts, cases_order}
 use Rattle.std.proofs.lemmas.List.Folds.{list_any-append}
 use Rattle.std.proofs.lemmas.List.Elements.{filter-append}
 use Rattle.std.proofs.lemmas.Slice.Eq.{bytes_eq-Decides}
+use Rattle.std.specs.Cmp.Lexicographic.{same_text}
 use Rattle.ledger_spec.specs.declared.Kind.{Kind}
-use Rattle.ledger_spec.specs.Bytes.{Bytes, Half, branches, same_bytes}
+use Rattle.ledger_spec.specs.Bytes.{Half, branches, same_bytes}
 use Rattle.ledger_spec.specs.Forms.{Held, form_of}
 use Rattle.ledger_spec.specs.Tree.{Entry, part, is_alone}
 use Rattle.map_changes.specs.Placed.{Placed, nodes_of_part, is_same, changed}
@@ -22,10 +23,6 @@ pub changed_all : (nodes : List Placed) → changed [] nodes ≡ nodes
 changed_all [] = refl
 changed_all (p ∷ nodes) = ap (λ (x : List Placed). p ∷ x) (changed_all nodes)
 
--- bytes that are found the same
-pub same_is : (a b : Bytes) → same_bytes a b ≡ true → a ≡ b
-same_is a b e = (bytes_eq-Decides a b).0 e
-
 -- one number more
 pub range_more : (a n : ℕ) → range_with_len a n ++ (a + n) ∷ [] ≡ range_with_len a (n + 1)
 range_more a zero = let e : a + 0 ≡ a = omega arith in ap (λ (x : ℕ). x ∷ []) e
@@ -37,8 +34,8 @@ range_more a (suc n) =
 -- nodes at other places aren't the same
 apart_step : (x y : Placed) (b : Bool) → is_same x y ≡ b → x.path ≢ y.path → is_same x y ≡ false
 apart_step x y false e ne = e
-apart_step x y true e ne = absurd (ne (same_is x.path y.path (and_parts (same_bytes x.path y.path)
-    (same_bytes (form_of x.node) (form_of y.node)) e).0))
+apart_step x y true e ne = absurd (ne (same_text x.path y.path (sym (and_parts (same_bytes x.path y.path)
+    (same_bytes (form_of x.node) (form_of y.node)) e).0)))
 
 apart : (x y : Placed) → x.path ≢ y.path → is_same x y ≡ false
 apart x y ne = apart_step x y (is_same x y) refl ne

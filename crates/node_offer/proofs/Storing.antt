@@ -1,9 +1,9 @@
 -- What is stored for an outcome, and what is left where there is none.
-use Rattle.std.proofs.Common.{◌≡◌, ◌≢◌, inl, inr, ℕ, true, false, is_some, if◌then◌else◌, nat_eq, List, [], ◌∷◌, Option, Some, None, Result}
+use Rattle.std.proofs.Common.{◌≡◌, ◌≢◌, inl, inr, ℕ, true, false, is_some, if◌then◌else◌, List, [], ◌∷◌, Option, Some, None, Result}
 use Rattle.std.proofs.Common.{Ok, Err}
 use Rattle.std.proofs.Common.{IfErr, IsErrAnd, refl, sym, ap, ◌∙◌, subst}
-use Rattle.std.proofs.lemmas.Bool.{and_parts, eqb-true}
 use Rattle.std.specs.FinMap as map
+use Rattle.std.specs.Cmp.Lexicographic.{same_text}
 use Rattle.ledger_spec.specs.declared.Kind.{Kind}
 use Rattle.ledger_spec.specs.declared.ShapeFault.{ShapeFault}
 use Rattle.ledger_spec.specs.declared.outcomes.Offered.{Offered}
@@ -22,17 +22,9 @@ use Rattle.node_offer.specs.declared.fault.OfferFault.{OfferFault}
 use Rattle.node_offer.specs.declared.fault.OfferFault.TheVariants as faults
 use Rattle.node_offer.specs.Stored.{with_forms, HasForms, Refuses, Stores}
 
-same_is : (a b : Bytes) → same_bytes a b ≡ true → a ≡ b
-same_is [] [] e = refl
-same_is [] (y ∷ ys) e = cc
-same_is (x ∷ xs) [] e = cc
-same_is (x ∷ xs) (y ∷ ys) e =
-    let both : (nat_eq x y ≡ true) × (same_bytes xs ys ≡ true) = and_parts (nat_eq x y) (same_bytes xs ys) e in
-    ap (λ n. n ∷ xs) (eqb-true x y both.0) ∙ ap (λ l. y ∷ l) (same_is xs ys both.1)
-
 not_same : (a b : Bytes) → a ≢ b → same_bytes a b ≡ false
 not_same a b ne = elim (same_bytes a b) as (λ r. same_bytes a b ≡ r → r ≡ false)
-    [ true ↦ λ e. absurd (ne (same_is a b e)) | false ↦ λ e. refl ] refl
+    [ true ↦ λ e. absurd (ne (same_text a b (sym e))) | false ↦ λ e. refl ] refl
 
 -- the outcome where the node has the wanted hash
 at_wanted : (half : Half) (nodes : Nodes) (kind : Kind) (path : List ℕ) (n : Held) (h : Hash) (parent : Option (List Hash)) (form : Bytes)

@@ -1,10 +1,9 @@
 //! A header that a peer offers.
 ghost use Rattle.std.specs.Prelude.{◌≡◌, IsTrue, IfErr, IfOk, Ok};
 ghost use Rattle.std.specs.FinMap as map;
-ghost use Rattle.run_io.specs.Bytes.{Rose};
 ghost use Rattle.ledger_spec.specs.Offers.{head_forms, head_outcome};
 ghost use Rattle.rotating_store.specs.Stores.{nodes_of};
-ghost use Rattle.rotating_store.specs.Reading.{IsLater, IsReadable};
+ghost use Rattle.rotating_store.specs.Reading.{KeepsReadable};
 ghost use Rattle.node_offer.specs.Stored.{HasForms, Refuses};
 ghost use Rattle.node_offer.specs.Ways.{head_as};
 
@@ -34,9 +33,7 @@ pub fn offer_header<H: NodeHash, Sh: Shelf>(
     ensures err { IsTrue Sh.B.tells
         → IfErr result (λ e. Refuses H.half (head_outcome H.half (map.get (nodes_of store.old)) target.now bytes.now)
         (head_forms (head_outcome H.half (map.get (nodes_of store.old)) target.now bytes.now) bytes.now) store.old e store.new) }
-    ensures notes { IsReadable Sh.B.tells H.half store.old → IsReadable Sh.B.tells H.half store.new }
-    ensures later { IsLater store.old store.new }
-    ensures fault { IfErr result (λ e. e ≡ OfferFault.Fault → Rose store.old.faults store.new.faults) }
+    ensures store { KeepsReadable Sh.B.tells H.half OfferFault.Fault store.old store.new result }
 {
     let header = match Header::decode(bytes) {
         Ok(header) => header,

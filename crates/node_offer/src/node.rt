@@ -12,7 +12,7 @@ ghost use Rattle.ledger_spec.specs.Offers.{node_outcome, spot_outcome, stored_by
 ghost use Rattle.run_io.specs.Bytes.{Rose};
 ghost use Rattle.ledger_spec.specs.Own.{AreStored};
 ghost use Rattle.rotating_store.specs.Stores.{nodes_of};
-ghost use Rattle.rotating_store.specs.Reading.{IsLater, IsReadable};
+ghost use Rattle.rotating_store.specs.Reading.{IsLater, IsReadable, KeepsReadable};
 ghost use Rattle.node_offer.specs.Stored.{HasForms, Refuses};
 ghost use Rattle.node_offer.specs.Outcomes.{numbered, HasCause, HasRule};
 ghost use Rattle.node_offer.specs.Ways.{hashes_of_parent, offered_as, spot as spot_means};
@@ -58,9 +58,7 @@ pub fn offer<H: NodeHash, Sh: Shelf>(
         → IfErr result (λ e. Refuses H.half (node_outcome H.half (map.get (nodes_of store.old)) target.now kind id.now blob.now)
         (stored_by (read_wire H.half blob.now) (node_outcome H.half (map.get (nodes_of store.old)) target.now kind id.now blob.now))
         store.old e store.new) }
-    ensures notes { IsReadable Sh.B.tells H.half store.old → IsReadable Sh.B.tells H.half store.new }
-    ensures later { IsLater store.old store.new }
-    ensures fault { IfErr result (λ e. e ≡ OfferFault.Fault → Rose store.old.faults store.new.faults) }
+    ensures store { KeepsReadable Sh.B.tells H.half OfferFault.Fault store.old store.new result }
 {
     let node = match decode_wire::<H>(alloc, blob) {
         Ok(node) => node,

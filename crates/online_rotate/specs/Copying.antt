@@ -1,5 +1,5 @@
 -- What a copy of all that some hashes reach does to the two backends.
-use Rattle.std.specs.Prelude.{◌≡◌, ◌≢◌, ◌⊎◌, IsTrue, List, None, Some, Result, OnOk, OnErr}
+use Rattle.std.specs.Prelude.{◌≡◌, ◌≢◌, ◌⊎◌, ◌≤◌, IsTrue, List, None, Some, Result, IfErr, OnOk, OnErr}
 use Rattle.std.specs.List.{Contains}
 use Rattle.std.specs.FinMap as finite
 use Rattle.ledger_spec.specs.Bytes.{Bytes, Hash, Lookup, Nodes}
@@ -71,3 +71,9 @@ abbrev pub RefusedBy : Store → StoreFault → Store → Type 0
 RefusedBy s fault.Fault s' = Rose s.faults s'.faults
 RefusedBy s fault.Memory s' = Unit {0}
 RefusedBy s _ s' = ⊥
+
+-- the store's counts don't fall, and what refuses a rotation has its cause
+pub record CountsOn {X : Type 0} (s s' : Store) (result : Result X StoreFault) : Type 0 where
+  pub later : s.faults ≤ s'.faults
+  pub gets : s.gets ≤ s'.gets
+  pub cause : IfErr result (λ e. RefusedBy s e s')

@@ -3,11 +3,11 @@ ghost use Rattle.std.specs.Prelude.{◌≡◌, ◌≤◌, ◌<◌, ◌+◌, ◌-
 ghost use Rattle.std.specs.Prelude.{IsSome, IfOk, IfErr, IsOk, OnOk, OnErr, Ok, Err};
 ghost use Rattle.run_io.specs.Bytes.{Rose};
 ghost use Rattle.rotating_store.specs.Puts.{IsPlain};
-ghost use Rattle.rotating_store.specs.Stores.{HasNoNewNotes, KeepsNotes, AddsAtMostOne};
+ghost use Rattle.rotating_store.specs.Stores.{AddsAtMostOne, HasNoNewNotes, KeepsNotes, LeavesStore};
 ghost use Rattle.ledger_spec.specs.Retaining.{due};
 ghost use Rattle.copy_walk.specs.Slices.{Slices, IsCutShort, LeftBy, SameRest};
 ghost use Rattle.online_rotate.specs.Rotators.{slices_after};
-ghost use Rattle.online_rotate.specs.Copying.{IsFit, IsWalking, CopiesSome, Rotated, AfterRotation, AfterFit, CopiesNothing, RefusedBy};
+ghost use Rattle.online_rotate.specs.Copying.{IsFit, IsWalking, CopiesSome, CountsOn, Rotated, AfterRotation, AfterFit, CopiesNothing};
 
 use copy_walk::{CopyWalk, Left};
 use half_hash::{Hash32, Memory};
@@ -145,10 +145,8 @@ impl Rotator {
             → CopiesSome self.old.shaded store.old store.new × IsWalking self.old.shaded self.new.walk store.new }
         ensures left { IfOk result (λ l. LeftBy l self.new.walk) }
         ensures counts { SlicesBy self.old result self.new }
-        ensures rest { SameRest store.old store.new }
-        ensures later { store.old.faults ≤ store.new.faults }
-        ensures gets { store.old.gets ≤ store.new.gets }
-        ensures cause { IfErr result (λ e. RefusedBy store.old e store.new) }
+        ensures store { LeavesStore StoreFault.Fault store.old store.new result }
+        ensures kind { IfErr result IsPlain }
     {
         let Some(walk) = &mut self.walk else {
             return Ok(Left::Done);
@@ -178,9 +176,7 @@ impl Rotator {
             → OnErr result (IsWalking self.old.shaded self.new.walk store.new) }
         ensures notes { IsTrue Sh.B.tells → OnOk result (KeepsNotes store.old store.new) }
         ensures still { IsTrue Sh.B.tells → self.old.walk.grey ≡ [] → CopiesNothing store.old result store.new }
-        ensures later { store.old.faults ≤ store.new.faults }
-        ensures gets { store.old.gets ≤ store.new.gets }
-        ensures cause { IfErr result (λ e. RefusedBy store.old e store.new) }
+        ensures counts { CountsOn store.old store.new result }
     {
         let Some(walk) = &mut self.walk else {
             unreachable!();

@@ -1,6 +1,7 @@
 -- Documents that are taken one by one are a ledger's pages.
-use Rattle.std.proofs.Common.{◌≡◌, ◌≢◌, ◌⊎◌, inl, inr, ◌≤◌, ℕ, ◌+◌, ◌==◌, Bool, true, false, is_some, List, [], ◌∷◌, ◌++◌, length, nat_lt}
+use Rattle.std.proofs.Common.{◌≡◌, ◌⊎◌, inl, inr, ◌≤◌, ℕ, ◌+◌, ◌==◌, Bool, true, false, is_some, List, [], ◌∷◌, ◌++◌, length, nat_lt}
 use Rattle.std.proofs.Common.{Option, None, Some, Result, Ok, Err, refl, sym, ap, ◌∙◌, subst, arith, append_assoc}
+use Rattle.std.specs.Cmp.Lexicographic.{same_text}
 use Rattle.std.specs.Prelude.{if◌then◌else◌, codes}
 use Rattle.std.proofs.lemmas.Bool.{ltb-false, eqb-true}
 use Rattle.std.proofs.lemmas.List.{append-nil}
@@ -164,9 +165,6 @@ page_told p q d none rising is =
           rising = adds.rising;
         }
 
-same_is : (a b : Bytes) → same_bytes a b ≡ true → a ≡ b
-same_is a b is = (Rattle.std.proofs.lemmas.Slice.Eq.bytes_eq-Decides a b).0 is
-
 -- a document of the same ledger
 same_told : (p q : Paged) (d : Json) → same_ledger p d (hash_in d) ≡ Ok q → Names d p.hash (seq_of p.said.header) × (p ≡ q)
 same_told p q d is = by (hash_in d) refl is
@@ -177,7 +175,7 @@ same_told p q d is = by (hash_in d) refl is
     by_hash hash false hash_is same is = let e : Err causes.OtherLedger ≡ Ok q = is in cc
     by_hash hash true hash_is same is =
         let number = numbered_is p q (number_in (seq_of p.said.header) d) is in
-        (record { hash_is = hash_is ∙ ap Some (same_is hash p.hash same); number_is = number.0 }, number.1)
+        (record { hash_is = hash_is ∙ ap Some (same_text hash p.hash (sym same)); number_is = number.0 }, number.1)
 
     by : (o : Option Hash) → hash_in d ≡ o → same_ledger p d o ≡ Ok q → Names d p.hash (seq_of p.said.header) × (p ≡ q)
     by None hash_is is = let e : Err causes.Hash ≡ Ok q = is in cc

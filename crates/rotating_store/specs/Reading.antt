@@ -1,6 +1,7 @@
 -- What calls leave of a store.
-use Rattle.std.specs.Prelude.{◌≡◌, ◌≤◌, ◌⊎◌, Bool, IsTrue, Some}
+use Rattle.std.specs.Prelude.{◌≡◌, ◌≤◌, ◌⊎◌, Bool, IsTrue, Some, Result, IfErr}
 use Rattle.std.specs.FinMap as map
+use Rattle.run_io.specs.Bytes.{Rose}
 use Rattle.ledger_spec.specs.Bytes.{Bytes, Hash, Half}
 use Rattle.ledger_spec.specs.Own.{is_own}
 use Rattle.rotating_store.specs.Stores.{Store, nodes_of, Counted, SamePast, is_noted, IsNoted}
@@ -30,3 +31,10 @@ pub record WasRead (tells : Bool) (half : Half) (s s' : Store) : Type 0 where
   pub same : IsTrue tells → Counted s s'
   pub later : IsLater s s'
   pub notes : IsReadable tells half s → IsReadable tells half s'
+
+-- what a call that reads, stores and notes leaves of a store: true notes stay true, no backend was taken or discarded, the counts never
+-- fall, and the call ends with the fault only where the count of faults rose
+pub record KeepsReadable {X E : Type 0} (tells : Bool) (half : Half) (fault : E) (s s' : Store) (result : Result X E) : Type 0 where
+  pub notes : IsReadable tells half s → IsReadable tells half s'
+  pub later : IsLater s s'
+  pub cause : IfErr result (λ e. e ≡ fault → Rose s.faults s'.faults)

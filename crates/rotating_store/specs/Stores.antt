@@ -1,9 +1,10 @@
 -- What a store holds: the one map of its two backends.
-use Rattle.std.specs.Prelude.{◌≡◌, ◌⊎◌, ◌≤◌, ◌-◌, ◌++◌, ℕ, Bool, IsTrue, cond, List, [], ◌∷◌, Option, None, Some}
+use Rattle.std.specs.Prelude.{◌≡◌, ◌⊎◌, ◌≤◌, ◌-◌, ◌++◌, ℕ, Bool, IsTrue, cond, List, [], ◌∷◌, Option, None, Some, Result, Err}
 use Rattle.std.specs.Option.{IsSome}
 use Rattle.std.specs.Ordering.{is_gt}
 use Rattle.std.specs.FinMap as finite
 use Rattle.std.specs.FinSet as set
+use Rattle.run_io.specs.Bytes.{Rose}
 use Rattle.ledger_spec.specs.Maps.{SetOf, hashes_in, hash_cmp}
 use Rattle.ledger_spec.specs.Bytes.{Bytes, Hash, Nodes}
 use Rattle.node_backend.specs.Counts.{held_sum}
@@ -52,6 +53,16 @@ sum_of past writable archive ready = held_sum (held_sum (held_sum past writable)
 abbrev pub SamePast : Store → Store → Type 0
 SamePast s t = (t.epoch ≡ s.epoch) × (t.past_faults ≡ s.past_faults) × (t.past_gets ≡ s.past_gets)
     × (t.spare ≡ s.spare) × (t.undone ≡ s.undone)
+
+-- what a call leaves of a store beside its maps: the same epoch, backends and notes; its counts don't fall, and the call ends with the
+-- fault only where the count of faults rose
+pub record LeavesStore {X E : Type 0} (fault : E) (s t : Store) (result : Result X E) : Type 0 where
+  pub past : SamePast s t
+  pub ready : t.ready ≡ s.ready
+  pub noted : t.noted ≡ s.noted
+  pub later : s.faults ≤ t.faults
+  pub gets : s.gets ≤ t.gets
+  pub cause : result ≡ Err fault → Rose s.faults t.faults
 
 -- the numbers as before, or one more at their end
 abbrev pub AddsAtMostOne : List ℕ → List ℕ → Type 0

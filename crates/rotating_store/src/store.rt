@@ -9,7 +9,7 @@ ghost use Rattle.node_backend.specs.Order.{IsNext};
 ghost use Rattle.run_io.specs.Bytes.{Rose};
 ghost use Rattle.node_backend.specs.Counts.{held_sum};
 ghost use Rattle.rotating_store.specs.Stores.{Store, nodes_of, Counted, Agree, SamePast, sum_of, spare_of, is_noted, IsNoted};
-ghost use Rattle.rotating_store.specs.Stores.{AddsAtMostOne, RoseByShelf, KeepsNotes, HasNoNewNotes};
+ghost use Rattle.rotating_store.specs.Stores.{AddsAtMostOne, RoseByShelf, KeepsNotes, HasNoNewNotes, LeavesStore};
 ghost use Rattle.rotating_store.specs.Puts.{Puts, TellsWrongHash, Compares, IsPlain};
 ghost use Rattle.rotating_store.specs.Moves.{Moves, moved_of};
 ghost use Rattle.rotating_store.specs.Keeps.{Numbered, Keeps};
@@ -170,10 +170,8 @@ impl<Sh: Shelf> RotStore<Sh> {
     pub fn get(&mut self, alloc: Global, h: &Hash32) -> Result<Option<Blob>, StoreFault>
         ensures found { IsTrue Sh.B.tells → IfOk result (λ b. b ≡ map.get (nodes_of self.old) h.now) }
         ensures same { IsTrue Sh.B.tells → Counted self.old self.new }
-        ensures rest { SamePast self.old self.new × (self.new.ready ≡ self.old.ready) × (self.new.noted ≡ self.old.noted) }
-        ensures later { self.old.faults ≤ self.new.faults }
-        ensures asked { (self.old.gets ≤ self.new.gets) × (self.new.gets ≤ self.old.gets + 2) }
-        ensures cause { result ≡ Err StoreFault.Fault → Rose self.old.faults self.new.faults }
+        ensures few { self.new.gets ≤ self.old.gets + 2 }
+        ensures store { LeavesStore StoreFault.Fault self.old self.new result }
         ensures kind { IfErr result IsPlain }
     {
         let form = get_either(&mut self.writable, &mut self.archive, alloc, h)?;
@@ -184,10 +182,8 @@ impl<Sh: Shelf> RotStore<Sh> {
     pub fn has(&mut self, alloc: Global, h: &Hash32) -> Result<bool, StoreFault>
         ensures found { IsTrue Sh.B.tells → IfOk result (λ b. b ≡ is_some (map.get (nodes_of self.old) h.now)) }
         ensures same { IsTrue Sh.B.tells → Counted self.old self.new }
-        ensures rest { SamePast self.old self.new × (self.new.ready ≡ self.old.ready) × (self.new.noted ≡ self.old.noted) }
-        ensures later { self.old.faults ≤ self.new.faults }
-        ensures asked { (self.old.gets ≤ self.new.gets) × (self.new.gets ≤ self.old.gets + 2) }
-        ensures cause { result ≡ Err StoreFault.Fault → Rose self.old.faults self.new.faults }
+        ensures few { self.new.gets ≤ self.old.gets + 2 }
+        ensures store { LeavesStore StoreFault.Fault self.old self.new result }
         ensures kind { IfErr result IsPlain }
     {
         let form = self.get(alloc, h)?;
@@ -204,9 +200,7 @@ impl<Sh: Shelf> RotStore<Sh> {
     ) -> Result<Put, StoreFault>
         ensures puts { IsTrue Sh.B.tells → Puts self.old h.now form.now result self.new }
         ensures wrong { TellsWrongHash H.half h.now form.now result }
-        ensures rest { SamePast self.old self.new × (self.new.ready ≡ self.old.ready) × (self.new.noted ≡ self.old.noted) }
-        ensures later { (self.old.faults ≤ self.new.faults) × (self.old.gets ≤ self.new.gets) }
-        ensures cause { result ≡ Err StoreFault.Fault → Rose self.old.faults self.new.faults }
+        ensures store { LeavesStore StoreFault.Fault self.old self.new result }
     {
         let found = H::half(form);
         if !found.equals(h) {
@@ -225,9 +219,7 @@ impl<Sh: Shelf> RotStore<Sh> {
         requires own { H.half form.now ≡ h.now }
         ensures puts { IsTrue Sh.B.tells → Puts self.old h.now form.now result self.new }
         ensures wrong { TellsWrongHash H.half h.now form.now result }
-        ensures rest { SamePast self.old self.new × (self.new.ready ≡ self.old.ready) × (self.new.noted ≡ self.old.noted) }
-        ensures later { (self.old.faults ≤ self.new.faults) × (self.old.gets ≤ self.new.gets) }
-        ensures cause { result ≡ Err StoreFault.Fault → Rose self.old.faults self.new.faults }
+        ensures store { LeavesStore StoreFault.Fault self.old self.new result }
     {
         if let Some(old) = get_either(&mut self.writable, &mut self.archive, alloc, h)? {
             return compare(alloc, h, old, form);
@@ -244,9 +236,7 @@ impl<Sh: Shelf> RotStore<Sh> {
         ensures moves { IsTrue Sh.B.tells → Moves self.old.writable self.old.archive h.now result self.new.writable }
         ensures there { IsTrue Sh.B.tells → OnOk result (map.get self.new.writable h.now ≡ map.get (nodes_of self.old) h.now) }
         ensures archive { IsTrue Sh.B.tells → self.new.archive ≡ self.old.archive }
-        ensures rest { SamePast self.old self.new × (self.new.ready ≡ self.old.ready) × (self.new.noted ≡ self.old.noted) }
-        ensures later { (self.old.faults ≤ self.new.faults) × (self.old.gets ≤ self.new.gets) }
-        ensures cause { result ≡ Err StoreFault.Fault → Rose self.old.faults self.new.faults }
+        ensures store { LeavesStore StoreFault.Fault self.old self.new result }
         ensures kind { IfErr result IsPlain }
     {
         let (moved, _) = self.forward_form(alloc, h)?;
@@ -264,9 +254,7 @@ impl<Sh: Shelf> RotStore<Sh> {
         ensures form { IsTrue Sh.B.tells → IfOk result (λ r. r.1 ≡ map.get (nodes_of self.old) h.now) }
         ensures there { IsTrue Sh.B.tells → OnOk result (map.get self.new.writable h.now ≡ map.get (nodes_of self.old) h.now) }
         ensures archive { IsTrue Sh.B.tells → self.new.archive ≡ self.old.archive }
-        ensures rest { SamePast self.old self.new × (self.new.ready ≡ self.old.ready) × (self.new.noted ≡ self.old.noted) }
-        ensures later { (self.old.faults ≤ self.new.faults) × (self.old.gets ≤ self.new.gets) }
-        ensures cause { result ≡ Err StoreFault.Fault → Rose self.old.faults self.new.faults }
+        ensures store { LeavesStore StoreFault.Fault self.old self.new result }
         ensures kind { IfErr result IsPlain }
     {
         self.noted.carry(h)?;
@@ -282,10 +270,8 @@ impl<Sh: Shelf> RotStore<Sh> {
     ) -> Result<Option<Hash32>, StoreFault>
         ensures next { IsTrue Sh.B.tells → IfOk result (IsNext (nodes_of self.old) (option_copied after.entry)) }
         ensures same { IsTrue Sh.B.tells → Counted self.old self.new }
-        ensures rest { SamePast self.old self.new × (self.new.ready ≡ self.old.ready) × (self.new.gets ≡ self.old.gets)
-            × (self.new.noted ≡ self.old.noted) }
-        ensures later { self.old.faults ≤ self.new.faults }
-        ensures cause { result ≡ Err StoreFault.Fault → Rose self.old.faults self.new.faults }
+        ensures unasked { self.new.gets ≡ self.old.gets }
+        ensures store { LeavesStore StoreFault.Fault self.old self.new result }
         ensures kind { IfErr result IsPlain }
     {
         let next = next_of_either(&mut self.writable, &mut self.archive, alloc, after)?;

@@ -4,6 +4,7 @@ use Rattle.std.proofs.Common.{[], ◌∷◌}
 use Rattle.std.proofs.Common.{Option, Some, None}
 use Rattle.std.proofs.Common.{Result, Ok, Err, IsTrue, refl, sym, subst, arith}
 use Rattle.std.proofs.lemmas.Bool.{leb-true, lt-ltb, and_parts, and_from}
+use Rattle.std.proofs.lemmas.Option.{none-some}
 use Rattle.hex.specs.declared.error.FromHexError.{FromHexError}
 use Rattle.hex.specs.declared.error.FromHexError.TheVariants.{OddLength}
 use Rattle.hex.specs.Hex.{hex_digit_value, digit_or_error, value_at, pair_value, decode_pairs, ◌>>=◌}
@@ -20,9 +21,6 @@ ok_same e = cc
 some_same : {X : Type 0} {x y : X} → Some x ≡ Some y → x ≡ y
 some_same e = cc
 
-none_some : {X : Type 0} {x : X} → None ≡ Some x → ⊥
-none_some e = cc
-
 -- one range of digits, whose last has a value below 16
 digit_small : (low high less c v : ℕ) (rest : Option ℕ) → high < less + 16 → (rest ≡ Some v → v < 16)
     → (if nat_le low c && nat_le c high then Some (c - less) else rest) ≡ Some v → v < 16
@@ -38,7 +36,7 @@ digit_small low high less c v rest fits later e = by (nat_le low c && nat_le c h
 pub value_small : (c v : ℕ) → hex_digit_value c ≡ Some v → v < 16
 value_small c v e =
     digit_small 65 70 55 c v _ (omega arith)
-    (λ e. digit_small 97 102 87 c v _ (omega arith) (λ e. digit_small 48 57 48 c v None (omega arith) (λ e. absurd (none_some e)) e) e) e
+    (λ e. digit_small 97 102 87 c v _ (omega arith) (λ e. digit_small 48 57 48 c v None (omega arith) (λ e. absurd (none-some _ e)) e) e) e
 
 digit_read : (c i v : ℕ) → value_at c i ≡ Ok v → v < 16
 digit_read c i v e = by (hex_digit_value c) refl e

@@ -13,6 +13,7 @@ use Rattle.std.specs.Cmp.Lexicographic.{nat_list_cmp_total}
 use Rattle.std.proofs.lemmas.Bool.{eq-eqb, ne_eqb, le-ltb}
 use Rattle.std.proofs.lemmas.List.Elements.{All-head, All-tail, All-contains, All-from_recursion}
 use Rattle.std.proofs.lemmas.List.Sums.{sum_by-cons}
+use Rattle.std.proofs.lemmas.Option.{none-some}
 use Rattle.ledger_spec.specs.Maps.{ForHash, hash_cmp, get_in, insert_in, remove_in}
 use Rattle.ledger_spec.specs.Bytes.{Bytes, Hash, Half, Lookup, is_zero, is_nonzero}
 use Rattle.ledger_spec.specs.Forms.{Held}
@@ -43,9 +44,6 @@ use Rattle.stop_run.specs.Looking.{line_with, lines_behind, is_unlucky, AreLucky
 -- what can't be
 true_false : {A : Type 0} → true ≡ false → A
 true_false e = absurd (cc)
-
-none_some : {A X : Type 0} {x : X} → None ≡ Some x → A
-none_some e = absurd (cc)
 
 -- a lucky `want` and a lucky `check` are answered by their rows
 want_row : (half : Half) (s : State) (t : Hash) (reply : Reply) (used : List Held) (s' : State)
@@ -131,7 +129,7 @@ not_listed listed t u seq none other = at (get_in hash_cmp (insert_in hash_cmp l
   where
     at : (o : Option ℕ) → get_in hash_cmp (insert_in hash_cmp listed t seq) u ≡ o → o ≡ None
     at None e = refl
-    at (Some v) e = ⊎_elim (λ same. absurd (other same.0)) (λ old. none_some (sym none ∙ old)) (get_inserted listed t seq u v e)
+    at (Some v) e = ⊎_elim (λ same. absurd (other same.0)) (λ old. absurd (none-some _ (sym none ∙ old))) (get_inserted listed t seq u v e)
 
 -- after the two lines of a ledger the others are ready
 ready_next : (half : Half) (t : Hash) (ts : List Hash) (s s1 s2 : State) (seq : ℕ) → IsStrictlySortedBy hash_cmp (t ∷ ts)
@@ -153,13 +151,13 @@ ready_next half t ts s s1 s2 seq rise ready one two = record {
 
 -- a line that stands among rising ones is the one of its number
 later_number : (n : ℕ) (lines : List Line) (place : ℕ) (line : Line) → Rises n lines → slice_get lines place ≡ Some line → n < line.number
-later_number n [] place line rise e = none_some e
+later_number n [] place line rise e = absurd (none-some _ e)
 later_number n (l ∷ lines) zero line rise e = subst (λ (x : Line). n < x.number) (some_same e) rise.0
 later_number n (l ∷ lines) (suc place) line rise e = omega (arith, rise.0, later_number l.number lines place line rise.1 e)
 
 pub found_line : (n : ℕ) (lines : List Line) (place : ℕ) (line : Line) → Rises n lines → slice_get lines place ≡ Some line
     → line_of lines line.number ≡ Some line
-found_line n [] place line rise e = none_some e
+found_line n [] place line rise e = absurd (none-some _ e)
 found_line n (l ∷ lines) zero line rise e =
     let same : l ≡ line = some_same e in
     ap (λ (b : Bool). cond b (Some l) (line_of lines line.number)) (eq-eqb l.number line.number (ap (λ (x : Line). x.number) same))

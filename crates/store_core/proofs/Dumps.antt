@@ -1,15 +1,16 @@
 -- The next stored record is the first of those that come after.
 use Rattle.std.proofs.Common.{◌≡◌, Bool, true, false, cond, List, [], ◌∷◌, ◌∙◌, map, Option, None, Some, is_some, refl, sym, ap, subst}
+use Rattle.std.proofs.lemmas.Map.Lookups.{exact_bytes}
+use Rattle.std.proofs.lemmas.Option.{none-some}
 use Rattle.std.specs.Prelude.{◌&&◌, T, IfSome}
 use Rattle.std.specs.List.{filter}
 use Rattle.std.specs.Option.{IsSome}
 use Rattle.std.specs.declared.cmp.Ordering.{Ordering}
 use Rattle.std.specs.declared.cmp.Ordering.TheVariants.{Less, Equal, Greater}
 use Rattle.std.specs.Ordering.{is_lt, is_eq, is_gt}
-use Rattle.std.specs.Cmp.{tied_itself}
 use Rattle.std.specs.Cmp.Lexicographic.{nat_list_cmp_total}
 use Rattle.std.specs.FinMap as finite
-use Rattle.std.specs.FinMap.{find, is_sorted, nat_cmp-IsAntisymmetric, slice_cmp-IsAntisymmetric}
+use Rattle.std.specs.FinMap.{find, is_sorted}
 use Rattle.std.specs.FinMap.Entries.{below_all}
 use Rattle.std.specs.BTreeMap.Range.{IsLeBy}
 use Rattle.ledger_spec.specs.Bytes.{Bytes, Hash, Half, Lookup, Nodes}
@@ -18,36 +19,15 @@ use Rattle.ledger_spec.proofs.Owning.{all_own}
 use Rattle.ledger_spec.specs.Maps.{hash_cmp}
 use Rattle.node_backend.specs.Order.{IsAfter, IsNext}
 use Rattle.ledger_machine.specs.declared.commands.Record.{Record}
+use Rattle.ledger_machine.proofs.Entries.{Entries, said, first, second, less, found_below, found_first}
 use Rattle.store_core.specs.Dumping.{comes_after, Follows, IsNextRecord}
-
-abbrev Entries : Type 0
-Entries = List (Hash × Bytes)
-
-abbrev said : Hash × Bytes → Record
-said e = record { hash = e.0; form = e.1 }
 
 -- what of the entries comes after a hash
 abbrev behind : Option Hash → Entries → List Record
 behind after es = filter (λ r. comes_after after r.hash) (map said es)
 
-none_some : {A : Type 0} {x : A} → None ≡ Some x → ⊥
-none_some e = cc
-
 not_true : {A : Type 0} → true ≡ false → A
 not_true e = absurd (subst T e tt)
-
-first : (a b : Bool) → T (a && b) → T a
-first true b p = tt
-first false b p = p
-
-second : (a b : Bool) → T (a && b) → T b
-second true b p = p
-second false b p = absurd p
-
-less : (o : Ordering) → T (is_lt o) → o ≡ Less
-less Less p = refl
-less Equal p = absurd p
-less Greater p = absurd p
 
 less_is : (o : Ordering) → is_lt o ≡ true → o ≡ Less
 less_is o e = less o (subst T (sym e) tt)
@@ -64,18 +44,6 @@ after_later : (after : Option Hash) (x h : Hash) → IsAfter after x → hash_cm
 after_later None x h at less = tt
 after_later (Some last) x h at less = nat_list_cmp_total.trans last x h at less
 
-same : (x y : Hash) → hash_cmp x y ≡ Equal → x ≡ y
-same = slice_cmp-IsAntisymmetric nat_cmp-IsAntisymmetric
-
-find_itself : (e : Hash × Bytes) (es : Entries) → find hash_cmp e.0 (e ∷ es) ≡ Some e.1
-find_itself e es = ap (λ (r : Ordering). cond (is_eq r) (Some e.1) (find hash_cmp e.0 es)) (tied_itself nat_list_cmp_total e.0)
-
-find_below : (q : Hash) (es : Entries) → T (below_all hash_cmp q es) → find hash_cmp q es ≡ None
-find_below q [] b = refl
-find_below q (e ∷ es) b =
-    ap (λ (r : Ordering). cond (is_eq r) (Some e.1) (find hash_cmp q es)) (less (hash_cmp q e.0) (first _ _ b))
-    ∙ find_below q es (second _ _ b)
-
 below_later : (x y : Hash) (es : Entries) → hash_cmp x y ≡ Less → T (below_all hash_cmp y es) → T (below_all hash_cmp x es)
 below_later x y [] l b = tt
 below_later x y (e ∷ es) l b =
@@ -85,7 +53,7 @@ below_later x y (e ∷ es) l b =
 find_behind : (h : Hash) (e : Hash × Bytes) (es : Entries) → find hash_cmp h (e ∷ es) ≡ None → find hash_cmp h es ≡ None
 find_behind h e es none =
     elim (is_eq (hash_cmp h e.0)) as (λ b. cond b (Some e.1) (find hash_cmp h es) ≡ None → find hash_cmp h es ≡ None) [
-      | true ↦ λ some. absurd (none_some (sym some))
+      | true ↦ λ some. absurd (none-some _ (sym some))
       | false ↦ λ rest. rest
     ] none
 
@@ -94,7 +62,7 @@ none_behind : (after : Option Hash) (es : Entries) → ((h : Hash) → IsAfter a
 none_behind after [] absent = refl
 none_behind after (e ∷ es) absent =
     elim (comes_after after e.0) as (λ b. comes_after after e.0 ≡ b → cond b (said e ∷ behind after es) (behind after es) ≡ []) [
-      | true ↦ λ t. absurd (none_some (sym (absent e.0 (after_is after e.0 t)) ∙ find_itself e es))
+      | true ↦ λ t. absurd (none-some _ (sym (absent e.0 (after_is after e.0 t)) ∙ found_first e es))
       | false ↦ λ f. none_behind after es (λ h later. find_behind h e es (absent h later))
     ] refl
 
@@ -111,7 +79,7 @@ one_behind : (after : Option Hash) (next : Hash) (form : Bytes) (es : Entries) �
     → find hash_cmp next es ≡ Some form
     → ((h : Hash) → IsAfter after h → IsSome (find hash_cmp h es) → IsLeBy hash_cmp next h)
     → behind after es ≡ record { hash = next; form = form } ∷ behind (Some next) es
-one_behind after next form [] sorted at found least = absurd (none_some found)
+one_behind after next form [] sorted at found least = absurd (none-some _ found)
 one_behind after next form (e ∷ es) sorted at found least =
     elim (comes_after after e.0) as (λ b. comes_after after e.0 ≡ b
     → cond b (said e ∷ behind after es) (behind after es) ≡ record { hash = next; form = form } ∷ behind (Some next) (e ∷ es)) [
@@ -122,14 +90,14 @@ one_behind after next form (e ∷ es) sorted at found least =
     here : comes_after after e.0 ≡ true → (o : Ordering) → hash_cmp next e.0 ≡ o
         → said e ∷ behind after es ≡ record { hash = next; form = form } ∷ behind (Some next) (e ∷ es)
     here t Less is =
-        absurd (none_some (sym (find_below next (e ∷ es)
+        absurd (none-some _ (sym (found_below next (e ∷ es)
         (subst (λ (r : Ordering). T (is_lt r && below_all hash_cmp next es)) (sym is) (below_later next e.0 es is (first _ _ sorted))))
         ∙ found))
     here t Greater is =
-        let le : IsLeBy hash_cmp next e.0 = least e.0 (after_is after e.0 t) (ap is_some (find_itself e es)) in
+        let le : IsLeBy hash_cmp next e.0 = least e.0 (after_is after e.0 t) (ap is_some (found_first e es)) in
         not_true (sym (ap is_gt is) ∙ le)
     here t Equal is =
-        let key : next ≡ e.0 = same next e.0 is in
+        let key : next ≡ e.0 = exact_bytes next e.0 is in
         let value : form ≡ e.1 = ap (λ (o : Option Bytes). elim o as (λ _. Bytes) [ None ↦ form | Some x ↦ x ])
         (sym found ∙ ap (λ (r : Ordering). cond (is_eq r) (Some e.1) (find hash_cmp next es)) is) in
         ap (λ (rs : List Record). said e ∷ rs)
@@ -149,7 +117,7 @@ one_behind after next form (e ∷ es) sorted at found least =
         → behind after es ≡ record { hash = next; form = form } ∷ behind (Some next) es)
         → behind after es ≡ record { hash = next; form = form } ∷ behind (Some next) (e ∷ es)
     later f Less is rest = not_true (sym (after_yes after e.0 (after_later after next e.0 at is)) ∙ f)
-    later f Equal is rest = not_true (sym (after_yes after e.0 (subst (IsAfter after) (same next e.0 is) at)) ∙ f)
+    later f Equal is rest = not_true (sym (after_yes after e.0 (subst (IsAfter after) (exact_bytes next e.0 is) at)) ∙ f)
     later f Greater is rest =
         rest (sym (ap (λ (r : Ordering). cond (is_eq r) (Some e.1) (find hash_cmp next es)) is) ∙ found)
         (λ h a some. least h a (more h some))

@@ -3,6 +3,7 @@ use Rattle.std.proofs.Common.{◌≡◌, ⊎_elim, ℕ, zero, suc, ◌+◌, ◌<
 use Rattle.std.proofs.Common.{Option, None, Some, Contains, refl, sym, ap, subst}
 use Rattle.std.specs.FinMap as map
 use Rattle.std.proofs.lemmas.List.{drop_more}
+use Rattle.std.proofs.lemmas.Option.{none-some}
 use Rattle.ledger_spec.specs.Maps.{hash_cmp}
 use Rattle.ledger_spec.specs.Bytes.{Bytes, Hash, Nodes}
 use Rattle.ledger_machine.specs.declared.commands.Record.{Record}
@@ -102,11 +103,8 @@ module _ (records : List Record) (i : ℕ) (r : Record) (lt : i < length records
         (new_or_old (nodes_of st) r.hash r.form h now e));
   }
     where
-      none_some : {A : Type 0} {x : A} → None ≡ Some x → ⊥
-      none_some e = cc
-
       other : (h : Hash) → Contains (hashes_of (drop (i + 1) records)) h → (now : Bytes) → map.get (nodes_of st) h ≡ Some now
           → IsTrue told → ⊥
       other h c now old t =
-          none_some (sym (put.absent t h (subst (λ (x : List Record). Contains (hashes_of x) h) (sym rest_is)
+          none-some _ (sym (put.absent t h (subst (λ (x : List Record). Contains (hashes_of x) h) (sym rest_is)
           (in_tail r.hash h (hashes_of (drop (i + 1) records)) c))) ∙ old)

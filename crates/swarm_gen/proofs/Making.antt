@@ -23,12 +23,13 @@ use Rattle.swarm_gen.specs.Swarm.{nodes_before, ledger_of, sent_of, below_root}
 use Rattle.swarm_gen.specs.Adding.{ledger_from}
 use Rattle.map_changes.specs.Given.{given, IsRoot}
 use Rattle.swarm_gen.specs.Sending.{sent, below}
-use Rattle.map_changes.proofs.Walking.{same_is, changed_all}
+use Rattle.std.specs.Cmp.Lexicographic.{same_text}
+use Rattle.map_changes.proofs.Walking.{changed_all}
 
 -- two nodes that are the same have one hash
 same_hash : (half : Half) (p q : Placed) → is_same p q ≡ true → hash_of half p.node ≡ hash_of half q.node
-same_hash half p q e = ap half (same_is (form_of p.node) (form_of q.node)
-    (and_parts (same_bytes p.path q.path) (same_bytes (form_of p.node) (form_of q.node)) e).1)
+same_hash half p q e = ap half (same_text (form_of p.node) (form_of q.node)
+    (sym (and_parts (same_bytes p.path q.path) (same_bytes (form_of p.node) (form_of q.node)) e).1))
 
 any_step : (half : Half) (p q : Placed) (before : List Placed) (b : Bool) → is_same p q ≡ b → is_nonzero (hash_of half q.node) ≡ true
     → (list_any (is_same p) before ≡ true → is_nonzero (hash_of half p.node) ≡ true) → (b || list_any (is_same p) before) ≡ true

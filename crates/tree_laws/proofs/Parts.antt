@@ -6,7 +6,7 @@ use Rattle.std.proofs.lemmas.List.{take-take, same_from_push}
 use Rattle.std.proofs.Math.Seq.{take-append_seam}
 use Rattle.std.specs.BTreeMap.{is_at}
 use Rattle.std.specs.Cmp.Lexicographic.{nat_list_cmp_total}
-use Rattle.std.specs.FinMap.{slice_cmp-IsAntisymmetric, nat_cmp-IsAntisymmetric}
+use Rattle.std.proofs.lemmas.Map.Lookups.{exact_bytes}
 use Rattle.std.specs.List.{filter, AllByRecursion}
 use Rattle.std.specs.List.Sorted.{IsStrictlySortedBy}
 use Rattle.std.specs.Map.{keys_of}
@@ -76,9 +76,6 @@ part_of_part items path more =
 pub part_again : (items : List Entry) (path : List ℕ) → part (part items path) path ≡ part items path
 part_again items path = filter_twice (λ e. lies_under path e.0) (λ e. lies_under path e.0) (λ e under. under) items
 
-same_hash : (a b : Hash) → hash_cmp a b ≡ Equal → a ≡ b
-same_hash = slice_cmp-IsAntisymmetric nat_cmp-IsAntisymmetric
-
 -- keys that pass a test
 abbrev passing : (Hash → Bool) → Items → Items
 passing test items = filter (λ e. test e.0) items
@@ -102,7 +99,7 @@ module _ (key : Hash) (bytes : Bytes) where
             (e ∷ insert_in hash_cmp items key bytes)) ≡ passing test (e ∷ items)
         by Less is rest = cond-false (test key) _ _ fails
         by Equal is rest =
-            let here : test e.0 ≡ false = ap test (sym (same_hash key e.0 is)) ∙ fails in
+            let here : test e.0 ≡ false = ap test (sym (exact_bytes key e.0 is)) ∙ fails in
             cond-false (test e.0) _ _ here ∙ sym (cond-false (test e.0) _ _ here)
         by Greater is rest = ap (λ l. cond (test e.0) (e ∷ l) l) rest
 
@@ -128,7 +125,7 @@ module _ (key : Hash) (bytes : Bytes) where
             ∙ sym (insert_first (passing test (e ∷ items)) (each_in_part (λ (f : Entry). hash_cmp key f.0 ≡ Less) (λ f. test f.0)
             (e ∷ items) (is, behind is items rises.0)))
         by Equal is rest =
-            let here : test e.0 ≡ true = ap test (sym (same_hash key e.0 is)) ∙ passes in
+            let here : test e.0 ≡ true = ap test (sym (exact_bytes key e.0 is)) ∙ passes in
             cond-true (test e.0) _ _ here
             ∙ sym (ap (λ l. insert_in hash_cmp l key bytes) (cond-true (test e.0) _ _ here)
             ∙ ap (λ o. match_ordering o ((key, bytes) ∷ e ∷ passing test items) ((e.0, bytes) ∷ passing test items)

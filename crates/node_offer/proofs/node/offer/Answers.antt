@@ -1,4 +1,4 @@
-use Rattle.std.proofs.Common.{◌∙◌, ap, refl, sym}
+use Rattle.std.proofs.Common.{rules, ◌∙◌, ap, refl, sym}
 use Rattle.std.specs.FinMap as map
 use Rattle.ledger_spec.specs.Forms.{IsHeld, form_of}
 use Rattle.ledger_spec.specs.Spots.{spot_of}
@@ -32,20 +32,28 @@ returns-in_err-offer_to-clause-err g c tells all =
     c.in-Ok.ensures.node (c.in_err-offer_to.ensures.err tells))
 
 -- the form of a node that came by wire reads back as that node, so a note of it is true
-pub returns-in_err-offer_to-clause-notes : goal.returns-in_err-offer_to-clause-notes
-returns-in_err-offer_to-clause-notes g c told =
+pub returns-in_err-offer_to-clause-store : goal.returns-in_err-offer_to-clause-store
+returns-in_err-offer_to-clause-store g c =
     let half = g.H.NodeHash.half in
     let n = held c.in-Ok.node in
     let is : IsHeld half n = read_wire_held half c.args.blob.now n c.known_half.ensures c.in-Ok.ensures.node in
-    c.in_err-offer_to.ensures.notes (held_back half n (form_of n) (is, refl)) (c.place.ensures.read.notes told)
+    record {
+      notes = λ told. c.in_err-offer_to.ensures.notes (held_back half n (form_of n) (is, refl)) (c.place.ensures.read.notes told);
+      later = search rules;
+      cause = search rules;
+    }
 
 -- finding the place keeps true notes, and the form of a node that came by wire reads back, so its own note is true
-pub returns-clause-notes : goal.returns-clause-notes
-returns-clause-notes g c told =
+pub returns-clause-store : goal.returns-clause-store
+returns-clause-store g c =
     let half = g.H.NodeHash.half in
     let n = held c.in-Ok.node in
     let is : IsHeld half n = read_wire_held half c.args.blob.now n c.known_half.ensures c.in-Ok.ensures.node in
-    c.in_ok-offer_to.ensures.notes (held_back half n (form_of n) (is, refl)) (c.place.ensures.read.notes told)
+    record {
+      notes = λ told. c.in_ok-offer_to.ensures.notes (held_back half n (form_of n) (is, refl)) (c.place.ensures.read.notes told);
+      later = search rules;
+      cause = search rules;
+    }
 
 -- bytes that were read are judged as a node, and of that no cause is told
 pub returns-clause-cause : goal.returns-clause-cause

@@ -37,12 +37,13 @@ returns-clause-rotated g c tells told k =
 -- nothing but the swap changes the epoch, the notes and the shelf's other numbers
 pub returns-clause-ok : goal.returns-clause-ok
 returns-clause-ok g c = swapped_rest c.args.store.now c.drain.new.store c.prepare.new.self c.swap.new.self
-    c.drain.ensures.rest c.prepare.ensures.rest.0 c.prepare.ensures.rest.2 c.swap.ensures.epoch c.swap.ensures.no_notes
-    c.swap.ensures.spare c.swap.ensures.undone
+    (c.drain.ensures.store.past, c.drain.ensures.store.ready, c.drain.ensures.store.noted) c.prepare.ensures.rest.0
+    c.prepare.ensures.rest.2 c.swap.ensures.epoch c.swap.ensures.no_notes c.swap.ensures.spare c.swap.ensures.undone
 
 pub returns-clause-notes : goal.returns-clause-notes
 returns-clause-notes g c told = swapped_notes c.args.store.now c.drain.new.store c.prepare.new.self c.swap.new.self
-    c.drain.ensures.rest c.prepare.ensures.rest.2 (c.swap.ensures.notes told)
+    (c.drain.ensures.store.past, c.drain.ensures.store.ready, c.drain.ensures.store.noted) c.prepare.ensures.rest.2
+    (c.swap.ensures.notes told)
 
 -- where nothing is grey, nothing is done before the swap
 pub returns-in_err-drain-clause-still : goal.returns-in_err-drain-clause-still

@@ -19,9 +19,10 @@ loop-alloc-preserved g c = record {
   strode = λ told. drains_on 1 1 c.args.self.now c.loop-alloc.self c.take.new.self c.args.store.now c.loop-alloc.store c.take.new.store
       (c.loop-alloc.invariant.strode told) (c.in_ok-take.ensures.ok told);
   none = λ empty. absurd (false≢true (sym c.loop-alloc-test.true ∙ c.is_done.ensures.1 (c.loop-alloc.invariant.none empty).1));
-  rest = rest_on c.args.store.now c.loop-alloc.store c.take.new.store c.loop-alloc.invariant.rest c.take.ensures.rest;
-  later = omega (arith, c.loop-alloc.invariant.later, c.take.ensures.later);
-  gets = omega (arith, c.loop-alloc.invariant.gets, c.take.ensures.gets);
+  rest = rest_on c.args.store.now c.loop-alloc.store c.take.new.store c.loop-alloc.invariant.rest
+      (c.take.ensures.store.past, c.take.ensures.store.ready, c.take.ensures.store.noted);
+  later = omega (arith, c.loop-alloc.invariant.later, c.take.ensures.store.later);
+  gets = omega (arith, c.loop-alloc.invariant.gets, c.take.ensures.store.gets);
 }
 
 -- the next one was refused

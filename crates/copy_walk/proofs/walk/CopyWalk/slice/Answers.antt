@@ -23,9 +23,10 @@ pub loop-preserved : goal.loop-preserved
 loop-preserved g c = record {
   strode = λ told. strode_on c.loop.counter c.loop.counter 1 1 c.args.self.now c.loop.self c.take.new.self c.args.store.now c.loop.store
       c.take.new.store (c.loop.invariant.strode told) (c.in_ok-take.ensures.ok told);
-  rest = rest_on c.args.store.now c.loop.store c.take.new.store c.loop.invariant.rest c.take.ensures.rest;
-  later = omega (arith, c.loop.invariant.later, c.take.ensures.later);
-  gets = omega (arith, c.loop.invariant.gets, c.take.ensures.gets);
+  rest = rest_on c.args.store.now c.loop.store c.take.new.store c.loop.invariant.rest
+      (c.take.ensures.store.past, c.take.ensures.store.ready, c.take.ensures.store.noted);
+  later = omega (arith, c.loop.invariant.later, c.take.ensures.store.later);
+  gets = omega (arith, c.loop.invariant.gets, c.take.ensures.store.gets);
 }
 
 -- each stride keeps the rule

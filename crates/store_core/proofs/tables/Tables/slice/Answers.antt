@@ -10,7 +10,7 @@ returns-clause-same g c told =
     let by = sliced_as c.self.inside.rotator c.slice-sliced.new.self c.slice-sliced.result c.slice-sliced.ensures.counts in
     slice_stays g.Sh.B.Backend.tells c.self.inside.book c.self.inside.rotator c.slice-sliced.new.self c.self.inside.store
     c.slice-sliced.new.store c.self.invariant.1 by.0 by.1 c.self.inside.wanted.entries c.self.inside.views.entries
-    (c.slice-sliced.ensures.walks told (c.self.invariant.1.walks told)).0 c.slice-sliced.ensures.rest.0.0
+    (c.slice-sliced.ensures.walks told (c.self.invariant.1.walks told)).0 c.slice-sliced.ensures.store.past.0
     ∙ ap (λ (d : Desk). d.state) c.self.view_is
 
 pub returns-clause-few : goal.returns-clause-few

@@ -35,12 +35,12 @@ pub returns-clause-grows : goal.returns-clause-grows
 returns-clause-grows g c =
     rw (← c.self.view_is) (finish_grows c.self.inside.wanted.entries c.self.inside.views.entries c.self.inside.book
     c.finish-ended.new.book c.self.inside.rotator c.finish-ended.new.self c.self.inside.store c.finish-ended.new.store
-    c.finish-ended.result c.finish-ended.ensures.after c.finish-ended.ensures.later)
+    c.finish-ended.result c.finish-ended.ensures.after c.finish-ended.ensures.counts.later)
 
 pub returns-clause-fault : goal.returns-clause-fault
 returns-clause-fault g c =
     rw c.swap_told.ensures (rw (← c.self.view_is) (finish_fault c.finish-ended.result c.self.inside.store c.finish-ended.new.store
-    c.finish-ended.ensures.cause))
+    c.finish-ended.ensures.counts.cause))
 
 -- nothing is grey, so nothing is copied before the swap
 pub returns-clause-still : goal.returns-clause-still
