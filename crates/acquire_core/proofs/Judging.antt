@@ -1,5 +1,5 @@
 -- A base reply that was judged part by part, each over the store that those before it left.
-use Rattle.std.proofs.Common.{◌≡◌, ◌<◌, ◌⊎◌, inl, inr, ℕ, suc, List, [], ◌∷◌, ◌++◌, append-nil, get_or, nat_lt, Option, Result}
+use Rattle.std.proofs.Common.{◌≡◌, ◌<◌, ◌⊎◌, inl, inr, ℕ, suc, Bool, List, [], ◌∷◌, ◌++◌, append-nil, get_or, nat_lt, Option, Result}
 use Rattle.std.proofs.Common.{Ok, Err, IfOk, IfErr, IsTrue, refl, sym, ap, ◌∙◌, subst}
 use Rattle.std.specs.Result.{IsErrAnd}
 use Rattle.std.proofs.lemmas.Bool.{and_from, lt-ltb}
@@ -16,6 +16,7 @@ use Rattle.ledger_spec.specs.Bases.{Judged, with_forms, joined, root_outcome, ro
 use Rattle.ledger_spec.specs.Bases.{behind_state, base_outcome, base_forms}
 use Rattle.ledger_spec.proofs.Storing.{head_form_fits, node_fits, forms_kept}
 use Rattle.rotating_store.specs.Stores.{Store, Counted}
+use Rattle.rotating_store.specs.Reading.{KeepsReadable}
 use Rattle.node_offer.specs.declared.fault.OfferFault.{OfferFault}
 use Rattle.node_offer.specs.declared.fault.OfferFault.TheVariants as faults
 use Rattle.node_offer.specs.Stored.{HasForms, Refuses}
@@ -68,15 +69,11 @@ pub handed : {X : Type 0} (half : Half) (outcome : Result X Clash) (forms : List
 handed half outcome forms s s' (Ok x) e is a = absurd is
 handed half outcome forms s s' (Err y) e is a = subst (λ (f : OfferFault). Answers half outcome forms s (Err f) s') (sym is) a
 
--- an error handed on stays one when what is answered is said in other words
-pub handed_as : {X : Type 0} {Y : Type 0} (half : Half) (outcome : Result Y Clash) (forms : List Bytes) (s s' : Store)
-    (say : Result X OfferFault → Result Y OfferFault) (r : Result X OfferFault) (e : OfferFault)
-    → ((k : OfferFault) → say (Err k) ≡ Err k) → IsErrAnd r (λ y. y ≡ e) → Answers {X = Y} half outcome forms s (Err e) s'
-    → Answers half outcome forms s (say r) s'
-handed_as half outcome forms s s' say (Ok x) e same is a = absurd is
-handed_as {Y = Y} half outcome forms s s' say (Err y) e same is a =
-    subst (λ (q : Result Y OfferFault). Answers half outcome forms s q s') (sym (same y))
-    (subst (λ (f : OfferFault). Answers {X = Y} half outcome forms s (Err f) s') (sym is) a)
+-- a fault is that of what is handed on
+pub said_keeps : (tells : Bool) (half : Half) (s s' : Store) (r : Result Told OfferFault)
+    → KeepsReadable tells half faults.Fault s s' r → KeepsReadable tells half faults.Fault s s' (said r)
+said_keeps tells half s s' (Ok o) k = record { notes = k.notes; later = k.later; cause = tt }
+said_keeps tells half s s' (Err e) k = record { notes = k.notes; later = k.later; cause = k.cause }
 
 pub handed_parts : (half : Half) (outcome : Result Judged Clash) (forms : List Bytes) (s s' : Store) (r : Result Parts OfferFault) (e :
     OfferFault)
@@ -98,10 +95,10 @@ header_kept half s s' t bytes (Err e) nonzero are all a = tt
 
 -- and of a node
 pub node_kept : (half : Half) (sized : IsHalf half) (s s' : Store) (t : Hash) (kind : Kind) (path : List ℕ) (blob : Bytes)
-    (r : Result Told OfferFault)
+    (r : Result Offered OfferFault)
     → IsTrue (are_bytes blob) → AreStored half (forms_in s)
     → Answers half (node_outcome half (forms_in s) t kind path blob)
-    (stored_by (read_wire half blob) (node_outcome half (forms_in s) t kind path blob)) s (said r) s'
+    (stored_by (read_wire half blob) (node_outcome half (forms_in s) t kind path blob)) s r s'
     → IfOk r (λ x. AreStored half (forms_in s'))
 node_kept half sized s s' t kind path blob (Ok o) are all a =
     let forms : List Bytes = stored_by (read_wire half blob) (node_outcome half (forms_in s) t kind path blob) in

@@ -8,11 +8,15 @@ use Rattle.ledger_spec.specs.Offers.{Clash, node_outcome, stored_by}
 use Rattle.ledger_spec.specs.Bases.{Judged, given, root_outcome, root_forms, base_outcome, base_forms}
 use Rattle.ledger_spec.specs.Peers.{is_present}
 use Rattle.ledger_spec.specs.Acquiring.{Acquiring}
+use Rattle.ledger_spec.specs.declared.replies.BaseReply.{BaseReply}
+use Rattle.ledger_spec.specs.declared.replies.BaseReply.TheVariants as base
+use Rattle.ledger_spec.specs.declared.replies.NodeReply.{NodeReply}
+use Rattle.ledger_spec.specs.declared.replies.NodeReply.TheVariants as node
 use Rattle.rotating_store.specs.Stores.{Store}
 use Rattle.node_offer.specs.declared.fault.OfferFault.{OfferFault}
 use Rattle.node_offer.specs.declared.fault.OfferFault.TheVariants as faults
 use Rattle.acquire_core.specs.Answers.{Answers}
-use Rattle.acquire_core.specs.Replies.{parts_reply, base_reply, base_stores, node_reply, node_stores}
+use Rattle.ledger_spec.specs.Replies.{parts_said, base_given, base_stored, node_said, node_given, node_stored}
 
 -- a refusal stays one when the outcome is told in other words, as long as they tell a clash as it was
 told : {X Y : Type 0} (half : Half) (outcome : Result X Clash) (forms : List Bytes) (s s' : Store) (tell : Result X Clash → Result Y Clash)
@@ -60,10 +64,11 @@ module _ (half : Half) (n : Lookup) (s s' : Store) (a : Acquiring) (p : ℕ) (he
 
     -- a node of a peer that is present has the outcome of what is offered
     pub node_answers : (x : Offered) → Answers half outcome forms s (Ok x) s'
-        → Answers half (node_reply half n a p kind path blob) (node_stores half n a p kind path blob) s (Ok (Some x)) s'
+        → Answers half (node_given half n a.target a.peers p kind path blob) (node_stored half n a.target a.peers p kind path blob) s
+        (Ok (node.One x)) s'
     node_answers x o =
-        subst (λ (b : Bool). Answers {X = Option Offered} half (if b then given outcome else Ok None) (if b then forms else []) s
-        (Ok (Some x)) s') (sym here) (ap given o.0, o.1)
+        subst (λ (b : Bool). Answers {X = NodeReply} half (if b then node_said outcome else Ok node.Unasked) (if b then forms else []) s
+        (Ok (node.One x)) s') (sym here) (ap node_said o.0, o.1)
 
   module _ (header : Bytes) (state tx : Option Bytes) where
     abbrev whole : Result Judged Clash
@@ -72,19 +77,23 @@ module _ (half : Half) (n : Lookup) (s s' : Store) (a : Acquiring) (p : ℕ) (he
     abbrev all : List Bytes
     all = base_forms half n a.target header state tx
 
-    replied : (r : Result (Option Judged) OfferFault) → Answers half (parts_reply whole) all s r s'
-        → Answers half (base_reply half n a p header state tx) (base_stores half n a p header state tx) s r s'
+    abbrev given_by : Result BaseReply Clash
+    given_by = base_given half n a.target a.peers p header state tx
+
+    abbrev stored : List Bytes
+    stored = base_stored half n a.target a.peers p header state tx
+
+    replied : (r : Result BaseReply OfferFault) → Answers half (parts_said whole) all s r s' → Answers half given_by stored s r s'
     replied r o =
-        subst (λ (b : Bool). Answers half (if b then parts_reply whole else Ok None) (if b then all else []) s r s')
+        subst (λ (b : Bool). Answers half (if b then parts_said whole else Ok base.Unasked) (if b then all else []) s r s')
         (sym here) o
 
     -- a base reply of such a peer has that of its parts
     pub base_answers : (j : Judged) → Answers half whole all s (Ok j) s'
-        → Answers half (base_reply half n a p header state tx) (base_stores half n a p header state tx) s
-        (Ok (Some j)) s'
-    base_answers j o = replied (Ok (Some j)) (ap parts_reply o.0, o.1)
+        → Answers half given_by stored s (Ok (base.Parts j.header j.state j.tx)) s'
+    base_answers j o = replied (Ok (base.Parts j.header j.state j.tx)) (ap parts_said o.0, o.1)
 
     -- and where they have none, neither has the reply
     pub base_refused : (e : OfferFault) → Answers {X = Judged} half whole all s (Err e) s'
-        → Answers {X = Option Judged} half (base_reply half n a p header state tx) (base_stores half n a p header state tx) s (Err e) s'
-    base_refused e o = replied (Err e) (told half whole all s s' parts_reply e (λ k. refl) o)
+        → Answers {X = BaseReply} half given_by stored s (Err e) s'
+    base_refused e o = replied (Err e) (told half whole all s s' parts_said e (λ k. refl) o)

@@ -1,6 +1,5 @@
 -- What became of the parts of a base reply.
-use Rattle.std.specs.Prelude.{Option, Result, Ok, Err}
-use Rattle.std.specs.Option.{option_map}
+use Rattle.std.specs.Prelude.{Result, Ok, Err}
 use Rattle.ledger_spec.specs.declared.outcomes.Offered.{Offered as Outcome}
 use Rattle.ledger_spec.specs.Bases.{Judged}
 use Rattle.node_offer.specs.declared.fault.OfferFault.{OfferFault}
@@ -13,14 +12,9 @@ abbrev pub said : Result Offered OfferFault → Result Outcome OfferFault
 said (Ok o) = Ok (numbered o)
 said (Err e) = Err e
 
--- the same of a root that may be given
-abbrev pub said_root : Result (Option Offered) OfferFault → Result (Option Outcome) OfferFault
-said_root (Ok o) = Ok (option_map numbered o)
-said_root (Err e) = Err e
-
--- and of the parts
+-- the parts as the definitions have them
 abbrev pub shown : Parts → Judged
-shown p = record { header = p.header; state = option_map numbered p.state; tx = option_map numbered p.tx }
+shown p = record { header = p.header; state = p.state; tx = p.tx }
 
 abbrev pub judged : Result Parts OfferFault → Result Judged OfferFault
 judged (Ok p) = Ok (shown p)

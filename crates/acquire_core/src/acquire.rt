@@ -8,16 +8,14 @@ ghost use Rattle.ledger_spec.specs.Acquiring.{acquiring, after_verdict};
 ghost use Rattle.rotating_store.specs.Reading.{KeepsReadable};
 ghost use Rattle.missing_walk.specs.Founds.{IsFound};
 ghost use Rattle.acquire_core.specs.Answers.{forms_in, Answers};
-ghost use Rattle.acquire_core.specs.Replies.{peer_reply, tick_reply, found_verdict, check_reply};
-ghost use Rattle.acquire_core.specs.Replies.{said_base, said_node};
-ghost use Rattle.acquire_core.specs.Replies.{base_reply, base_stores, TakesBase, AreWanted, node_reply, node_stores, TakesNode, IsWanted};
+ghost use Rattle.ledger_spec.specs.Replies.{peer_said, tick_said, base_given, base_stored, node_given, node_stored, check_said};
+ghost use Rattle.acquire_core.specs.Replies.{found_verdict, TakesBase, AreWanted, TakesNode, IsWanted};
 
 use crate::charges::{charge_node, charge_parts};
 use crate::parts::{take_node, take_parts};
 use crate::verdict::{asked, refusal};
-use crate::{BaseReply, CheckReply, NodeReply, PeerReply, TickReply};
 use half_hash::{Hash32, Memory, NodeHash};
-use ledger_spec::Kind;
+use ledger_spec::{BaseReply, CheckReply, Kind, NodeReply, PeerReply, TickReply};
 use missing_walk::Found;
 use nib_path::NodeId;
 use node_backend::Shelf;
@@ -63,7 +61,7 @@ impl Acquire {
 
     /// Adds a peer behind the others, unless it was added before, perhaps dropped since. Where memory is refused nothing changes.
     pub fn peer(&mut self, peer: u16) -> Result<PeerReply, Memory>
-        ensures answer { IfOk result (λ r. r ≡ peer_reply (added self.old.peers peer)) }
+        ensures answer { IfOk result (λ r. r ≡ peer_said (added self.old.peers peer)) }
         ensures after { IfOk result (λ _. self.new ≡ record self.old { peers = after_adding self.old.peers peer }) }
         ensures err { OnErr result (self.new ≡ self.old) }
     {
@@ -93,9 +91,11 @@ impl Acquire {
         tx: Option<&[u8]>,
     ) -> Result<BaseReply, OfferFault>
         ensures answer { IsTrue Sh.B.tells → AreStored H.half (forms_in store.old) → Answers H.half
-            (base_reply H.half (forms_in store.old) self.old peer header.now (option_copied state.entry) (option_copied tx.entry))
-            (base_stores H.half (forms_in store.old) self.old peer header.now (option_copied state.entry) (option_copied tx.entry))
-            store.old (said_base result) store.new }
+            (base_given H.half (forms_in store.old) self.old.target self.old.peers peer header.now (option_copied state.entry)
+            (option_copied tx.entry))
+            (base_stored H.half (forms_in store.old) self.old.target self.old.peers peer header.now (option_copied state.entry)
+            (option_copied tx.entry))
+            store.old result store.new }
         ensures after { TakesBase self.old peer result self.new }
 
         // a header and roots that have the wanted hashes charge nobody
@@ -129,8 +129,8 @@ impl Acquire {
         blob: &[u8],
     ) -> Result<NodeReply, OfferFault>
         ensures answer { IsTrue Sh.B.tells → AreStored H.half (forms_in store.old) → Answers H.half
-            (node_reply H.half (forms_in store.old) self.old peer kind id.now blob.now)
-            (node_stores H.half (forms_in store.old) self.old peer kind id.now blob.now) store.old (said_node result) store.new }
+            (node_given H.half (forms_in store.old) self.old.target self.old.peers peer kind id.now blob.now)
+            (node_stored H.half (forms_in store.old) self.old.target self.old.peers peer kind id.now blob.now) store.old result store.new }
         ensures after { TakesNode self.old peer result self.new }
 
         // a node that has the wanted hash charges nobody
@@ -155,7 +155,7 @@ impl Acquire {
     /// nothing is missing. Where memory is refused nothing changes.
     pub fn check(&mut self, alloc: Global, found: &Found, floor: u32) -> Result<CheckReply, Memory>
         requires { IsFound found.now }
-        ensures answer { IfOk result (λ r. r ≡ check_reply (found_verdict self.old floor found.now)) }
+        ensures answer { IfOk result (λ r. r ≡ check_said (found_verdict self.old floor found.now)) }
         ensures after { IfOk result (λ _. self.new ≡ after_verdict self.old (found_verdict self.old floor found.now)) }
 
         // only a ledger whose header is stored is complete
@@ -170,7 +170,7 @@ impl Acquire {
         if let Some((place, rule)) = &found.broken {
             return Ok(CheckReply::Malformed {
                 place: *place,
-                rule: *rule,
+                rule: rule.number(),
             });
         }
         if found.missing.is_empty() {
@@ -182,7 +182,7 @@ impl Acquire {
     /// Time has passed: what was asked may be asked again. The seventh tick gives up.
     pub fn tick(&mut self) -> TickReply
         requires { self.old.peers.ticks < most_ticks }
-        ensures answer { result ≡ tick_reply (ticked self.old.peers) }
+        ensures answer { result ≡ tick_said (ticked self.old.peers) }
         ensures after { self.new ≡ record self.old { peers = after_tick self.old.peers } }
     {
         match self.peers.tick() {

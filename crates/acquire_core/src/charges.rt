@@ -1,13 +1,10 @@
 //! Which outcomes charge a peer.
 ghost use Rattle.std.specs.Prelude.{◌≡◌};
-ghost use Rattle.std.specs.Option.{option_map};
 ghost use Rattle.ledger_spec.specs.Acquiring.{is_bad, is_bad_head, is_bad_root, after_outcome, after_judging};
-ghost use Rattle.node_offer.specs.Outcomes.{numbered};
 ghost use Rattle.acquire_core.specs.Parts.{shown};
 
 use crate::parts::Parts;
-use ledger_spec::HeadOffered;
-use node_offer::Offered;
+use ledger_spec::{HeadOffered, Offered};
 use peer_set::PeerSet;
 
 /// Charges the peer for each bad part of its base reply.
@@ -21,7 +18,7 @@ pub(crate) fn charge_parts(peers: &mut PeerSet, peer: u16, parts: &Parts)
 
 /// Charges the peer for a bad node.
 pub(crate) fn charge_node(peers: &mut PeerSet, peer: u16, outcome: &Offered)
-    ensures { peers.new ≡ after_outcome peer (is_bad (numbered outcome.now)) peers.old }
+    ensures { peers.new ≡ after_outcome peer (is_bad outcome.now) peers.old }
 {
     charge(peers, peer, bad_node(outcome));
 }
@@ -47,14 +44,14 @@ fn bad_head(outcome: &HeadOffered) -> bool
 
 // Whether the bytes are no wire form, or the node's hash isn't the wanted one.
 fn bad_node(outcome: &Offered) -> bool
-    ensures { result ≡ is_bad (numbered outcome.now) }
+    ensures { result ≡ is_bad outcome.now }
 {
     matches!(outcome, Offered::BadWire(_) | Offered::BadHash { .. })
 }
 
 // The same of a root, where one was given.
 fn bad_root(outcome: &Option<Offered>) -> bool
-    ensures { result ≡ is_bad_root (option_map numbered outcome.now) }
+    ensures { result ≡ is_bad_root outcome.now }
 {
     match outcome {
         Some(outcome) => bad_node(outcome),

@@ -7,8 +7,7 @@
 mod acquire;
 mod charges;
 mod parts;
-mod replies;
 mod verdict;
 
 pub use acquire::Acquire;
-pub use replies::{BaseReply, CheckReply, NodeReply, PeerReply, TickReply};
+pub use ledger_spec::{BaseReply, CheckReply, NodeReply, PeerReply, TickReply};

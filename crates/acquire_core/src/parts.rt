@@ -8,13 +8,13 @@ ghost use Rattle.ledger_spec.specs.Offers.{head_outcome, head_forms, node_outcom
 ghost use Rattle.ledger_spec.specs.Bases.{root_outcome, root_forms, base_outcome, base_forms};
 ghost use Rattle.rotating_store.specs.Reading.{KeepsReadable};
 ghost use Rattle.acquire_core.specs.Answers.{forms_in, Answers};
-ghost use Rattle.acquire_core.specs.Parts.{judged, said, said_root};
+ghost use Rattle.acquire_core.specs.Parts.{judged, said};
 
 use half_hash::{Hash32, NodeHash, known_half};
-use ledger_spec::{HeadOffered, Kind};
+use ledger_spec::{HeadOffered, Kind, Offered};
 use nib_path::NodeId;
 use node_backend::Shelf;
-use node_offer::{OfferFault, Offered, offer, offer_header};
+use node_offer::{OfferFault, Offered as Outcome, offer, offer_header};
 use rotating_store::RotStore;
 use std::alloc::Global;
 
@@ -74,7 +74,7 @@ fn take_root<H: NodeHash, Sh: Shelf>(
 ) -> Result<Option<Offered>, OfferFault>
     ensures answer { IsTrue Sh.B.tells → AreStored H.half (forms_in store.old) → Answers H.half
         (root_outcome H.half (forms_in store.old) target.now kind (option_copied blob.entry))
-        (root_forms H.half (forms_in store.old) target.now kind (option_copied blob.entry)) store.old (said_root result) store.new }
+        (root_forms H.half (forms_in store.old) target.now kind (option_copied blob.entry)) store.old result store.new }
     ensures kept { IsTrue Sh.B.tells → AreStored H.half (forms_in store.old) → OnOk result (AreStored H.half (forms_in store.new)) }
     ensures store { KeepsReadable Sh.B.tells H.half OfferFault.Fault store.old store.new result }
 {
@@ -97,10 +97,20 @@ pub(crate) fn take_node<H: NodeHash, Sh: Shelf>(
     ensures answer { IsTrue Sh.B.tells → AreStored H.half (forms_in store.old) → Answers H.half
         (node_outcome H.half (forms_in store.old) target.now kind id.now blob.now)
         (stored_by (read_wire H.half blob.now) (node_outcome H.half (forms_in store.old) target.now kind id.now blob.now))
-        store.old (said result) store.new }
+        store.old result store.new }
     ensures kept { IsTrue Sh.B.tells → AreStored H.half (forms_in store.old) → OnOk result (AreStored H.half (forms_in store.new)) }
     ensures store { KeepsReadable Sh.B.tells H.half OfferFault.Fault store.old store.new result }
 {
     known_half::<H>();
-    offer::<H, Sh>(alloc, store, target, kind, id, blob)
+    numbered(offer::<H, Sh>(alloc, store, target, kind, id, blob))
+}
+
+// What became of a node, with the cause of bad bytes and a broken rule by their numbers.
+fn numbered(offered: Result<Outcome, OfferFault>) -> Result<Offered, OfferFault>
+    ensures { result ≡ said offered }
+{
+    match offered {
+        Ok(outcome) => Ok(outcome.numbered()),
+        Err(fault) => Err(fault),
+    }
 }

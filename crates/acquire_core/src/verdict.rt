@@ -1,16 +1,16 @@
 //! What a check comes to.
 ghost use Rattle.std.specs.Prelude.{◌≡◌, IfSome, unwrap_or};
 ghost use Rattle.ledger_spec.specs.Acquiring.{Acquiring, Verdict, header_verdict, after_verdict};
-ghost use Rattle.acquire_core.specs.Replies.{ask_reply, check_reply};
+ghost use Rattle.ledger_spec.specs.Replies.{ask_said, check_said};
 
-use crate::CheckReply;
 use ledger_header::Header;
+use ledger_spec::CheckReply;
 use peer_set::Ask;
 
 /// Why a ledger with this header isn't acceptable, for the asked sequence, 0 for any, and the floor.
 pub(crate) fn refusal(header: &Header, asked: u32, floor: u32) -> Option<CheckReply>
-    ensures verdict { (rest : Verdict) → check_reply (header_verdict asked floor header.now.seq header.now.state_root rest)
-        ≡ unwrap_or result (check_reply rest) }
+    ensures verdict { (rest : Verdict) → check_said (header_verdict asked floor header.now.seq header.now.state_root rest)
+        ≡ unwrap_or result (check_said rest) }
 
     // none of these asks anybody
     ensures after { (a : Acquiring) (rest : Verdict)
@@ -33,7 +33,7 @@ pub(crate) fn refusal(header: &Header, asked: u32, floor: u32) -> Option<CheckRe
 
 /// The reply where places are missing.
 pub(crate) fn asked(ask: Ask) -> CheckReply
-    ensures { result ≡ ask_reply ask }
+    ensures { result ≡ ask_said ask }
 {
     match ask {
         Ask::Send { peer, places } => CheckReply::Need { peer, places },

@@ -10,8 +10,8 @@ use Rattle.node_backend.proofs.Tables.{hashes_antisymmetric}
 use Rattle.ledger_spec.specs.Bytes.{Bytes, Hash, Nodes}
 use Rattle.rotating_store.specs.Stores.{Store, nodes_of}
 use Rattle.rotating_store.specs.Moves.{Moves, IsOld}
-use Rattle.rotating_store.specs.declared.store.Moved.{Moved}
-use Rattle.rotating_store.specs.declared.store.Moved.TheVariants as moved
+use Rattle.rotating_store.specs.declared.pair.Moved.{Moved}
+use Rattle.rotating_store.specs.declared.pair.Moved.TheVariants as moved
 use Rattle.rotating_store.proofs.Merging.{get-merged}
 use Rattle.copy_walk.specs.Slices.{CopiesOne}
 use Rattle.copy_walk.proofs.Striding.{some_not_none, one_form}

@@ -11,7 +11,7 @@ use Rattle.ledger_spec.specs.declared.Place.{Place}
 use Rattle.ledger_spec.specs.declared.Place.TheVariants.{Header, Node}
 use Rattle.shamap_node.specs.Nodes.{held}
 use Rattle.ledger_machine.specs.Reading.{leaf_entry}
-use Rattle.ledger_machine.specs.Scripts.{word_of}
+use Rattle.ledger_machine.specs.Commands.{word_of}
 use Rattle.ledger_machine.specs.declared.commands.Command.{Command}
 use Rattle.ledger_machine.specs.declared.commands.Record.{Record}
 use Rattle.ledger_machine.specs.declared.journal.Entry.{Entry}
@@ -22,16 +22,16 @@ use Rattle.ledger_spec.specs.declared.outcomes.Offered.{Offered}
 use Rattle.ledger_spec.specs.declared.outcomes.Offered.TheVariants as offered
 use Rattle.ledger_machine.specs.declared.replies.WantReply.{WantReply}
 use Rattle.ledger_machine.specs.declared.replies.WantReply.TheVariants as want
-use Rattle.ledger_machine.specs.declared.replies.PeerReply.{PeerReply}
-use Rattle.ledger_machine.specs.declared.replies.PeerReply.TheVariants as peer
-use Rattle.ledger_machine.specs.declared.replies.BaseReply.{BaseReply}
-use Rattle.ledger_machine.specs.declared.replies.BaseReply.TheVariants as base
-use Rattle.ledger_machine.specs.declared.replies.NodeReply.{NodeReply}
-use Rattle.ledger_machine.specs.declared.replies.NodeReply.TheVariants as node
-use Rattle.ledger_machine.specs.declared.replies.CheckReply.{CheckReply}
-use Rattle.ledger_machine.specs.declared.replies.CheckReply.TheVariants as check
-use Rattle.ledger_machine.specs.declared.replies.TickReply.{TickReply}
-use Rattle.ledger_machine.specs.declared.replies.TickReply.TheVariants as tick
+use Rattle.ledger_spec.specs.declared.replies.PeerReply.{PeerReply}
+use Rattle.ledger_spec.specs.declared.replies.PeerReply.TheVariants as peer
+use Rattle.ledger_spec.specs.declared.replies.BaseReply.{BaseReply}
+use Rattle.ledger_spec.specs.declared.replies.BaseReply.TheVariants as base
+use Rattle.ledger_spec.specs.declared.replies.NodeReply.{NodeReply}
+use Rattle.ledger_spec.specs.declared.replies.NodeReply.TheVariants as node
+use Rattle.ledger_spec.specs.declared.replies.CheckReply.{CheckReply}
+use Rattle.ledger_spec.specs.declared.replies.CheckReply.TheVariants as check
+use Rattle.ledger_spec.specs.declared.replies.TickReply.{TickReply}
+use Rattle.ledger_spec.specs.declared.replies.TickReply.TheVariants as tick
 use Rattle.ledger_machine.specs.declared.replies.ViewReply.{ViewReply}
 use Rattle.ledger_machine.specs.declared.replies.ViewReply.TheVariants as view
 use Rattle.ledger_machine.specs.declared.replies.GetReply.{GetReply}

@@ -1,10 +1,9 @@
 //! The lines of the printed text.
 ghost use Rattle.std.specs.Prelude.{◌≡◌, ◌++◌, IfOk, OnOk};
 ghost use Rattle.std.specs.String.{string_bytes};
-ghost use Rattle.ledger_machine.specs.Scripts.{word_of};
 ghost use Rattle.journal_text.specs.Text.{entry_text, record_text, summary_text, optional_text};
 
-use crate::replies::push_reply;
+use crate::replies::{push_reply, word};
 use crate::words::{push_bytes, push_hash};
 use half_hash::{Blob, Memory};
 use ledger_machine::{Command, Entry, Record, Totals};
@@ -63,30 +62,5 @@ fn push_optional(text: &mut String, number: Option<u32>) -> Result<(), AllocErro
     match number {
         None => text.push_str("-"),
         Some(n) => write!(text, "{n}"),
-    }
-}
-
-fn word(command: &Command) -> &'static str
-    ensures { result.now ≡ word_of command.now }
-{
-    match command {
-        Command::Want { .. } => "want",
-        Command::Peer { .. } => "peer",
-        Command::Base { .. } => "base",
-        Command::Node { .. } => "node",
-        Command::Check { .. } => "check",
-        Command::Tick { .. } => "tick",
-        Command::View { .. } => "view",
-        Command::Unview { .. } => "unview",
-        Command::Get { .. } => "get",
-        Command::Page { .. } => "page",
-        Command::Edit { .. } => "edit",
-        Command::Put { .. } => "put",
-        Command::Del { .. } => "del",
-        Command::Tx { .. } => "tx",
-        Command::Close { .. } => "close",
-        Command::Abandon { .. } => "abandon",
-        Command::Begin => "begin",
-        Command::Swap => "swap",
     }
 }

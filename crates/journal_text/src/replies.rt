@@ -1,6 +1,7 @@
-//! The answer to any command.
+//! A command's word, and the answer to any command.
 ghost use Rattle.std.specs.Prelude.{◌≡◌, ◌++◌, OnOk};
 ghost use Rattle.std.specs.String.{string_bytes};
+ghost use Rattle.ledger_machine.specs.Commands.{word_of};
 ghost use Rattle.journal_text.specs.Text.{reply_text, hash_text, bytes_text};
 
 use crate::acquire::{peer_words, push_check, push_tick, push_want};
@@ -9,8 +10,34 @@ use crate::reads::{push_get, push_page, unview_words, view_words};
 use crate::sessions::{del_words, edit_words, push_begin, push_close, push_swap, session_words};
 use crate::words::{push_bytes, push_hash};
 use half_hash::{Blob, Hash32};
-use ledger_machine::Reply;
+use ledger_machine::{Command, Reply};
 use std::alloc::AllocError;
+
+/// The command's word.
+pub(crate) fn word(command: &Command) -> &'static str
+    ensures { result.now ≡ word_of command.now }
+{
+    match command {
+        Command::Want { .. } => "want",
+        Command::Peer { .. } => "peer",
+        Command::Base { .. } => "base",
+        Command::Node { .. } => "node",
+        Command::Check { .. } => "check",
+        Command::Tick { .. } => "tick",
+        Command::View { .. } => "view",
+        Command::Unview { .. } => "unview",
+        Command::Get { .. } => "get",
+        Command::Page { .. } => "page",
+        Command::Edit { .. } => "edit",
+        Command::Put { .. } => "put",
+        Command::Del { .. } => "del",
+        Command::Tx { .. } => "tx",
+        Command::Close { .. } => "close",
+        Command::Abandon { .. } => "abandon",
+        Command::Begin => "begin",
+        Command::Swap => "swap",
+    }
+}
 
 /// Appends the answer.
 pub(crate) fn push_reply(text: &mut String, reply: &Reply) -> Result<(), AllocError>

@@ -10,18 +10,18 @@ use Rattle.ledger_machine.specs.declared.commands.Command.{Command}
 use Rattle.ledger_machine.specs.declared.commands.Command.TheVariants as command
 use Rattle.ledger_machine.specs.declared.replies.WantReply.{WantReply}
 use Rattle.ledger_machine.specs.declared.replies.WantReply.TheVariants as want
-use Rattle.ledger_machine.specs.declared.replies.CheckReply.{CheckReply}
-use Rattle.ledger_machine.specs.declared.replies.CheckReply.TheVariants as check
-use Rattle.ledger_machine.specs.declared.replies.TickReply.{TickReply}
-use Rattle.ledger_machine.specs.declared.replies.TickReply.TheVariants as tick
-use Rattle.ledger_machine.specs.declared.replies.BaseReply.TheVariants as base
-use Rattle.ledger_machine.specs.declared.replies.NodeReply.TheVariants as node
+use Rattle.ledger_spec.specs.declared.replies.CheckReply.{CheckReply}
+use Rattle.ledger_spec.specs.declared.replies.CheckReply.TheVariants as check
+use Rattle.ledger_spec.specs.declared.replies.TickReply.{TickReply}
+use Rattle.ledger_spec.specs.declared.replies.TickReply.TheVariants as tick
+use Rattle.ledger_spec.specs.declared.replies.BaseReply.TheVariants as base
+use Rattle.ledger_spec.specs.declared.replies.NodeReply.TheVariants as node
 use Rattle.ledger_machine.specs.declared.replies.Reply.{Reply}
 use Rattle.ledger_machine.specs.declared.replies.Reply.TheVariants as says
 use Rattle.ledger_spec.specs.Bases.{base_forms}
 use Rattle.ledger_spec.specs.Acquiring.{is_bad, after_outcome, after_judging}
 use Rattle.ledger_machine.specs.State.{State, Session, form_in, with_form, with_forms, with_peers, stored_seq}
-use Rattle.ledger_machine.specs.Scripts.{IsBeside}
+use Rattle.ledger_machine.specs.Commands.{IsBeside}
 use Rattle.ledger_machine.specs.Want.{want_reply, after_want}
 use Rattle.ledger_machine.specs.Peer.{after_peer}
 use Rattle.ledger_machine.specs.Check.{check_reply, after_check}

@@ -28,8 +28,8 @@ use Rattle.ledger_spec.specs.declared.outcomes.Offered.{Offered}
 use Rattle.ledger_spec.specs.declared.outcomes.Offered.TheVariants as offered
 use Rattle.ledger_spec.specs.declared.outcomes.HeadOffered.{HeadOffered}
 use Rattle.ledger_spec.specs.declared.outcomes.HeadOffered.TheVariants as head
-use Rattle.ledger_machine.specs.declared.replies.BaseReply.TheVariants as base
-use Rattle.ledger_machine.specs.declared.replies.NodeReply.TheVariants as node
+use Rattle.ledger_spec.specs.declared.replies.BaseReply.TheVariants as base
+use Rattle.ledger_spec.specs.declared.replies.NodeReply.TheVariants as node
 use Rattle.ledger_machine.specs.declared.replies.Reply.{Reply}
 use Rattle.ledger_machine.specs.declared.replies.Reply.TheVariants as says
 use Rattle.ledger_machine.specs.State.{State, Session, form_in, with_form, with_forms}
@@ -38,7 +38,8 @@ use Rattle.ledger_spec.specs.Bases.{Judged, given, root_outcome, root_forms, joi
 use Rattle.ledger_spec.specs.Peers.{is_present}
 use Rattle.ledger_spec.specs.Acquiring.{Acquiring}
 use Rattle.ledger_spec.specs.Offers.{Clash, head_given, head_outcome, node_given, spot_outcome, wire_outcome, node_outcome, stored_by}
-use Rattle.ledger_machine.specs.Base.{base_said, base_for, base_reply, node_said, node_for, node_forms}
+use Rattle.ledger_machine.specs.Base.{base_says, base_for, base_reply, node_says, node_for, node_forms}
+use Rattle.ledger_spec.specs.Replies.{parts_said, node_said}
 use Rattle.ledger_spec.specs.Offers.{head_forms}
 use Rattle.ledger_machine.specs.Steps.{Step, IsRow, own_forms}
 use Rattle.ledger_machine.specs.Runs.{Run, IsRunOf, used_by, opening_of}
@@ -324,7 +325,7 @@ base_present : (half : Half) (s : State) (p : ℕ) (t : Hash) (bytes : Bytes) (s
 base_present half s p t bytes state tx None h old new e = cc
 base_present half s p t bytes state tx (Some a) h old new e = at (is_present a.peers p) (base_outcome half (form_in s) t bytes state tx) e
   where
-    at : (z : Bool) (r : Result Judged Clash) → (if z then base_said r else says.Base base.Unasked) ≡ says.Clash h old new
+    at : (z : Bool) (r : Result Judged Clash) → base_says (if z then parts_said r else Ok base.Unasked) ≡ says.Clash h old new
         → (c : Clash) × (r ≡ Err c) × (says.Clash c.hash c.old c.new ≡ says.Clash h old new)
     at true (Ok j) e = cc
     at true (Err c) e = (c, refl, e)
@@ -338,7 +339,7 @@ node_present : (half : Half) (s : State) (p : ℕ) (t : Hash) (kind : Kind) (pat
 node_present half s p t kind path blob None h old new e = cc
 node_present half s p t kind path blob (Some a) h old new e = at (is_present a.peers p) (node_outcome half (form_in s) t kind path blob) e
   where
-    at : (z : Bool) (r : Result Offered Clash) → (if z then node_said r else says.Node node.Unasked) ≡ says.Clash h old new
+    at : (z : Bool) (r : Result Offered Clash) → node_says (if z then node_said r else Ok node.Unasked) ≡ says.Clash h old new
         → (c : Clash) × (r ≡ Err c) × (says.Clash c.hash c.old c.new ≡ says.Clash h old new)
     at true (Ok o) e = cc
     at true (Err c) e = (c, refl, e)
@@ -351,7 +352,7 @@ no_zero_base : (half : Half) (s : State) (p : ℕ) (t : Hash) (bytes : Bytes) (s
 no_zero_base half s p t bytes state tx None form e = cc
 no_zero_base half s p t bytes state tx (Some a) form e = at (is_present a.peers p) (base_outcome half (form_in s) t bytes state tx) e
   where
-    at : (z : Bool) (r : Result Judged Clash) → (if z then base_said r else says.Base base.Unasked) ≡ says.ZeroHash form → ⊥
+    at : (z : Bool) (r : Result Judged Clash) → base_says (if z then parts_said r else Ok base.Unasked) ≡ says.ZeroHash form → ⊥
     at true (Ok j) e = cc
     at true (Err c) e = cc
     at false r e = cc
@@ -363,7 +364,7 @@ no_zero_node : (half : Half) (s : State) (p : ℕ) (t : Hash) (kind : Kind) (pat
 no_zero_node half s p t kind path blob None form e = cc
 no_zero_node half s p t kind path blob (Some a) form e = at (is_present a.peers p) (node_outcome half (form_in s) t kind path blob) e
   where
-    at : (z : Bool) (r : Result Offered Clash) → (if z then node_said r else says.Node node.Unasked) ≡ says.ZeroHash form → ⊥
+    at : (z : Bool) (r : Result Offered Clash) → node_says (if z then node_said r else Ok node.Unasked) ≡ says.ZeroHash form → ⊥
     at true (Ok o) e = cc
     at true (Err c) e = cc
     at false r e = cc

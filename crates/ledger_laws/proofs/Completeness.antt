@@ -9,8 +9,8 @@ use Rattle.ledger_spec.specs.Header.{seq_of, state_root_of}
 use Rattle.ledger_spec.specs.Forms.{Held}
 use Rattle.ledger_spec.specs.Spots.{header_in}
 use Rattle.ledger_spec.specs.Findings.{Finding, findings, up_to, seen, Whole}
-use Rattle.ledger_machine.specs.declared.replies.CheckReply.{CheckReply}
-use Rattle.ledger_machine.specs.declared.replies.CheckReply.TheVariants as check
+use Rattle.ledger_spec.specs.declared.replies.CheckReply.{CheckReply}
+use Rattle.ledger_spec.specs.declared.replies.CheckReply.TheVariants as check
 use Rattle.ledger_machine.specs.declared.commands.Command.{Command}
 use Rattle.ledger_machine.specs.declared.commands.Command.TheVariants as command
 use Rattle.ledger_machine.specs.declared.commands.Line.{Line}
@@ -18,7 +18,8 @@ use Rattle.ledger_machine.specs.declared.journal.Entry.{Entry}
 use Rattle.ledger_machine.specs.declared.replies.Reply.{Reply}
 use Rattle.ledger_machine.specs.declared.replies.Reply.TheVariants as says
 use Rattle.ledger_machine.specs.State.{State, form_in, retained}
-use Rattle.ledger_machine.specs.Check.{told_by, check_said, check_given, check_reply}
+use Rattle.ledger_machine.specs.Check.{told_by, check_given, check_reply}
+use Rattle.ledger_spec.specs.Replies.{check_said}
 use Rattle.ledger_spec.specs.Findings.{missing_of, first_broken}
 use Rattle.ledger_spec.specs.Peers.{Peers}
 use Rattle.ledger_spec.specs.Acquiring.{Acquiring, Verdict, complete, seq_differs, zero_state, below_floor}

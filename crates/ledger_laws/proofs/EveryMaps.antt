@@ -17,7 +17,8 @@ use Rattle.ledger_machine.specs.declared.replies.Reply.{Reply}
 use Rattle.ledger_machine.specs.declared.replies.Reply.TheVariants as says
 use Rattle.ledger_machine.specs.declared.replies.GetReply.TheVariants as gets
 use Rattle.ledger_machine.specs.declared.replies.PageReply.TheVariants as pages
-use Rattle.ledger_machine.specs.Scripts.{IsInRange, IsLedgerMap}
+use Rattle.ledger_machine.specs.Commands.{IsInRange}
+use Rattle.ledger_machine.specs.Scripts.{IsLedgerMap}
 use Rattle.ledger_machine.specs.State as machine
 use Rattle.ledger_machine.specs.Steps.{Step, Gets, Pages}
 use Rattle.ledger_machine.specs.Reading.{view_root, outcome_of, page_of, IsRead, IsPage}
@@ -92,24 +93,9 @@ pub entry_exact : (half : Half) → IsHalf half → (s : machine.State) (c : Com
     → Step half s e.actor c e.reply (used_by e) s' → IsEveryMaps half s e.actor c e.reply (used_by e)
 entry_exact half sized s (command.Get v kind key) e s' range step =
     get_exact half sized s e.actor v kind key e.reply (used_by e) s' range (entry_nodes half kind range.3 e) step
-entry_exact half sized s (command.Want t seq) e s' range step = tt
-entry_exact half sized s (command.Peer p t) e s' range step = tt
-entry_exact half sized s (command.Base p t head state tx) e s' range step = tt
-entry_exact half sized s (command.Node p t kind path blob) e s' range step = tt
-entry_exact half sized s (command.Check t) e s' range step = tt
-entry_exact half sized s (command.Tick t) e s' range step = tt
-entry_exact half sized s (command.View v t) e s' range step = tt
-entry_exact half sized s (command.Unview v) e s' range step = tt
 entry_exact half sized s (command.Page v kind key n) e s' range step =
     page_exact half s e.actor v kind key n e.reply (used_by e) s' step
-entry_exact half sized s (command.Edit x t) e s' range step = tt
-entry_exact half sized s (command.Put x item) e s' range step = tt
-entry_exact half sized s (command.Del x key) e s' range step = tt
-entry_exact half sized s (command.Tx x item) e s' range step = tt
-entry_exact half sized s (command.Close x fields) e s' range step = tt
-entry_exact half sized s (command.Abandon x) e s' range step = tt
-entry_exact half sized s command.Begin e s' range step = tt
-entry_exact half sized s command.Swap e s' range step = tt
+entry_exact half sized s c e s' range step = tt
 
 pub reads_exact : (half : Half) → IsHalf half → (lines : List Line) → ((l : Line) → Contains lines l → IsInRange l.command)
     → (s : machine.State) (entries : List Entry) (s' : machine.State) (run : Run half lines s entries s')

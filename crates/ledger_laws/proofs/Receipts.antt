@@ -26,8 +26,8 @@ use Rattle.ledger_spec.specs.declared.outcomes.Offered.{Offered}
 use Rattle.ledger_spec.specs.declared.outcomes.Offered.TheVariants as offered
 use Rattle.ledger_spec.specs.declared.outcomes.HeadOffered.{HeadOffered}
 use Rattle.ledger_spec.specs.declared.outcomes.HeadOffered.TheVariants as head
-use Rattle.ledger_machine.specs.declared.replies.BaseReply.TheVariants as base
-use Rattle.ledger_machine.specs.declared.replies.NodeReply.TheVariants as node
+use Rattle.ledger_spec.specs.declared.replies.BaseReply.TheVariants as base
+use Rattle.ledger_spec.specs.declared.replies.NodeReply.TheVariants as node
 use Rattle.ledger_machine.specs.declared.replies.Reply.{Reply}
 use Rattle.ledger_machine.specs.declared.replies.Reply.TheVariants as says
 use Rattle.ledger_machine.specs.State.{State, form_in, roots, with_form, with_forms}
@@ -38,7 +38,8 @@ use Rattle.ledger_spec.specs.Bases.{Judged, given, root_outcome, root_forms, joi
 use Rattle.ledger_spec.specs.Bases.{base_outcome, base_forms}
 use Rattle.ledger_spec.specs.Peers.{is_present}
 use Rattle.ledger_spec.specs.Acquiring.{Acquiring}
-use Rattle.ledger_machine.specs.Base.{base_said, base_for, base_reply, after_base, node_said, node_for, node_reply, node_forms, after_node}
+use Rattle.ledger_machine.specs.Base.{base_says, base_for, base_reply, after_base, node_says, node_for, node_reply, node_forms, after_node}
+use Rattle.ledger_spec.specs.Replies.{parts_said, node_said}
 use Rattle.ledger_machine.specs.Steps.{Step, IsAfter, Gives, own_forms}
 use Rattle.ledger_machine.specs.Runs.{Run, used_by}
 use Rattle.ledger_machine.specs.Receipts.{IsReceived, IsHeadReceived, IsReceivedPart, Receives, IsKept, Stays, AllStay}
@@ -236,14 +237,14 @@ joined_are (Ok x) (Ok y) (Ok z) j e =
     )
 
 -- an answer with parts says the outcome
-base_says : (r : Result Judged Clash) (h : HeadOffered) (a b : Option Offered) → base_said r ≡ says.Base (base.Parts h a b)
+parts_are : (r : Result Judged Clash) (h : HeadOffered) (a b : Option Offered) → base_says (parts_said r) ≡ says.Base (base.Parts h a b)
     → r ≡ Ok (record { header = h; state = a; tx = b })
-base_says (Ok j) h a b e =
+parts_are (Ok j) h a b e =
     let first : j.header ≡ h = cc in
     let second : j.state ≡ a = cc in
     let third : j.tx ≡ b = cc in
     λ i. Ok (record { header = first i; state = second i; tx = third i })
-base_says (Err c) h a b e = cc
+parts_are (Err c) h a b e = cc
 
 -- and is to a present peer
 pub base_present : (half : Half) (s : State) (p : ℕ) (t : Hash) (bytes : Bytes) (state tx : Option Bytes) (o : Option Acquiring)
@@ -253,9 +254,9 @@ pub base_present : (half : Half) (s : State) (p : ℕ) (t : Hash) (bytes : Bytes
 base_present half s p t bytes state tx None h a b e = cc
 base_present half s p t bytes state tx (Some x) h a b e = at (is_present x.peers p) (base_outcome half (form_in s) t bytes state tx) e
   where
-    at : (z : Bool) (r : Result Judged Clash) → (if z then base_said r else says.Base base.Unasked) ≡ says.Base (base.Parts h a b)
+    at : (z : Bool) (r : Result Judged Clash) → base_says (if z then parts_said r else Ok base.Unasked) ≡ says.Base (base.Parts h a b)
         → r ≡ Ok (record { header = h; state = a; tx = b })
-    at true r e = base_says r h a b e
+    at true r e = parts_are r h a b e
     at false r e = cc
 
 -- and so is one with a node's outcome
@@ -265,7 +266,7 @@ pub node_present : (half : Half) (s : State) (p : ℕ) (t : Hash) (kind : Kind) 
 node_present half s p t kind path blob None x e = cc
 node_present half s p t kind path blob (Some a) x e = at (is_present a.peers p) (node_outcome half (form_in s) t kind path blob) e
   where
-    at : (z : Bool) (r : Result Offered Clash) → (if z then node_said r else says.Node node.Unasked) ≡ says.Node (node.One x) → r ≡ Ok x
+    at : (z : Bool) (r : Result Offered Clash) → node_says (if z then node_said r else Ok node.Unasked) ≡ says.Node (node.One x) → r ≡ Ok x
     at true (Ok o) e = cc
     at true (Err c) e = cc
     at false r e = cc

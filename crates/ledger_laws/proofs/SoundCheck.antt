@@ -21,10 +21,11 @@ use Rattle.ledger_spec.specs.Forms.{header_of}
 use Rattle.ledger_spec.specs.Spots.{header_in}
 use Rattle.ledger_spec.specs.Findings.{Finding, lacks, breaks, findings, up_to, Whole}
 use Rattle.ledger_spec.proofs.Growth.{found, met, no_cons, whole_stored}
-use Rattle.ledger_machine.specs.declared.replies.CheckReply.{CheckReply}
-use Rattle.ledger_machine.specs.declared.replies.CheckReply.TheVariants as check
+use Rattle.ledger_spec.specs.declared.replies.CheckReply.{CheckReply}
+use Rattle.ledger_spec.specs.declared.replies.CheckReply.TheVariants as check
 use Rattle.ledger_machine.specs.State.{State, form_in, retained, bases, ended, listed_with, stored_seq}
-use Rattle.ledger_machine.specs.Check.{told_by, verdict_of, check_said, check_given, check_reply, after_check}
+use Rattle.ledger_machine.specs.Check.{told_by, verdict_of, check_given, check_reply, after_check}
+use Rattle.ledger_spec.specs.Replies.{check_said}
 use Rattle.ledger_spec.specs.declared.peers.Ask.{Ask}
 use Rattle.ledger_spec.specs.declared.peers.Ask.TheVariants as asks
 use Rattle.ledger_spec.specs.Peers.{Peers}

@@ -12,12 +12,12 @@ use Rattle.ledger_spec.specs.Own.{IsStoredAt}
 use Rattle.ledger_spec.specs.Peers.{is_present}
 use Rattle.ledger_spec.specs.Acquiring.{Acquiring, is_bad, after_outcome, after_judging}
 use Rattle.ledger_spec.proofs.Storing.{node_fits, head_form_fits}
-use Rattle.ledger_machine.specs.declared.replies.BaseReply.TheVariants as base
-use Rattle.ledger_machine.specs.declared.replies.NodeReply.TheVariants as node
+use Rattle.ledger_spec.specs.declared.replies.BaseReply.TheVariants as base
+use Rattle.ledger_spec.specs.declared.replies.NodeReply.TheVariants as node
 use Rattle.ledger_machine.specs.declared.replies.Reply.{Reply}
 use Rattle.ledger_machine.specs.declared.replies.Reply.TheVariants as says
 use Rattle.ledger_machine.specs.State.{State, form_in, with_forms}
-use Rattle.ledger_machine.specs.Base.{after_base, node_forms, after_node, if_present, base_stores, node_stores}
+use Rattle.ledger_machine.specs.Base.{after_base, node_forms, after_node, forms_for, base_stores, node_stores}
 use Rattle.ledger_machine.specs.Scripts.{AreBytes, AreOffered, IfBytes}
 use Rattle.ledger_laws.proofs.Charges.{outcome_rises, judging_rises}
 use Rattle.ledger_laws.proofs.SoundKeeps.{Keeps, keeps_self, keeps_on, with_peers_keeps}
@@ -88,6 +88,10 @@ after_node_keeps half sized s p t kind path blob (says.Node (node.One o)) all =
     (with_forms_keeps half s forms (λ form i. node_fits half sized (form_in s) t kind path blob form all i))
     (with_peers_keeps half stored t (after_outcome p (is_bad o)) (outcome_rises p (is_bad o)))
 after_node_keeps half sized s p t kind path blob _ all = keeps_self half s
+
+-- these forms, where the peer is present in the acquisition
+abbrev pub if_present : ℕ → Option Acquiring → List Bytes → List Bytes
+if_present p o forms = forms_for (λ a. if is_present a.peers p then forms else []) o
 
 -- what is stored of a peer is stored where it is present
 pub present_form : (p : ℕ) (o : Option Acquiring) (forms : List Bytes) (form : Bytes) → Contains (if_present p o forms) form

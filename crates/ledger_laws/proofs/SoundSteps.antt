@@ -11,8 +11,8 @@ use Rattle.ledger_machine.specs.declared.commands.Line.{Line}
 use Rattle.ledger_machine.specs.declared.journal.Entry.{Entry}
 use Rattle.ledger_machine.specs.declared.replies.WantReply.{WantReply}
 use Rattle.ledger_machine.specs.declared.replies.WantReply.TheVariants as want
-use Rattle.ledger_machine.specs.declared.replies.TickReply.{TickReply}
-use Rattle.ledger_machine.specs.declared.replies.TickReply.TheVariants as tick
+use Rattle.ledger_spec.specs.declared.replies.TickReply.{TickReply}
+use Rattle.ledger_spec.specs.declared.replies.TickReply.TheVariants as tick
 use Rattle.ledger_machine.specs.declared.replies.Reply.{Reply}
 use Rattle.ledger_machine.specs.declared.replies.Reply.TheVariants as says
 use Rattle.std.specs.Cmp.Lexicographic.{nat_list_cmp_total}
@@ -21,7 +21,8 @@ use Rattle.ledger_spec.specs.Maps.{hash_cmp, insert_in}
 use Rattle.ledger_spec.specs.Acquiring.{acquiring}
 use Rattle.ledger_spec.specs.Peers as peers
 use Rattle.ledger_machine.specs.State.{State, stored_seq}
-use Rattle.ledger_machine.specs.Scripts.{AreBytes, AreOffered, IsInRange}
+use Rattle.ledger_machine.specs.Commands.{IsInRange}
+use Rattle.ledger_machine.specs.Scripts.{AreBytes, AreOffered}
 use Rattle.ledger_machine.specs.Want.{want_reply, after_want}
 use Rattle.ledger_machine.specs.Peer.{peer_reply, after_peer}
 use Rattle.ledger_machine.specs.Check.{check_reply, after_check}

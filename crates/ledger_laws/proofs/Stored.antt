@@ -1,6 +1,6 @@
 -- What a step stores and takes: but for a swap nothing goes, and nothing comes but the command's own forms, each under its own hash.
 use Rattle.std.proofs.Common.{◌≡◌, ◌⊎◌, inl, inr, ⊎_elim, ℕ, Bool, true, false, if◌then◌else◌, ◌==◌, nat_lt, List, [], ◌∷◌, ◌++◌, length}
-use Rattle.std.proofs.Common.{Option, None, Some, is_some, Result, Contains, refl, sym, ap, ◌∙◌, subst}
+use Rattle.std.proofs.Common.{Option, None, Some, is_some, Result, Ok, Contains, refl, sym, ap, ◌∙◌, subst}
 use Rattle.std.specs.Option.{option_map_or}
 use Rattle.std.specs.List.{find}
 use Rattle.std.specs.FinMap as finite
@@ -16,23 +16,24 @@ use Rattle.ledger_spec.specs.declared.outcomes.Offered.{Offered}
 use Rattle.ledger_spec.specs.declared.outcomes.HeadOffered.{HeadOffered}
 use Rattle.ledger_spec.specs.Peers.{is_present}
 use Rattle.ledger_spec.specs.Acquiring.{Acquiring}
+use Rattle.ledger_spec.specs.Replies.{parts_said, node_said}
 use Rattle.ledger_spec.proofs.ReachLaws.{Grows}
 use Rattle.ledger_machine.specs.declared.commands.Command.{Command}
 use Rattle.ledger_machine.specs.declared.commands.Command.TheVariants as command
 use Rattle.ledger_machine.specs.declared.replies.WantReply.{WantReply}
 use Rattle.ledger_machine.specs.declared.replies.WantReply.TheVariants as want
-use Rattle.ledger_machine.specs.declared.replies.CheckReply.{CheckReply}
-use Rattle.ledger_machine.specs.declared.replies.CheckReply.TheVariants as check
-use Rattle.ledger_machine.specs.declared.replies.TickReply.{TickReply}
-use Rattle.ledger_machine.specs.declared.replies.TickReply.TheVariants as tick
+use Rattle.ledger_spec.specs.declared.replies.CheckReply.{CheckReply}
+use Rattle.ledger_spec.specs.declared.replies.CheckReply.TheVariants as check
+use Rattle.ledger_spec.specs.declared.replies.TickReply.{TickReply}
+use Rattle.ledger_spec.specs.declared.replies.TickReply.TheVariants as tick
 use Rattle.ledger_machine.specs.declared.replies.ViewReply.{ViewReply}
 use Rattle.ledger_machine.specs.declared.replies.ViewReply.TheVariants as view
 use Rattle.ledger_machine.specs.declared.replies.EditReply.{EditReply}
 use Rattle.ledger_machine.specs.declared.replies.EditReply.TheVariants as edits
 use Rattle.ledger_machine.specs.declared.replies.BeginReply.{BeginReply}
 use Rattle.ledger_machine.specs.declared.replies.BeginReply.TheVariants as begins
-use Rattle.ledger_machine.specs.declared.replies.BaseReply.TheVariants as base
-use Rattle.ledger_machine.specs.declared.replies.NodeReply.TheVariants as node
+use Rattle.ledger_spec.specs.declared.replies.BaseReply.TheVariants as base
+use Rattle.ledger_spec.specs.declared.replies.NodeReply.TheVariants as node
 use Rattle.ledger_machine.specs.declared.replies.CloseReply.TheVariants as close
 use Rattle.ledger_machine.specs.declared.replies.Reply.{Reply}
 use Rattle.ledger_machine.specs.declared.replies.Reply.TheVariants as says
@@ -40,8 +41,8 @@ use Rattle.ledger_machine.specs.State.{State, Session, form_in, with_form, with_
 use Rattle.ledger_machine.specs.Want.{want_reply, after_want}
 use Rattle.ledger_machine.specs.Peer.{after_peer}
 use Rattle.ledger_machine.specs.Check.{check_reply, after_check}
-use Rattle.ledger_machine.specs.Base.{base_said, base_for, base_reply, after_base, if_present, base_stores}
-use Rattle.ledger_machine.specs.Base.{node_said, node_for, node_reply, node_forms, after_node, node_stores}
+use Rattle.ledger_machine.specs.Base.{base_says, base_for, base_reply, after_base, base_stores}
+use Rattle.ledger_machine.specs.Base.{node_says, node_for, node_reply, node_forms, after_node, node_stores}
 use Rattle.ledger_machine.specs.Ticks.{tick_reply, after_tick}
 use Rattle.ledger_machine.specs.Views.{view_reply, after_view, after_unview}
 use Rattle.ledger_machine.specs.Reading.{view_root}
@@ -49,10 +50,11 @@ use Rattle.ledger_machine.specs.Sessions.{edit_reply, after_edit, with_session, 
 use Rattle.ledger_machine.specs.Closing.{new_header, closing_forms, first_clash, closed_or_clash, zero_or, close_given, close_reply}
 use Rattle.ledger_machine.specs.Closing.{closed, after_close, closes_into, unless_zero, close_forms}
 use Rattle.ledger_machine.specs.Rotation.{begin_reply, after_begin, ShadesRoots, Begins, Swapped}
-use Rattle.ledger_machine.specs.Scripts.{IsBeside}
+use Rattle.ledger_machine.specs.Commands.{IsBeside}
 use Rattle.ledger_machine.specs.Steps.{IsAfter, Swaps, Answered, Refused, Outcomes, own_forms}
 use Rattle.ledger_laws.proofs.SoundForms.{new_or_old, in_head, in_tail, with_forms_grow}
 use Rattle.ledger_laws.proofs.SoundKeeps.{shaded_same}
+use Rattle.ledger_laws.proofs.SoundOffers.{if_present}
 use Rattle.ledger_laws.proofs.SoundSteps.{outcome_cases, gets_after, pages_after}
 
 -- nothing of what is stored goes, and what comes is one of these forms, under its own hash
@@ -187,7 +189,7 @@ base_open half s p t head state tx None h a b forms e = cc
 base_open half s p t head state tx (Some x) h a b forms e =
     at (is_present x.peers p) (base_outcome half (form_in s) t head state tx) e
   where
-    at : (z : Bool) (r : Result Judged Clash) → says.Base (base.Parts h a b) ≡ (if z then base_said r else says.Base base.Unasked)
+    at : (z : Bool) (r : Result Judged Clash) → says.Base (base.Parts h a b) ≡ base_says (if z then parts_said r else Ok base.Unasked)
         → (if z then forms else []) ≡ forms
     at true r e = refl
     at false r e = cc
@@ -199,7 +201,7 @@ node_open : (half : Half) (s : State) (p : ℕ) (t : Hash) (kind : Kind) (path :
 node_open half s p t kind path blob None x forms e = cc
 node_open half s p t kind path blob (Some a) x forms e = at (is_present a.peers p) (node_outcome half (form_in s) t kind path blob) e
   where
-    at : (z : Bool) (r : Result Offered Clash) → says.Node (node.One x) ≡ (if z then node_said r else says.Node node.Unasked)
+    at : (z : Bool) (r : Result Offered Clash) → says.Node (node.One x) ≡ node_says (if z then node_said r else Ok node.Unasked)
         → (if z then forms else []) ≡ forms
     at true r e = refl
     at false r e = cc

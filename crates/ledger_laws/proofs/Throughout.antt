@@ -14,7 +14,8 @@ use Rattle.tree_laws.proofs.WholeLaw.{ledger_commits}
 use Rattle.ledger_machine.specs.declared.commands.Line.{Line}
 use Rattle.ledger_machine.specs.declared.journal.Entry.{Entry}
 use Rattle.ledger_machine.specs.State.{State as MachineState, form_in}
-use Rattle.ledger_machine.specs.Scripts.{IsInRange, IsLedgerMap}
+use Rattle.ledger_machine.specs.Commands.{IsInRange}
+use Rattle.ledger_machine.specs.Scripts.{IsLedgerMap}
 use Rattle.ledger_machine.specs.Sound.{Sound, IsWholeLedger}
 use Rattle.ledger_machine.specs.Runs.{Run, used_by}
 use Rattle.ledger_machine.specs.Throughout.{IsInOrder, AreInOrder}

@@ -11,7 +11,8 @@ ghost use Rattle.ledger_spec.specs.Reach.{Reach};
 ghost use Rattle.ledger_machine.specs.State.{State, Session, form_in, opening, retained, roots, with_sessions, Kept};
 ghost use Rattle.ledger_machine.specs.Sound.{Sound, IsStoredAt};
 ghost use Rattle.ledger_machine.specs.Reading.{view_root};
-ghost use Rattle.ledger_machine.specs.Scripts.{IsInRange, IsLedgerMap, IsBeside};
+ghost use Rattle.ledger_machine.specs.Commands.{IsInRange, IsBeside};
+ghost use Rattle.ledger_machine.specs.Scripts.{IsLedgerMap};
 ghost use Rattle.ledger_machine.specs.Rotation.{AreShaded, Tells, WhileTurning};
 ghost use Rattle.ledger_machine.specs.Steps.{Does, Step, own_hashes};
 ghost use Rattle.ledger_machine.specs.Runs.{Run, Answers, IsRunOf, opening_of};
@@ -26,7 +27,7 @@ ghost use Rattle.ledger_machine.specs.declared.commands.Command.{Command};
 ghost use Rattle.ledger_machine.specs.declared.commands.Line.{Line};
 ghost use Rattle.ledger_machine.specs.declared.commands.Record.{Record};
 ghost use Rattle.ledger_machine.specs.declared.journal.Entry.{Entry};
-ghost use Rattle.ledger_machine.specs.declared.replies.CheckReply.{CheckReply};
+ghost use Rattle.ledger_spec.specs.declared.replies.CheckReply.{CheckReply};
 ghost use Rattle.ledger_machine.specs.declared.replies.Reply.{Reply};
 
 /// A store that has only records, each a form under its own hash, is sound.

@@ -6,15 +6,13 @@ use Rattle.ledger_spec.specs.Maps.{hash_cmp, get_in}
 use Rattle.ledger_spec.specs.Bytes.{Bytes, Hash, Half}
 use Rattle.ledger_spec.specs.Header.{seq_of, state_root_of}
 use Rattle.ledger_spec.specs.Spots.{header_in}
-use Rattle.ledger_spec.specs.Rules.{rule_number}
 use Rattle.ledger_spec.specs.Findings.{missing_of, first_broken, seen}
-use Rattle.ledger_spec.specs.declared.peers.Ask.{Ask}
 use Rattle.ledger_spec.specs.declared.peers.Ask.TheVariants as asks
-use Rattle.ledger_spec.specs.Acquiring.{Acquiring, Verdict, complete, incomplete, seq_differs, zero_state, below_floor, malformed}
-use Rattle.ledger_spec.specs.Acquiring.{check_verdict, after_verdict}
-use Rattle.ledger_machine.specs.declared.replies.CheckReply.{CheckReply}
-use Rattle.ledger_machine.specs.declared.replies.CheckReply.TheVariants.{Complete, Need, Waiting, NoPeer, SeqDiffers, ZeroState}
-use Rattle.ledger_machine.specs.declared.replies.CheckReply.TheVariants.{BelowFloor, Malformed, NotOpen}
+use Rattle.ledger_spec.specs.Acquiring.{Acquiring, Verdict, incomplete, check_verdict, after_verdict}
+use Rattle.ledger_spec.specs.Replies.{check_said}
+use Rattle.ledger_spec.specs.declared.replies.CheckReply.{CheckReply}
+use Rattle.ledger_spec.specs.declared.replies.CheckReply.TheVariants.{Complete, Need, Waiting, NoPeer, SeqDiffers, ZeroState}
+use Rattle.ledger_spec.specs.declared.replies.CheckReply.TheVariants.{BelowFloor, Malformed, NotOpen}
 use Rattle.ledger_machine.specs.State.{State, form_in, with_wanted, ended, listed_with}
 
 -- what a header tells of its ledger: the sequence and the state root
@@ -26,19 +24,6 @@ abbrev pub verdict_of : Half → State → Hash → Acquiring → Verdict
 verdict_of half s t a =
     let found = seen half (form_in s) t in
     check_verdict a s.floor (option_map told_by (header_in (form_in s) t)) (first_broken found) (filter_map missing_of found)
-
-abbrev pub ask_said : Ask → CheckReply
-ask_said (asks.Send p places) = Need p places
-ask_said (asks.Waiting n) = Waiting n
-ask_said asks.NoPeer = NoPeer
-
-abbrev pub check_said : Verdict → CheckReply
-check_said complete = Complete
-check_said (incomplete ask) = ask_said ask
-check_said (seq_differs asked found) = SeqDiffers asked found
-check_said zero_state = ZeroState
-check_said (below_floor floor) = BelowFloor floor
-check_said (malformed place fault) = Malformed place (rule_number fault)
 
 abbrev pub check_given : Half → State → Hash → Option Acquiring → CheckReply
 check_given half s t None = NotOpen

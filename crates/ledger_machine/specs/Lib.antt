@@ -2,6 +2,7 @@ pub mod Limits
 pub mod State
 pub mod Sound
 pub mod Scripts
+pub mod Commands
 pub mod Records
 pub mod Want
 pub mod Peer

@@ -2,17 +2,12 @@
 use Rattle.std.specs.Prelude.{ℕ, Option, None, Some}
 use Rattle.ledger_spec.specs.Maps.{hash_cmp, get_in}
 use Rattle.ledger_spec.specs.Bytes.{Hash}
-use Rattle.ledger_spec.specs.declared.peers.Added.{Added as Joined}
-use Rattle.ledger_spec.specs.declared.peers.Added.TheVariants as adds
+use Rattle.ledger_spec.specs.declared.replies.PeerReply.{PeerReply}
+use Rattle.ledger_spec.specs.declared.replies.PeerReply.TheVariants.{NotOpen}
 use Rattle.ledger_spec.specs.Peers.{added, after_adding}
 use Rattle.ledger_spec.specs.Acquiring.{Acquiring}
-use Rattle.ledger_machine.specs.declared.replies.PeerReply.{PeerReply}
-use Rattle.ledger_machine.specs.declared.replies.PeerReply.TheVariants.{Added, Known, NotOpen}
+use Rattle.ledger_spec.specs.Replies.{peer_said}
 use Rattle.ledger_machine.specs.State.{State, with_peers}
-
-abbrev pub peer_said : Joined → PeerReply
-peer_said adds.Added = Added
-peer_said adds.Known = Known
 
 abbrev pub peer_given : ℕ → Option Acquiring → PeerReply
 peer_given p None = NotOpen

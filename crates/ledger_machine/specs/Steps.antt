@@ -11,6 +11,7 @@ use Rattle.ledger_machine.specs.declared.replies.PageReply.TheVariants as pages
 use Rattle.ledger_machine.specs.declared.replies.SwapReply.TheVariants as swaps
 use Rattle.ledger_machine.specs.declared.replies.Reply.{Reply}
 use Rattle.ledger_machine.specs.declared.replies.Reply.TheVariants as says
+use Rattle.ledger_machine.specs.Commands.{MayBeRefused}
 use Rattle.ledger_machine.specs.State.{State, with_forms, stored_seq}
 use Rattle.ledger_machine.specs.Want.{want_reply, after_want}
 use Rattle.ledger_machine.specs.Peer.{peer_reply, after_peer}
@@ -77,10 +78,24 @@ Answered half s a command.Swap reply used s' = Swaps s s.turning reply s'
 
 -- a command's own forms: those that it would store
 abbrev pub own_forms : Half → State → ℕ → Command → List Bytes
+own_forms half s a (command.Want t seq) = []
+own_forms half s a (command.Peer p t) = []
 own_forms half s a (command.Base p t head state tx) = base_stores half s p t head state tx
 own_forms half s a (command.Node p t kind path blob) = node_stores half s p t kind path blob
+own_forms half s a (command.Check t) = []
+own_forms half s a (command.Tick t) = []
+own_forms half s a (command.View v t) = []
+own_forms half s a (command.Unview v) = []
+own_forms half s a (command.Get v kind key) = []
+own_forms half s a (command.Page v kind key n) = []
+own_forms half s a (command.Edit x t) = []
+own_forms half s a (command.Put x item) = []
+own_forms half s a (command.Del x key) = []
+own_forms half s a (command.Tx x item) = []
 own_forms half s a (command.Close x fields) = close_forms half s (a, x) fields
-own_forms half s a _ = []
+own_forms half s a (command.Abandon x) = []
+own_forms half s a command.Begin = []
+own_forms half s a command.Swap = []
 
 -- nothing has changed but that some of the command's own forms, none of which has the zero hash, may be stored
 pub record Refused (half : Half) (s : State) (a : ℕ) (c : Command) (s' : State) : Type 0 where
@@ -90,17 +105,24 @@ pub record Refused (half : Half) (s : State) (a : ℕ) (c : Command) (s' : State
 
 -- the row of a command that may answer a clash or a zero hash has this reply
 abbrev pub IsRow : Half → State → ℕ → Command → Reply → Type 0
+IsRow half s a (command.Want t seq) reply = ⊥
+IsRow half s a (command.Peer p t) reply = ⊥
 IsRow half s a (command.Base p t head state tx) reply = reply ≡ base_reply half s p t head state tx
 IsRow half s a (command.Node p t kind path blob) reply = reply ≡ node_reply half s p t kind path blob
+IsRow half s a (command.Check t) reply = ⊥
+IsRow half s a (command.Tick t) reply = ⊥
+IsRow half s a (command.View v t) reply = ⊥
+IsRow half s a (command.Unview v) reply = ⊥
+IsRow half s a (command.Get v kind key) reply = ⊥
+IsRow half s a (command.Page v kind key n) reply = ⊥
+IsRow half s a (command.Edit x t) reply = ⊥
+IsRow half s a (command.Put x item) reply = ⊥
+IsRow half s a (command.Del x key) reply = ⊥
+IsRow half s a (command.Tx x item) reply = ⊥
 IsRow half s a (command.Close x fields) reply = reply ≡ close_reply half s (a, x) fields
-IsRow half s a _ reply = ⊥
-
--- these commands take no memory and call no store, so they are never refused
-abbrev pub MayBeRefused : Command → Type 0
-MayBeRefused (command.Tick t) = ⊥
-MayBeRefused (command.Unview v) = ⊥
-MayBeRefused (command.Abandon x) = ⊥
-MayBeRefused _ = Unit {0}
+IsRow half s a (command.Abandon x) reply = ⊥
+IsRow half s a command.Begin reply = ⊥
+IsRow half s a command.Swap reply = ⊥
 
 -- the reply and the state that a command may lead to: a fault or want of memory at any command that may be refused
 abbrev pub Outcomes : Half → State → ℕ → Command → Reply → List Held → State → Type 0
@@ -113,7 +135,24 @@ Outcomes half s a c reply used s' = Answered half s a c reply used s'
 -- a refused `want` may have shaded its target
 abbrev pub want_target : Command → Reply → List Hash
 want_target (command.Want t seq) says.Memory = t ∷ []
-want_target _ _ = []
+want_target (command.Want t seq) reply = []
+want_target (command.Peer p t) reply = []
+want_target (command.Base p t head state tx) reply = []
+want_target (command.Node p t kind path blob) reply = []
+want_target (command.Check t) reply = []
+want_target (command.Tick t) reply = []
+want_target (command.View v t) reply = []
+want_target (command.Unview v) reply = []
+want_target (command.Get v kind key) reply = []
+want_target (command.Page v kind key n) reply = []
+want_target (command.Edit x t) reply = []
+want_target (command.Put x item) reply = []
+want_target (command.Del x key) reply = []
+want_target (command.Tx x item) reply = []
+want_target (command.Close x fields) reply = []
+want_target (command.Abandon x) reply = []
+want_target command.Begin reply = []
+want_target command.Swap reply = []
 
 abbrev pub own_hashes : Half → State → ℕ → Command → Reply → List Hash
 own_hashes half s a c reply = map half (own_forms half s a c) ++ want_target c reply

@@ -2,17 +2,12 @@
 use Rattle.std.specs.Prelude.{Option, None, Some}
 use Rattle.ledger_spec.specs.Maps.{hash_cmp, get_in}
 use Rattle.ledger_spec.specs.Bytes.{Hash}
-use Rattle.ledger_spec.specs.declared.peers.Tick.{Tick}
-use Rattle.ledger_spec.specs.declared.peers.Tick.TheVariants as ticks
+use Rattle.ledger_spec.specs.declared.replies.TickReply.{TickReply}
+use Rattle.ledger_spec.specs.declared.replies.TickReply.TheVariants.{Timeout, GaveUp, NotOpen}
 use Rattle.ledger_spec.specs.Peers as peers
 use Rattle.ledger_spec.specs.Acquiring.{Acquiring}
-use Rattle.ledger_machine.specs.declared.replies.TickReply.{TickReply}
-use Rattle.ledger_machine.specs.declared.replies.TickReply.TheVariants.{Timeout, GaveUp, NotOpen}
+use Rattle.ledger_spec.specs.Replies.{tick_said}
 use Rattle.ledger_machine.specs.State.{State, with_peers, ended}
-
-abbrev pub tick_said : Tick → TickReply
-tick_said (ticks.Timeout n) = Timeout n
-tick_said (ticks.GaveUp n) = GaveUp n
 
 abbrev pub tick_given : Option Acquiring → TickReply
 tick_given None = NotOpen

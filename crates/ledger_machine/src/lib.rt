@@ -7,8 +7,10 @@ mod replies;
 
 pub use commands::{Command, Line, Record, Script};
 pub use journal::{Entry, Totals};
-pub use ledger_spec::{HeadOffered, Offered, Places};
+pub use ledger_spec::{
+    BaseReply, CheckReply, HeadOffered, NodeReply, Offered, PeerReply, Places, TickReply,
+};
 pub use replies::{
-    BaseReply, BeginReply, CheckReply, CloseReply, DelReply, EditReply, GetReply, NodeReply,
-    PageReply, PeerReply, Reply, SwapReply, TickReply, ViewReply, WantReply,
+    BeginReply, CloseReply, DelReply, EditReply, GetReply, PageReply, Reply, SwapReply, ViewReply,
+    WantReply,
 };

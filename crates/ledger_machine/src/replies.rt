@@ -1,7 +1,7 @@
 //! What is answered.
 use half_hash::{Blob, Hash32};
-use ledger_spec::{HeadOffered, Offered, Places};
-use shamap_node::{Node, Place};
+use ledger_spec::{BaseReply, CheckReply, NodeReply, PeerReply, TickReply};
+use shamap_node::Node;
 use std::sync::Arc;
 
 /// The answers to `want`.
@@ -12,56 +12,6 @@ pub enum WantReply {
     Listed,
     BelowFloor(u32),
     TooMany,
-}
-
-/// The answers to `peer`.
-#[derive(Drop)]
-pub enum PeerReply {
-    Added,
-    Known,
-    NotOpen,
-}
-
-/// The answers to `base`: an outcome for each part that was given.
-#[derive(Drop)]
-pub enum BaseReply {
-    Parts {
-        header: HeadOffered,
-        state: Option<Offered>,
-        tx: Option<Offered>,
-    },
-    Unasked,
-    NotOpen,
-}
-
-/// The answers to `node`.
-#[derive(Drop)]
-pub enum NodeReply {
-    One(Offered),
-    Unasked,
-    NotOpen,
-}
-
-/// The answers to `check`.
-#[derive(Drop)]
-pub enum CheckReply {
-    Complete,
-    Need { peer: u16, places: Places },
-    Waiting(usize),
-    NoPeer,
-    SeqDiffers { asked: u32, found: u32 },
-    ZeroState,
-    BelowFloor(u32),
-    Malformed { place: Place, rule: u8 },
-    NotOpen,
-}
-
-/// The answers to `tick`.
-#[derive(Drop)]
-pub enum TickReply {
-    Timeout(u8),
-    GaveUp(u8),
-    NotOpen,
 }
 
 /// The answers to `view`.

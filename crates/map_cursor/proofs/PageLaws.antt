@@ -13,7 +13,7 @@ use Rattle.tree_laws.proofs.MapPages.{page_or_shows}
 use Rattle.tree_laws.proofs.StorePages.{page_of_store}
 use Rattle.path_proof.proofs.PathLaws.{nodes_are}
 use Rattle.path_proof.specs.Paths.{held_nodes}
-use Rattle.path_proof.specs.declared.reading.ReadFault.{ReadFault}
+use Rattle.path_proof.specs.declared.answer.ReadFault.{ReadFault}
 use Rattle.map_cursor.specs.declared.paging.Page.{Page}
 use Rattle.map_cursor.specs.Shown.{Shown, items_in}
 use Rattle.path_proof.specs.Sources.{AreHeld}

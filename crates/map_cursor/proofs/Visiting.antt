@@ -17,8 +17,8 @@ use Rattle.ledger_spec.specs.Pages.{Heard, said, wants, wrong, Reading, go_on, f
 use Rattle.ledger_spec.specs.Pages.{IsStoredNode}
 use Rattle.tree_laws.proofs.Orders.{all_append}
 use Rattle.tree_laws.proofs.Shapes.{above_bottom}
-use Rattle.path_proof.specs.declared.reading.ReadFault.{ReadFault}
-use Rattle.path_proof.specs.declared.reading.ReadFault.TheVariants.{Absent, Fault, Shape, Memory}
+use Rattle.path_proof.specs.declared.answer.ReadFault.{ReadFault}
+use Rattle.path_proof.specs.declared.answer.ReadFault.TheVariants.{Absent, Fault, Shape, Memory}
 use Rattle.path_proof.specs.Sources.{AreHeld, Holds, IsForeign}
 use Rattle.path_proof.specs.Ways.{Fits, Breaks, Ends}
 use Rattle.std.specs.declared.sync.Arc.{Arc}

@@ -14,8 +14,8 @@ use Rattle.ledger_spec.specs.Pages.{Heard, said, wants, wrong, Reading, go_on, f
 use Rattle.ledger_spec.specs.Pages.{is_skipped, page_from, heard_from, IsStoredNode}
 use Rattle.tree_laws.proofs.Shapes.{none_is}
 use Rattle.path_proof.proofs.WholeReads.{Clean, clean_below, sees_held, ends_by}
-use Rattle.path_proof.specs.declared.reading.ReadFault.{ReadFault}
-use Rattle.path_proof.specs.declared.reading.ReadFault.TheVariants.{Fault, Memory}
+use Rattle.path_proof.specs.declared.answer.ReadFault.{ReadFault}
+use Rattle.path_proof.specs.declared.answer.ReadFault.TheVariants.{Fault, Memory}
 use Rattle.map_cursor.specs.Visits.{Refused}
 
 module _ (half : Half) (nodes : Lookup) (kind : Kind) (after : Hash) where

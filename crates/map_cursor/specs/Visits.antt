@@ -7,7 +7,7 @@ use Rattle.ledger_spec.specs.Bytes.{Hash, Half, Lookup, Items, zero_hash}
 use Rattle.ledger_spec.specs.Forms.{Held}
 use Rattle.ledger_spec.specs.Pages.{page_from, said, wants, Reading, IsPageOrShows}
 use Rattle.ledger_spec.specs.Reads.{AreNodes}
-use Rattle.path_proof.specs.declared.reading.ReadFault.{ReadFault}
+use Rattle.path_proof.specs.declared.answer.ReadFault.{ReadFault}
 use Rattle.path_proof.specs.Sources.{AreHeld}
 use Rattle.path_proof.specs.Ways.{Ends}
 use Rattle.map_cursor.specs.Shown.{Shown}

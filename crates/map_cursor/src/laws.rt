@@ -4,7 +4,7 @@ ghost use Rattle.ledger_spec.specs.declared.Kind.{Kind};
 ghost use Rattle.ledger_spec.specs.Bytes.{Lookup};
 ghost use Rattle.ledger_spec.specs.Commits.{IsWholeMap};
 ghost use Rattle.ledger_spec.specs.Pages.{heard_from};
-ghost use Rattle.path_proof.specs.declared.reading.ReadFault.{ReadFault};
+ghost use Rattle.path_proof.specs.declared.answer.ReadFault.{ReadFault};
 ghost use Rattle.map_cursor.specs.Visits.{Refused};
 
 /// A page of a whole map meets no absent node and no misshapen one: where a source tells what it holds,

@@ -1,9 +1,11 @@
 //! What became of a node that a peer sent.
+ghost use Rattle.std.specs.Prelude.{◌≡◌};
+ghost use Rattle.node_offer.specs.Outcomes.{numbered};
 
 use half_hash::Hash32;
-use ledger_spec::ShapeFault;
+use ledger_spec::{Offered as Numbered, ShapeFault};
 use nib_path::NodeId;
-use node_wire::WireFault;
+use node_wire::{WireFault, wire_code};
 
 /// What became of a node that a peer sent.
 #[derive(Debug, Drop)]
@@ -26,4 +28,23 @@ pub enum Offered {
     UnderLeaf(NodeId),
     /// It is stored, and breaks this rule at its place.
     Malformed(ShapeFault),
+}
+
+impl Offered {
+    /// The same outcome, with the cause of bad bytes and a broken rule by their numbers.
+    pub fn numbered(self) -> Numbered
+        ensures { result ≡ numbered self }
+    {
+        match self {
+            Offered::Good => Numbered::Good,
+            Offered::Duplicate => Numbered::Duplicate,
+            Offered::BadWire(fault) => Numbered::BadWire(wire_code(&fault)),
+            Offered::BadHash { wanted, found } => Numbered::BadHash { wanted, found },
+            Offered::NoBase => Numbered::NoBase,
+            Offered::NoParent(id) => Numbered::NoParent(id),
+            Offered::EmptyBranch(id) => Numbered::EmptyBranch(id),
+            Offered::UnderLeaf(id) => Numbered::UnderLeaf(id),
+            Offered::Malformed(fault) => Numbered::Malformed(fault.number()),
+        }
+    }
 }

@@ -16,8 +16,8 @@ use Rattle.ledger_spec.specs.Reads.{IsKey, IsNode, AreNodes, AnswersOrShows}
 use Rattle.tree_laws.proofs.Trees.{Sized}
 use Rattle.tree_laws.proofs.PathLaw.{answers_or_shows}
 use Rattle.path_proof.specs.declared.Outcome.{Outcome}
-use Rattle.path_proof.specs.declared.reading.Answer.{Answer}
-use Rattle.path_proof.specs.declared.reading.ReadFault.{ReadFault}
+use Rattle.path_proof.specs.declared.answer.Answer.{Answer}
+use Rattle.path_proof.specs.declared.answer.ReadFault.{ReadFault}
 use Rattle.nib_path.specs.Paths.{nibbles}
 use Rattle.ledger_spec.specs.Rules.{fault_of}
 use Rattle.path_proof.proofs.Steps.{above}

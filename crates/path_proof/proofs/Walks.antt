@@ -12,7 +12,7 @@ use Rattle.ledger_spec.specs.Reads as spec
 use Rattle.ledger_spec.specs.Reads.{inner_hashes, ends_at, follow, follow_from}
 use Rattle.path_proof.specs.Sources.{AreHeld, Holds}
 use Rattle.std.proofs.Common.{IsErrAnd, Result, Ok, Err}
-use Rattle.path_proof.specs.declared.reading.ReadFault.{ReadFault}
+use Rattle.path_proof.specs.declared.answer.ReadFault.{ReadFault}
 use Rattle.path_proof.specs.declared.way.Progress.{Progress}
 use Rattle.path_proof.specs.declared.source.FetchFault.{FetchFault}
 use Rattle.path_proof.specs.Sources.{Gives, HasHash}

@@ -26,8 +26,8 @@ use Rattle.tree_laws.proofs.WholeLaw.{clean_each, at_branch}
 use Rattle.shamap_node.specs.Laws.{is_no_node}
 use Rattle.path_proof.specs.Sources.{Holds}
 use Rattle.path_proof.specs.Ways.{Waypoint, start, path_at, fault_at, under, below, way, Breaks, Ends, HasCause}
-use Rattle.path_proof.specs.declared.reading.ReadFault.{ReadFault}
-use Rattle.path_proof.specs.declared.reading.ReadFault.TheVariants.{Absent, Fault, Shape, Memory}
+use Rattle.path_proof.specs.declared.answer.ReadFault.{ReadFault}
+use Rattle.path_proof.specs.declared.answer.ReadFault.TheVariants.{Absent, Fault, Shape, Memory}
 
 module _ (half : Half) (nodes : Lookup) (kind : Kind) where
   abbrev pub Clean : List Met → Type 0

@@ -7,7 +7,7 @@ use Rattle.ledger_spec.specs.Bytes.{Hash, Half, Lookup}
 use Rattle.ledger_spec.specs.Reads.{follow}
 use Rattle.shamap_node.specs.declared.Node.{Node}
 use Rattle.path_proof.specs.declared.source.FetchFault.{FetchFault}
-use Rattle.path_proof.specs.declared.reading.ReadFault.{ReadFault}
+use Rattle.path_proof.specs.declared.answer.ReadFault.{ReadFault}
 use Rattle.path_proof.specs.declared.way.Reading.{Reading}
 use Rattle.path_proof.specs.declared.way.Progress.{Progress}
 use Rattle.path_proof.specs.declared.way.Progress.TheVariants.{More, Done}

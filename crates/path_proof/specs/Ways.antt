@@ -14,8 +14,8 @@ use Rattle.ledger_spec.specs.Reads.{inner_hashes}
 use Rattle.path_proof.specs.Paths.{hashes_kept}
 use Rattle.shamap_node.specs.declared.parts.Inner.{Inner}
 use Rattle.path_proof.specs.Sources.{AreHeld, Holds, IsForeign}
-use Rattle.path_proof.specs.declared.reading.ReadFault.{ReadFault}
-use Rattle.path_proof.specs.declared.reading.ReadFault.TheVariants.{Absent, Fault, Shape, Memory}
+use Rattle.path_proof.specs.declared.answer.ReadFault.{ReadFault}
+use Rattle.path_proof.specs.declared.answer.ReadFault.TheVariants.{Absent, Fault, Shape, Memory}
 
 -- a place on the way: its depth, the branches of the inner node above it, and the hash there
 pub record Waypoint : Type 0 where

@@ -1,17 +1,16 @@
 //! What a path of nodes says of a key.
 ghost use Rattle.std.specs.Prelude.{◌≡◌, ◌≢◌, IfSome, [], ◌∷◌, if◌then◌else◌, length, List, ℕ, Some};
 ghost use Rattle.std.specs.Option.{option_map};
-ghost use Rattle.ledger_spec.specs.Bytes.{same_bytes};
 ghost use Rattle.ledger_spec.specs.Reads as spec;
 ghost use Rattle.ledger_spec.specs.Reads.{IsKey, AreNodes, AnswersOrShows};
 ghost use Rattle.shamap_node.specs.Nodes.{held};
 ghost use Rattle.path_proof.specs.Paths.{held_nodes, outcome_by, IsAbove};
 
 use crate::Outcome;
-use crate::waypoints::Waypoint;
+use crate::waypoints::{Waypoint, leaf_says};
 use half_hash::{Hash32, NodeHash, known_half};
 use nib_path::NodeId;
-use shamap_node::{Kind, Leaf, Node};
+use shamap_node::{Kind, Node};
 use std::sync::Arc;
 
 /// What the nodes say of the key, where they are a path to it: each of the hash that the one before
@@ -95,17 +94,5 @@ fn last_says(node: &Node, waypoint: &Waypoint, key: &Hash32) -> Option<Outcome>
             }
         }
         Node::Leaf(leaf) => Some(leaf_says(leaf, key)),
-    }
-}
-
-// What a leaf says of the key.
-pub(crate) fn leaf_says(leaf: &Leaf, key: &Hash32) -> Outcome
-    ensures { outcome_by (held (Node.Leaf leaf.now) ∷ []) result
-        ≡ (if same_bytes leaf.now.item.key key.now then spec.value leaf.now.item.value else spec.nothing) }
-{
-    if leaf.item.key().equals(key) {
-        Outcome::Value
-    } else {
-        Outcome::Nothing
     }
 }

@@ -5,7 +5,7 @@ ghost use Rattle.ledger_spec.specs.Bytes.{Lookup};
 ghost use Rattle.ledger_spec.specs.Commits.{IsWholeMap};
 ghost use Rattle.ledger_spec.specs.Reads.{IsKey};
 ghost use Rattle.path_proof.specs.Ways.{HasCause};
-ghost use Rattle.path_proof.specs.declared.reading.ReadFault.{ReadFault};
+ghost use Rattle.path_proof.specs.declared.answer.ReadFault.{ReadFault};
 
 /// A read of a whole map meets no absent node and no misshapen one: where a source tells what it
 /// holds, and nothing is missing or broken below the root, it can only fail by a fault or for want of memory.

@@ -1,6 +1,7 @@
 //! Reads of one key along a path of nodes, and the judgement of such a path.
 #![tactic(auto)]
 
+mod answer;
 mod following;
 mod forms;
 mod laws;
@@ -9,10 +10,11 @@ mod source;
 mod way;
 mod waypoints;
 
+pub use answer::{Answer, ReadFault};
 pub use following::{follow, known_key};
 pub use forms::node_of_form;
 pub use laws::a_whole_map_is_read;
-pub use reading::{Answer, ReadFault, node_at, read};
+pub use reading::{node_at, read};
 pub use source::{FetchFault, NoSource, NodeSource};
 pub use way::{Progress, Reading};
 

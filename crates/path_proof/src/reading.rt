@@ -9,45 +9,15 @@ ghost use Rattle.path_proof.specs.Paths.{held_nodes, outcome_by, hashes_kept, Is
 ghost use Rattle.path_proof.specs.Sources.{AreHeld, Holds, LeavesSource, RoseIf};
 ghost use Rattle.path_proof.specs.Ways.{Ends, Fits, HasCause};
 
+use crate::answer::{Answer, ReadFault};
 use crate::following::known_key;
 use crate::way::{Progress, Reading, judged};
 use crate::{NodeSource, Outcome};
 use half_hash::{Hash32, NodeHash, known_half};
 use nib_path::NodeId;
 use shamap_node::{Inner, Kind, Node, ShapeFault};
-use std::alloc::{AllocFailed, Global};
+use std::alloc::Global;
 use std::sync::Arc;
-
-/// What was read at a key, with the path of nodes that says so, root first.
-#[derive(Drop)]
-pub struct Answer {
-    pub outcome: Outcome,
-    pub used: Vec<Arc<Node>>,
-}
-
-/// Why a read gives no answer.
-#[derive(Clone, Copy, Debug)]
-pub enum ReadFault {
-    /// The source holds nothing under this hash, which is the first such on the way.
-    Absent(Hash32),
-    /// The source failed, and its count rose.
-    Fault,
-    /// What is held for this place, the first such on the way, breaks this rule there.
-    Shape { place: NodeId, rule: ShapeFault },
-    /// Memory was refused.
-    Memory,
-}
-
-impl<T: Drop> From<AllocFailed<T>> for ReadFault {
-    ghost use Rattle.std.specs.Prelude.{◌≡◌};
-    ghost use Rattle.path_proof.specs.declared.reading.ReadFault.TheVariants as faults;
-
-    ghost from_gives = { λ _ e. e ≡ faults.Memory };
-
-    fn from(_: AllocFailed<T>) -> Self {
-        ReadFault::Memory
-    }
-}
 
 /// What is at the key in the map below the root: nothing or the data of the key's leaf, with the path
 /// that says so. The first place on the way that can't be passed is the answer else: nothing is held

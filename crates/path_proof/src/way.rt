@@ -10,7 +10,7 @@ ghost use Rattle.path_proof.specs.Sources.{Gives, Holds, HasHash};
 ghost use Rattle.path_proof.specs.Ways.{Ends, Fits};
 ghost use Rattle.path_proof.specs.Progressing.{Comes, IsFetched, IsOnWay, levels_left, wanted_by, StaysBelow};
 
-use crate::reading::{Answer, ReadFault};
+use crate::answer::{Answer, ReadFault};
 use crate::waypoints::Waypoint;
 use crate::{FetchFault, Outcome};
 use half_hash::{Hash32, NodeHash};

@@ -1,5 +1,5 @@
 //! A place on the way from a root to a key.
-ghost use Rattle.std.specs.Prelude.{◌≡◌, ◌≤◌, ◌<◌, ◌+◌, ◌&&◌, is_none, take, OnOk, MatchResult, ◌∷◌, [], Some, None};
+ghost use Rattle.std.specs.Prelude.{◌≡◌, ◌≤◌, ◌<◌, ◌+◌, ◌&&◌, if◌then◌else◌, is_none, take, OnOk, MatchResult, ◌∷◌, [], Some, None};
 ghost use Rattle.std.specs.Bool.{OnTrue};
 ghost use Rattle.std.specs.Result.{result_err};
 ghost use Rattle.std.specs.List.{slice_index_or};
@@ -11,13 +11,13 @@ ghost use Rattle.ledger_spec.specs.Rules.{fault_of};
 ghost use Rattle.shamap_node.specs.Nodes.{held};
 ghost use Rattle.path_proof.specs.Paths.{hashes_kept, outcome_by, IsAbove};
 ghost use Rattle.path_proof.specs.Ways.{waypoint, GoesOn};
+ghost use Rattle.ledger_spec.specs.Reads as reads;
 ghost use Rattle.ledger_spec.specs.Reads.{ends_at};
 
 use crate::Outcome;
-use crate::following::leaf_says;
 use half_hash::{Hash32, NodeHash};
 use nib_path::{NodeId, nibble};
-use shamap_node::{Inner, Kind, Node, ShapeFault, hash_of, shape};
+use shamap_node::{Inner, Kind, Leaf, Node, ShapeFault, hash_of, shape};
 
 /// A place on the way from a root to a key: its depth, the inner node above it and the hash there.
 #[derive(Clone, Copy)]
@@ -91,5 +91,17 @@ impl Waypoint {
             return Err(Outcome::Nothing);
         }
         Ok(below)
+    }
+}
+
+// What a leaf says of the key.
+pub(crate) fn leaf_says(leaf: &Leaf, key: &Hash32) -> Outcome
+    ensures { outcome_by (held (Node.Leaf leaf.now) ∷ []) result
+        ≡ (if same_bytes leaf.now.item.key key.now then reads.value leaf.now.item.value else reads.nothing) }
+{
+    if leaf.item.key().equals(key) {
+        Outcome::Value
+    } else {
+        Outcome::Nothing
     }
 }

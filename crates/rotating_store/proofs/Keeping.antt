@@ -13,8 +13,8 @@ use Rattle.ledger_spec.specs.Bytes.{Bytes, Hash, Nodes}
 use Rattle.node_backend.specs.Numbers.{is_among, exceeds, without}
 use Rattle.node_backend.specs.Doubts.{Pair, FailedPut}
 use Rattle.node_backend.proofs.Lists.{exceeds_more, exceeds_append, below_among, among_append, among_last, among_without}
-use Rattle.rotating_store.specs.declared.store.Moved.{Moved}
-use Rattle.rotating_store.specs.declared.store.Moved.TheVariants as moved
+use Rattle.rotating_store.specs.declared.pair.Moved.{Moved}
+use Rattle.rotating_store.specs.declared.pair.Moved.TheVariants as moved
 use Rattle.rotating_store.specs.Stores.{Agree, merged}
 use Rattle.rotating_store.specs.Moves.{Moves, Writes}
 use Rattle.rotating_store.proofs.Merging.{get-merged, forward_keeps, merged_empty}

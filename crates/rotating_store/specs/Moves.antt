@@ -3,8 +3,8 @@ use Rattle.std.specs.Prelude.{◌≡◌, ◌⊎◌, Option, None, Some, Result, 
 use Rattle.std.specs.FinMap as finite
 use Rattle.ledger_spec.specs.Bytes.{Bytes, Hash, Nodes}
 use Rattle.node_backend.specs.Doubts.{Pair, FailedPut}
-use Rattle.rotating_store.specs.declared.store.Moved.{Moved}
-use Rattle.rotating_store.specs.declared.store.Moved.TheVariants as moved
+use Rattle.rotating_store.specs.declared.pair.Moved.{Moved}
+use Rattle.rotating_store.specs.declared.pair.Moved.TheVariants as moved
 
 -- the archive alone has the form
 abbrev pub IsOld : Nodes → Nodes → Hash → Bytes → Type 0

@@ -9,5 +9,6 @@ mod source;
 mod store;
 
 pub use own::own_form;
+pub use pair::Moved;
 pub use source::Filed;
-pub use store::{Moved, Parts, Put, RotStore, StoreFault, Unopened};
+pub use store::{Parts, Put, RotStore, StoreFault, Unopened};

@@ -8,10 +8,20 @@ ghost use Rattle.node_backend.specs.Counts.{held_sum};
 ghost use Rattle.rotating_store.specs.Stores.{merged, lesser_of};
 ghost use Rattle.rotating_store.specs.Moves.{Moves, Writes, moved_of};
 
-use crate::store::Moved;
 use half_hash::{Blob, Hash32};
 use node_backend::{BackFault, Backend};
 use std::alloc::Global;
+
+/// What a copy forward came to.
+#[derive(Clone, Copy, Debug, PartialEq, Eq)]
+pub enum Moved {
+    /// The form was copied from the archive.
+    Copied,
+    /// The writable backend had it.
+    There,
+    /// Neither backend has it.
+    Nowhere,
+}
 
 /// The form of a hash.
 pub(crate) fn get_either<B: Backend>(

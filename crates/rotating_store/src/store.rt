@@ -15,7 +15,7 @@ ghost use Rattle.rotating_store.specs.Moves.{Moves, moved_of};
 ghost use Rattle.rotating_store.specs.Keeps.{Numbered, Keeps};
 
 use crate::notes::Notes;
-use crate::pair::{copy_form, get_either, next_of_either};
+use crate::pair::{Moved, copy_form, get_either, next_of_either};
 use half_hash::{Blob, Hash32, Memory, NodeHash};
 use node_backend::{BackFault, Backend, Shelf};
 use std::alloc::Global;
@@ -28,17 +28,6 @@ pub enum Put {
     New,
     /// It was stored before.
     Same,
-}
-
-/// What a copy forward came to.
-#[derive(Clone, Copy, Debug, PartialEq, Eq)]
-pub enum Moved {
-    /// The form was copied from the archive.
-    Copied,
-    /// The writable backend had it.
-    There,
-    /// Neither backend has it.
-    Nowhere,
 }
 
 /// Why a store could not do as asked.

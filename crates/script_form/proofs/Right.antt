@@ -137,19 +137,6 @@ item_of key value k bytes named says = record {
 form_makes : (f : Form) (args : List Bytes) (v : ArgumentsOf (arguments_in f)) → SayArguments (arguments_in f) args v
     → (c : Command) × Makes f v c
 unfolding item_of
-form_makes form.Want args v says = (_, refl)
-form_makes form.Peer args v says = (_, refl)
-form_makes form.Base args v says = (_, refl)
-form_makes form.BaseState args v says = (_, refl)
-form_makes form.BaseTx args v says = (_, refl)
-form_makes form.Node args v says = (_, refl)
-form_makes form.Check args v says = (_, refl)
-form_makes form.Tick args v says = (_, refl)
-form_makes form.View args v says = (_, refl)
-form_makes form.Unview args v says = (_, refl)
-form_makes form.Get args v says = (_, refl)
-form_makes form.Page args v says = (_, refl)
-form_makes form.Edit args v says = (_, refl)
 form_makes form.Put (n ∷ t ∷ b ∷ []) v says =
     let item : Item = item_of t b v.1.0 v.1.1.0 says.1.0 says.1.1.0 in
     (command.Put v.0 item, (item, record { key_is = refl; data_is = refl }, refl))
@@ -157,7 +144,6 @@ form_makes form.Put [] v says = absurd says
 form_makes form.Put (n ∷ []) v says = absurd says.1
 form_makes form.Put (n ∷ t ∷ []) v says = absurd says.1.1
 form_makes form.Put (n ∷ t ∷ b ∷ x ∷ more) v says = absurd says.1.1.1
-form_makes form.Del args v says = (_, refl)
 form_makes form.Tx (n ∷ t ∷ b ∷ []) v says =
     let item : Item = item_of t b v.1.0 v.1.1.0 says.1.0 says.1.1.0 in
     (command.Tx v.0 item, (item, record { key_is = refl; data_is = refl }, refl))
@@ -165,10 +151,7 @@ form_makes form.Tx [] v says = absurd says
 form_makes form.Tx (n ∷ []) v says = absurd says.1
 form_makes form.Tx (n ∷ t ∷ []) v says = absurd says.1.1
 form_makes form.Tx (n ∷ t ∷ b ∷ x ∷ more) v says = absurd says.1.1.1
-form_makes form.Close args v says = (_, refl)
-form_makes form.Abandon args v says = (_, refl)
-form_makes form.Begin args v says = (_, refl)
-form_makes form.Swap args v says = (_, refl)
+form_makes f args v says = (_, refl)
 
 form_says : (f : Form) (args : List Bytes) → AreRight (arguments_in f) args → (c : Command) × FormSays f args c
 form_says f args right =

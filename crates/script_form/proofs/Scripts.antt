@@ -248,26 +248,9 @@ no_page words other = rw other refl
 -- a command line names a page where it says one
 form_page : (f : Form) (v : ArgumentsOf (arguments_in f)) (c : Command) → Makes f v c
     → same_bytes (word_in f) (codes "page") ≡ is_page_command c
-form_page form.Want v c is = ap is_page_command (sym is)
-form_page form.Peer v c is = ap is_page_command (sym is)
-form_page form.Base v c is = ap is_page_command (sym is)
-form_page form.BaseState v c is = ap is_page_command (sym is)
-form_page form.BaseTx v c is = ap is_page_command (sym is)
-form_page form.Node v c is = ap is_page_command (sym is)
-form_page form.Check v c is = ap is_page_command (sym is)
-form_page form.Tick v c is = ap is_page_command (sym is)
-form_page form.View v c is = ap is_page_command (sym is)
-form_page form.Unview v c is = ap is_page_command (sym is)
-form_page form.Get v c is = ap is_page_command (sym is)
-form_page form.Page v c is = ap is_page_command (sym is)
-form_page form.Edit v c is = ap is_page_command (sym is)
 form_page form.Put v c is = ap is_page_command (sym is.2)
-form_page form.Del v c is = ap is_page_command (sym is)
 form_page form.Tx v c is = ap is_page_command (sym is.2)
-form_page form.Close v c is = ap is_page_command (sym is)
-form_page form.Abandon v c is = ap is_page_command (sym is)
-form_page form.Begin v c is = ap is_page_command (sym is)
-form_page form.Swap v c is = ap is_page_command (sym is)
+form_page f v c is = ap is_page_command (sym is)
 
 call_page : (call : List Bytes) (c : Command) → CallSays call c → names_page call ≡ is_page_command c
 call_page [] c says = absurd says

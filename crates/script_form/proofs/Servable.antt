@@ -7,7 +7,8 @@ use Rattle.std.proofs.lemmas.List.Elements.{All-push, All-weaker, All-contains, 
 use Rattle.ledger_spec.specs.Bytes.{Bytes, Hash}
 use Rattle.ledger_machine.specs.declared.commands.Command.{Command}
 use Rattle.ledger_machine.specs.declared.commands.Line.{Line}
-use Rattle.ledger_machine.specs.Scripts.{Rises, IsInRange, IsLedgerMap, AreBytes}
+use Rattle.ledger_machine.specs.Commands.{IsInRange}
+use Rattle.ledger_machine.specs.Scripts.{Rises, IsLedgerMap, AreBytes}
 use Rattle.ledger_spec.specs.declared.Kind.{Kind}
 use Rattle.ledger_spec.specs.declared.Kind.TheVariants.{State, Tx, Set}
 use Rattle.shamap_node.specs.declared.parts.Item.{Item}
@@ -84,26 +85,7 @@ form_known form.Close (n ∷ d ∷ t ∷ r ∷ f ∷ []) v c says size is =
 form_known form.Abandon (n ∷ []) v c says size is = subst (λ (x : Command). IsInRange x) (sym is) tt
 form_known form.Begin [] v c says size is = subst (λ (x : Command). IsInRange x) (sym is) tt
 form_known form.Swap [] v c says size is = subst (λ (x : Command). IsInRange x) (sym is) tt
-form_known form.Want words v c says size is = absurd (omega (arith, size))
-form_known form.Peer words v c says size is = absurd (omega (arith, size))
-form_known form.Base words v c says size is = absurd (omega (arith, size))
-form_known form.BaseState words v c says size is = absurd (omega (arith, size))
-form_known form.BaseTx words v c says size is = absurd (omega (arith, size))
-form_known form.Node words v c says size is = absurd (omega (arith, size))
-form_known form.Check words v c says size is = absurd (omega (arith, size))
-form_known form.Tick words v c says size is = absurd (omega (arith, size))
-form_known form.View words v c says size is = absurd (omega (arith, size))
-form_known form.Unview words v c says size is = absurd (omega (arith, size))
-form_known form.Get words v c says size is = absurd (omega (arith, size))
-form_known form.Page words v c says size is = absurd (omega (arith, size))
-form_known form.Edit words v c says size is = absurd (omega (arith, size))
-form_known form.Put words v c says size is = absurd (omega (arith, size))
-form_known form.Del words v c says size is = absurd (omega (arith, size))
-form_known form.Tx words v c says size is = absurd (omega (arith, size))
-form_known form.Close words v c says size is = absurd (omega (arith, size))
-form_known form.Abandon words v c says size is = absurd (omega (arith, size))
-form_known form.Begin words v c says size is = absurd (omega (arith, size))
-form_known form.Swap words v c says size is = absurd (omega (arith, size))
+form_known f words v c says size is = absurd (omega (arith, size))
 
 -- what is known of a line that words say
 pub record Known (earlier : List ℕ) (l : Line) : Type 0 where

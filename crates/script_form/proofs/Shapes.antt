@@ -1,8 +1,9 @@
 -- The forms of the commands, and the causes that their arguments have.
 use Rattle.script_form.specs.declared.forms.TheConstants.{FORMS}
-use Rattle.std.proofs.Common.{◌≡◌, ◌<◌, ℕ, length, get_or, arith, refl, sym, ◌∙◌, ap, subst, Bool, true, false}
-use Rattle.std.specs.Prelude.{slice_index, if◌then◌else◌, ◌==◌, not, Option, None, Some, is_some, MatchBool, MatchOption}
-use Rattle.ledger_spec.specs.Bytes.{Bytes}
+use Rattle.std.proofs.Common.{◌≡◌, ◌<◌, ℕ, List, [], ◌∷◌, length, get_or, arith, refl, sym, ◌∙◌, ap, subst, Bool, true, false}
+use Rattle.std.specs.Prelude.{suc, ◌==◌, ◌&&◌, not, Option, None, Some, is_some, MatchBool, MatchOption}
+use Rattle.std.specs.List.{find}
+use Rattle.ledger_spec.specs.Bytes.{Bytes, same_bytes}
 use Rattle.script_form.specs.declared.forms.Form.{Form}
 use Rattle.script_form.specs.declared.forms.Form.TheVariants as form
 use Rattle.script_form.specs.declared.forms.Argument.TheVariants as argument
@@ -11,43 +12,27 @@ use Rattle.script_form.specs.declared.cause.Cause.TheVariants as cause
 use Rattle.script_form.specs.Words.{IsBlob}
 use Rattle.script_form.specs.Commands.{word_in, arguments_in, IsWrong}
 
--- the form of a first byte and a number of arguments
-abbrev form_by : ℕ → ℕ → Form
-form_by first count =
-    if first == 119 then form.Want else if first == 112 then (if count == 2 then form.Peer else if count == 3 then form.Put else form.Page)
-    else if first == 110 then form.Node else if first == 99 then (if count == 1 then form.Check else form.Close)
-    else if first == 116 then (if count == 1 then form.Tick else form.Tx) else if first == 118 then form.View
-    else if first == 117 then form.Unview else if first == 103 then form.Get else if first == 101 then form.Edit
-    else if first == 100 then form.Del else if first == 97 then form.Abandon else if first == 115 then form.Swap
-    else if count == 0 then form.Begin else if count == 3 then form.Base else if count == 4 then form.BaseState else form.BaseTx
+-- whether a form has this word and so many arguments
+abbrev has_shape : Bytes → ℕ → Form → Bool
+has_shape word count f = same_bytes (word_in f) word && (length (arguments_in f) == count)
 
-by_form : (f : Form) → form_by (slice_index (word_in f) 0) (length (arguments_in f)) ≡ f
+-- the form that is found among all by a word and a number of arguments
+abbrev form_by : Bytes → ℕ → Option Form
+form_by word count = find (has_shape word count) FORMS
+
+-- it is each form by its own: the table has it, and no form before it there is like it
+by_form : (f : Form) → form_by (word_in f) (length (arguments_in f)) ≡ Some f
 by_form form.Want = refl
-by_form form.Peer = refl
-by_form form.Base = refl
-by_form form.BaseState = refl
-by_form form.BaseTx = refl
-by_form form.Node = refl
-by_form form.Check = refl
-by_form form.Tick = refl
-by_form form.View = refl
-by_form form.Unview = refl
-by_form form.Get = refl
-by_form form.Page = refl
-by_form form.Edit = refl
-by_form form.Put = refl
-by_form form.Del = refl
-by_form form.Tx = refl
-by_form form.Close = refl
-by_form form.Abandon = refl
-by_form form.Begin = refl
-by_form form.Swap = refl
+by_form f = refl
 
 -- there is one form of a word and a number of arguments
 pub one_form : (f g : Form) → word_in f ≡ word_in g → length (arguments_in f) ≡ length (arguments_in g) → f ≡ g
 one_form f g word count =
-    sym (by_form f) ∙ ap (λ (w : Bytes). form_by (slice_index w 0) (length (arguments_in f))) word
-    ∙ ap (λ (n : ℕ). form_by (slice_index (word_in g) 0) n) count ∙ by_form g
+    same (sym (by_form f) ∙ ap (λ (w : Bytes). form_by w (length (arguments_in f))) word
+    ∙ ap (λ (n : ℕ). form_by (word_in g) n) count ∙ by_form g)
+  where
+    same : Some f ≡ Some g → f ≡ g
+    same e = cc
 
 -- a word that is no bytes is wrong in their place
 pub blob_tells : (c : Cause) (word : Bytes) (r : Option Bytes) (b : Bool) → c ≡ cause.BadHex → is_some r ≡ not b
@@ -77,25 +62,19 @@ pub no_data : (c : Cause) (word : Bytes) → c ≡ cause.DataTooLong → ((bytes
 no_data c word is none wrong =
     let long = subst (λ (a : Cause). IsWrong a argument.Data word) is wrong in none long.0 long.1
 
+-- a form stands among some
+abbrev pub StandsIn : List Form → Form → Type 0
+StandsIn forms f = (k : ℕ) × (k < length forms) × ((d : Form) → get_or forms k d ≡ f)
+
+-- what is found among some forms stands there
+stands : (is : Form → Bool) (forms : List Form) (f : Form) → find is forms ≡ Some f → StandsIn forms f
+stands is [] f found = absurd cc
+stands is (g ∷ forms) f found = at (is g) refl (λ behind. stands is forms f behind)
+  where
+    at : (b : Bool) → is g ≡ b → (find is forms ≡ Some f → StandsIn forms f) → StandsIn (g ∷ forms) f
+    at true e behind = let here : Some g ≡ Some f = rw e at found in (0, omega arith, λ d. cc)
+    at false e behind = let there = behind (rw e at found) in (suc there.0, omega (arith, there.1), there.2)
+
 -- where a form stands among all forms
-pub form_stands : (f : Form) → (k : ℕ) × (k < length FORMS) × ((d : Form) → get_or FORMS k d ≡ f)
-form_stands form.Want = (0, omega arith, λ d. refl)
-form_stands form.Peer = (1, omega arith, λ d. refl)
-form_stands form.Base = (2, omega arith, λ d. refl)
-form_stands form.BaseState = (3, omega arith, λ d. refl)
-form_stands form.BaseTx = (4, omega arith, λ d. refl)
-form_stands form.Node = (5, omega arith, λ d. refl)
-form_stands form.Check = (6, omega arith, λ d. refl)
-form_stands form.Tick = (7, omega arith, λ d. refl)
-form_stands form.View = (8, omega arith, λ d. refl)
-form_stands form.Unview = (9, omega arith, λ d. refl)
-form_stands form.Get = (10, omega arith, λ d. refl)
-form_stands form.Page = (11, omega arith, λ d. refl)
-form_stands form.Edit = (12, omega arith, λ d. refl)
-form_stands form.Put = (13, omega arith, λ d. refl)
-form_stands form.Del = (14, omega arith, λ d. refl)
-form_stands form.Tx = (15, omega arith, λ d. refl)
-form_stands form.Close = (16, omega arith, λ d. refl)
-form_stands form.Abandon = (17, omega arith, λ d. refl)
-form_stands form.Begin = (18, omega arith, λ d. refl)
-form_stands form.Swap = (19, omega arith, λ d. refl)
+pub form_stands : (f : Form) → StandsIn FORMS f
+form_stands f = stands (has_shape (word_in f) (length (arguments_in f))) FORMS f (by_form f)

@@ -2,7 +2,8 @@
 use Rattle.std.specs.Prelude.{◌≢◌, ◌<◌, ◌^◌, List, length, map}
 use Rattle.std.specs.List.{All, Contains}
 use Rattle.ledger_machine.specs.declared.commands.Line.{Line}
-use Rattle.ledger_machine.specs.Scripts.{Rises, IsInRange}
+use Rattle.ledger_machine.specs.Commands.{IsInRange}
+use Rattle.ledger_machine.specs.Scripts.{Rises}
 
 -- the line waits for none, or for an earlier one
 abbrev pub WaitsForEarlier : List Line → Line → Type 0

@@ -14,6 +14,7 @@ ghost use Rattle.script_form.specs.Faults.{IsFirstCause};
 
 use crate::cause::{Cause, TextFault};
 use crate::forms::{form_of, has_wrong, is_command};
+use crate::limits::{MOST_COMMANDS, MOST_TEXT};
 use crate::line::{call_of, line_of, names_no_line};
 use crate::records::Records;
 use crate::store_line::stored;
@@ -21,12 +22,6 @@ use crate::words::{is_text, number, words_of};
 use half_hash::{Memory, NodeHash};
 use ledger_machine::{Command, Line, Record};
 use std::alloc::Global;
-
-/// The most bytes of a line before its newline.
-pub const MOST_TEXT: usize = 2_200_000;
-
-/// The most command lines of a script.
-pub const MOST_COMMANDS: usize = 200_000;
 
 /// The causes that a line's text may have, in the order in which they are tried.
 const ORDER: [Cause; 13] = [
@@ -53,9 +48,6 @@ pub(crate) enum Content {
     Record(Record),
     Line(Line),
 }
-
-/// The most `page` commands of a script.
-pub const MOST_PAGES: usize = 4_000;
 
 /// How many pages are named, with what one line more says.
 pub(crate) fn pages_with(pages: usize, content: &Content) -> usize

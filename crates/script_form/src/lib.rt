@@ -7,6 +7,7 @@ mod digits;
 mod edit_call;
 mod forms;
 mod judging;
+mod limits;
 mod line;
 mod records;
 mod script;
@@ -15,8 +16,8 @@ mod words;
 
 pub use cause::Cause;
 pub use forms::{Argument, Form};
-pub use judging::{MOST_COMMANDS, MOST_TEXT};
 pub use ledger_machine::{Command, Entry, Line, Record, Script};
-pub use script::{MOST_BYTES, ScriptFault, read_script};
+pub use limits::{MOST_BYTES, MOST_COMMANDS, MOST_TEXT};
+pub use script::{ScriptFault, read_script};
 pub use store_line::{LineFault, record_of};
 pub use words::{blob_word, hash_word, id_word, kind_word, number, words_of};

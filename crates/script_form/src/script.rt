@@ -9,16 +9,14 @@ ghost use Rattle.script_form.specs.Causes.{most_bytes, number_of};
 ghost use Rattle.script_form.specs.Faults.{HasLineCause, HasScriptCause};
 
 use crate::cause::{Cause, TextFault};
-use crate::judging::{Content, MOST_PAGES, judge, pages_with};
+use crate::judging::{Content, judge, pages_with};
+use crate::limits::{MOST_BYTES, MOST_PAGES};
 use crate::records::Records;
 use crate::words::piece_end;
 use half_hash::{Memory, NodeHash};
 use ledger_machine::Script;
 use run_io::{AllFault, Source, read_all};
 use std::alloc::{AllocError, AllocFailed, Global};
-
-/// The most bytes of a script.
-pub const MOST_BYTES: usize = 67_108_864;
 
 /// Why there is no script.
 #[derive(Clone, Copy, Debug, PartialEq, Eq)]

@@ -9,8 +9,8 @@ ghost use Rattle.script_form.specs.Causes.{RestHas};
 ghost use Rattle.script_form.specs.Faults.{IsFirstCause, HasRestCause};
 
 use crate::cause::{Cause, TextFault};
+use crate::limits::MOST_BYTES;
 use crate::records::Records;
-use crate::script::MOST_BYTES;
 use crate::words::{blob_word, hash_word, words_of};
 use half_hash::{Memory, NodeHash, known_half};
 use ledger_header::Header;

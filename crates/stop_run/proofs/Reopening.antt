@@ -14,7 +14,8 @@ use Rattle.ledger_machine.specs.declared.commands.Line.{Line}
 use Rattle.ledger_machine.specs.declared.commands.Record.{Record}
 use Rattle.ledger_machine.specs.declared.journal.Entry.{Entry}
 use Rattle.ledger_machine.specs.Runs.{Run, IsFull, answered_by, opening_of}
-use Rattle.ledger_machine.specs.Scripts.{Rises, IsInRange, numbers_of}
+use Rattle.ledger_machine.specs.Commands.{IsInRange}
+use Rattle.ledger_machine.specs.Scripts.{Rises, numbers_of}
 use Rattle.ledger_machine.specs.Records.{with_records}
 use Rattle.ledger_machine.specs.Sound.{Sound, IsWholeLedger, AreStored}
 use Rattle.ledger_machine.specs.State.{State, form_in}

@@ -28,8 +28,9 @@ use Rattle.ledger_machine.specs.declared.journal.Entry.{Entry}
 use Rattle.ledger_machine.specs.declared.replies.Reply.{Reply}
 use Rattle.ledger_machine.specs.declared.replies.Reply.TheVariants as says
 use Rattle.ledger_machine.specs.declared.replies.WantReply.TheVariants as want
-use Rattle.ledger_machine.specs.declared.replies.CheckReply.TheVariants as check
-use Rattle.ledger_machine.specs.Check.{verdict_of, check_given, check_said, check_reply, after_check, told_by}
+use Rattle.ledger_spec.specs.declared.replies.CheckReply.TheVariants as check
+use Rattle.ledger_machine.specs.Check.{verdict_of, check_given, check_reply, after_check, told_by}
+use Rattle.ledger_spec.specs.Replies.{check_said}
 use Rattle.ledger_machine.specs.Runs.{Answers, Run, used_by}
 use Rattle.ledger_machine.specs.Scripts.{line_of, Rises}
 use Rattle.ledger_machine.specs.Sound.{IsWholeLedger}

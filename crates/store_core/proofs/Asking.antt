@@ -13,8 +13,8 @@ use Rattle.ledger_spec.specs.Bytes.{Hash, Half}
 use Rattle.ledger_spec.specs.Maps.{ForActor}
 use Rattle.ledger_spec.specs.Reads.{Outcome, follow}
 use Rattle.path_proof.specs.Paths.{held_nodes}
-use Rattle.path_proof.specs.declared.reading.Answer.{Answer}
-use Rattle.path_proof.specs.declared.reading.ReadFault.{ReadFault}
+use Rattle.path_proof.specs.declared.answer.Answer.{Answer}
+use Rattle.path_proof.specs.declared.answer.ReadFault.{ReadFault}
 use Rattle.ledger_machine.specs.declared.commands.Command.{Command}
 use Rattle.ledger_machine.specs.declared.commands.Command.TheVariants as command
 use Rattle.ledger_machine.specs.declared.commands.Line.{Line}
@@ -24,7 +24,7 @@ use Rattle.ledger_machine.specs.declared.replies.Reply.TheVariants as says
 use Rattle.ledger_machine.specs.Reading.{view_root, outcome_of}
 use Rattle.ledger_machine.specs.Runs.{is_answered, next_line, IsDone, IsBlocked}
 use Rattle.ledger_machine.specs.State.{State}
-use Rattle.ledger_machine.specs.Steps.{MayBeRefused}
+use Rattle.ledger_machine.specs.Commands.{MayBeRefused}
 use Rattle.node_backend.specs.declared.back.BackFault.TheVariants as back
 use Rattle.store_core.specs.Desks.{Desk}
 use Rattle.store_core.specs.Halls.{AreViews, IsQuiet, Serves, root_by}

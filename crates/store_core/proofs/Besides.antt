@@ -21,7 +21,7 @@ use Rattle.ledger_machine.specs.declared.replies.Reply.{Reply}
 use Rattle.ledger_machine.specs.declared.replies.Reply.TheVariants as says
 use Rattle.ledger_machine.specs.Rotation.{after_begin}
 use Rattle.ledger_machine.specs.Rotation.{Tells}
-use Rattle.ledger_machine.specs.Scripts.{IsBeside}
+use Rattle.ledger_machine.specs.Commands.{IsBeside}
 use Rattle.ledger_machine.specs.State.{State, Session, form_in, roots, bases, with_sessions}
 use Rattle.ledger_machine.specs.Steps.{IsAfter, own_hashes}
 use Rattle.open_sessions.specs.Edited.{sessions_in}

@@ -18,11 +18,12 @@ use Rattle.missing_walk.specs.declared.Found.{Found}
 use Rattle.missing_walk.specs.Sees.{Finds}
 use Rattle.rotating_store.specs.Stores.{Store, nodes_of}
 use Rattle.acquire_core.specs.Replies as acquire
-use Rattle.acquire_core.specs.declared.replies.CheckReply.{CheckReply as Checked}
-use Rattle.acquire_core.specs.declared.replies.CheckReply.TheVariants as checked
+use Rattle.ledger_spec.specs.declared.replies.CheckReply.{CheckReply}
+use Rattle.ledger_spec.specs.declared.replies.CheckReply.TheVariants as check
+use Rattle.ledger_spec.specs.Replies.{check_said}
 use Rattle.ledger_machine.specs.State.{State, form_in, stored_seq, with_wanted, ended, listed_with}
-use Rattle.ledger_machine.specs.Check.{told_by, verdict_of, check_said, check_given, check_reply, after_check}
-use Rattle.store_core.specs.Wanting.{check_told, judged_by, found_seq, settled}
+use Rattle.ledger_machine.specs.Check.{told_by, verdict_of, check_given, check_reply, after_check}
+use Rattle.store_core.specs.Wanting.{judged_by, found_seq, settled}
 use Rattle.store_core.proofs.States.{set_same}
 use Rattle.store_core.proofs.Entries.{IsOver, filed_over}
 
@@ -41,25 +42,14 @@ verdict_is half s t a found finds =
     ∙ ap (λ b. check_verdict a s.floor (option_map told_by (header_in (form_in s) t)) b found.missing) finds.broken
     ∙ ap (check_verdict a s.floor (option_map told_by (header_in (form_in s) t)) (first_broken (seen half (form_in s) t))) finds.missing
 
--- a verdict has one name
-named : (v : Verdict) → check_told (acquire.check_reply v) ≡ check_said v
-named complete = refl
-named (incomplete (asks.Send p places)) = refl
-named (incomplete (asks.Waiting n)) = refl
-named (incomplete asks.NoPeer) = refl
-named (seq_differs asked found) = refl
-named zero_state = refl
-named (below_floor floor) = refl
-named (malformed place fault) = refl
-
 -- the machine's row is answered
 pub check_found : (half : Half) (s : State) (t : Hash) (found : Found) → Finds half (form_in s) t found
-    → check_told (judged_by (get_in hash_cmp s.wanted t) s.floor found) ≡ check_reply half s t
+    → judged_by (get_in hash_cmp s.wanted t) s.floor found ≡ check_reply half s t
 check_found half s t found finds = at (get_in hash_cmp s.wanted t)
   where
-    at : (o : Option Acquiring) → check_told (judged_by o s.floor found) ≡ check_given half s t o
+    at : (o : Option Acquiring) → judged_by o s.floor found ≡ check_given half s t o
     at None = refl
-    at (Some a) = named (acquire.found_verdict a s.floor found) ∙ ap check_said (verdict_is half s t a found finds)
+    at (Some a) = ap check_said (verdict_is half s t a found finds)
 
 seq_by : (head : Option Head) (o : Option Bytes) → option_map (λ (h : Head). header_bytes (fields h)) head ≡ o
     → IfSome head (λ h. Reads (header_bytes (fields h)) h) → option_map_or (λ (h : Head). h.seq) head 0 ≡ option_map_or seq_of o 0
@@ -85,7 +75,7 @@ with_same s t a f at same =
 
 -- what an acquisition's answer ends is what the machine's ends
 settled_at : (s : State) (t : Hash) (seq : ℕ) (a : Acquiring) (v : Verdict) → get_in hash_cmp s.wanted t ≡ Some a
-    → settled (with_wanted s t (λ x. after_verdict x v)) t seq (acquire.check_reply v) ≡ after_check s t seq (check_said v)
+    → settled (with_wanted s t (λ x. after_verdict x v)) t seq (check_said v) ≡ after_check s t seq (check_said v)
 settled_at s t seq a complete at = ap (λ (x : State). ended (listed_with x t seq) t) (with_same s t a (λ x. x) at refl)
 settled_at s t seq a (incomplete (asks.Send p places)) at = refl
 settled_at s t seq a (incomplete (asks.Waiting n)) at = with_same s t a (λ x. x) at refl
@@ -100,26 +90,26 @@ module _ (s : State) (t : Hash) (floor : ℕ) (found : Found) where
   judged x = after_verdict x (acquire.found_verdict x floor found)
 
   -- the state after a check that was settled
-  pub check_settled : (s1 s2 : State) (seq : ℕ) (r : Checked) → r ≡ judged_by (get_in hash_cmp s.wanted t) floor found
-      → s1 ≡ with_wanted s t judged → s2 ≡ settled s1 t seq r → s2 ≡ after_check s t seq (check_told r)
+  pub check_settled : (s1 s2 : State) (seq : ℕ) (r : CheckReply) → r ≡ judged_by (get_in hash_cmp s.wanted t) floor found
+      → s1 ≡ with_wanted s t judged → s2 ≡ settled s1 t seq r → s2 ≡ after_check s t seq r
   check_settled s1 s2 seq r is asked ends =
       ends ∙ ap (settled s1 t seq) is ∙ ap (λ x. settled x t seq (judged_by (get_in hash_cmp s.wanted t) floor found)) asked
-      ∙ at (get_in hash_cmp s.wanted t) refl ∙ sym (ap (λ x. after_check s t seq (check_told x)) is)
+      ∙ at (get_in hash_cmp s.wanted t) refl ∙ sym (ap (after_check s t seq) is)
     where
       at : (o : Option Acquiring) → get_in hash_cmp s.wanted t ≡ o
-          → settled (with_wanted s t judged) t seq (judged_by o floor found) ≡ after_check s t seq (check_told (judged_by o floor found))
+          → settled (with_wanted s t judged) t seq (judged_by o floor found) ≡ after_check s t seq (judged_by o floor found)
       at None none = rw none refl
       at (Some a) open_ =
           let v : Verdict = acquire.found_verdict a floor found in
           let one : with_wanted s t judged ≡ with_wanted s t (λ x. after_verdict x v) = rw open_ refl in
-          ap (λ x. settled x t seq (acquire.check_reply v)) one ∙ settled_at s t seq a v open_ ∙ sym (ap (after_check s t seq) (named v))
+          ap (λ x. settled x t seq (check_said v)) one ∙ settled_at s t seq a v open_
 
   -- an acquisition whose ledger is complete stays until it is listed
-  pub check_unsettled : (s1 : State) (r : Checked) → r ≡ judged_by (get_in hash_cmp s.wanted t) floor found
-      → s1 ≡ with_wanted s t judged → r ≡ checked.Complete → s1 ≡ s
+  pub check_unsettled : (s1 : State) (r : CheckReply) → r ≡ judged_by (get_in hash_cmp s.wanted t) floor found
+      → s1 ≡ with_wanted s t judged → r ≡ check.Complete → s1 ≡ s
   check_unsettled s1 r is asked whole = asked ∙ at (get_in hash_cmp s.wanted t) refl (sym is ∙ whole)
     where
-      kept : (a : Acquiring) (v : Verdict) → acquire.check_reply v ≡ checked.Complete → after_verdict a v ≡ a
+      kept : (a : Acquiring) (v : Verdict) → check_said v ≡ check.Complete → after_verdict a v ≡ a
       kept a complete e = refl
       kept a (incomplete (asks.Send p places)) e = cc
       kept a (incomplete (asks.Waiting n)) e = cc
@@ -129,7 +119,7 @@ module _ (s : State) (t : Hash) (floor : ℕ) (found : Found) where
       kept a (below_floor floor) e = cc
       kept a (malformed place fault) e = cc
 
-      at : (o : Option Acquiring) → get_in hash_cmp s.wanted t ≡ o → judged_by o floor found ≡ checked.Complete
+      at : (o : Option Acquiring) → get_in hash_cmp s.wanted t ≡ o → judged_by o floor found ≡ check.Complete
           → with_wanted s t judged ≡ s
       at None none e = cc
       at (Some a) open_ e = with_same s t a judged open_ (kept a (acquire.found_verdict a floor found) e)

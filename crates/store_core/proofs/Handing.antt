@@ -9,9 +9,9 @@ use Rattle.shamap_node.specs.declared.Node.{Node}
 use Rattle.ledger_machine.specs.declared.journal.Entry.{Entry}
 use Rattle.path_proof.specs.Paths.{held_nodes}
 use Rattle.path_proof.specs.declared.Outcome.{Outcome as Outcome'}
-use Rattle.path_proof.specs.declared.reading.Answer.{Answer}
-use Rattle.path_proof.specs.declared.reading.ReadFault.{ReadFault}
-use Rattle.path_proof.specs.declared.reading.ReadFault.TheVariants as faults
+use Rattle.path_proof.specs.declared.answer.Answer.{Answer}
+use Rattle.path_proof.specs.declared.answer.ReadFault.{ReadFault}
+use Rattle.path_proof.specs.declared.answer.ReadFault.TheVariants as faults
 use Rattle.store_core.specs.Jobs.{HandsFault, IsTaken, TakesIn}
 use Rattle.store_core.specs.Reads.{IsJudged, IsUnsaid}
 use Rattle.store_core.specs.Journal.{CoreView, AdvancesFor}

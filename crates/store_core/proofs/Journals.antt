@@ -19,7 +19,8 @@ use Rattle.ledger_machine.specs.State.{State}
 use Rattle.ledger_machine.specs.Steps.{Step}
 use Rattle.ledger_machine.specs.Runs.{Answers, IsRunOf, used_by, answered_by, Projects, opening_of}
 use Rattle.node_backend.specs.Counts.{held_sum}
-use Rattle.ledger_machine.specs.Scripts.{numbers_of, line_of, IsInRange}
+use Rattle.ledger_machine.specs.Commands.{IsInRange}
+use Rattle.ledger_machine.specs.Scripts.{numbers_of, line_of}
 use Rattle.script_form.specs.Servable.{AreServable}
 use Rattle.ledger_machine.specs.Sound.{Sound}
 use Rattle.ledger_machine.specs.Rotation.{AreShaded}

@@ -7,11 +7,11 @@ use Rattle.ledger_spec.specs.Bytes.{Hash}
 use Rattle.ledger_spec.specs.Maps.{hash_cmp, insert_in}
 use Rattle.ledger_machine.specs.declared.replies.WantReply.{WantReply}
 use Rattle.ledger_machine.specs.declared.replies.WantReply.TheVariants as want
-use Rattle.ledger_machine.specs.declared.replies.TickReply.{TickReply}
-use Rattle.ledger_machine.specs.declared.replies.TickReply.TheVariants as tick
+use Rattle.ledger_spec.specs.declared.replies.TickReply.{TickReply}
+use Rattle.ledger_spec.specs.declared.replies.TickReply.TheVariants as tick
 use Rattle.ledger_machine.specs.Ticks.{after_tick}
-use Rattle.acquire_core.specs.declared.replies.CheckReply.{CheckReply as Checked}
-use Rattle.acquire_core.specs.declared.replies.CheckReply.TheVariants as checked
+use Rattle.ledger_spec.specs.declared.replies.CheckReply.{CheckReply}
+use Rattle.ledger_spec.specs.declared.replies.CheckReply.TheVariants as check
 use Rattle.ledger_machine.specs.State.{State}
 use Rattle.ledger_machine.specs.Want.{after_want}
 use Rattle.ledger_machine.specs.declared.replies.BeginReply.{BeginReply}
@@ -53,16 +53,16 @@ begin_few s begins.NotDue = omega arith
 begin_few s begins.Busy = omega arith
 
 -- only a complete ledger is listed
-pub settled_few : (s : State) (t : Hash) (seq : ℕ) (r : Checked) → ListsFew s (settled s t seq r)
-settled_few s t seq checked.Complete = insert_few s.listed t seq
-settled_few s t seq (checked.Need p places) = omega arith
-settled_few s t seq checked.NoPeer = omega arith
-settled_few s t seq (checked.Waiting n) = omega arith
-settled_few s t seq (checked.SeqDiffers x y) = omega arith
-settled_few s t seq checked.ZeroState = omega arith
-settled_few s t seq (checked.BelowFloor f) = omega arith
-settled_few s t seq (checked.Malformed place rule) = omega arith
-settled_few s t seq checked.NotOpen = omega arith
+pub settled_few : (s : State) (t : Hash) (seq : ℕ) (r : CheckReply) → ListsFew s (settled s t seq r)
+settled_few s t seq check.Complete = insert_few s.listed t seq
+settled_few s t seq (check.Need p places) = omega arith
+settled_few s t seq check.NoPeer = omega arith
+settled_few s t seq (check.Waiting n) = omega arith
+settled_few s t seq (check.SeqDiffers x y) = omega arith
+settled_few s t seq check.ZeroState = omega arith
+settled_few s t seq (check.BelowFloor f) = omega arith
+settled_few s t seq (check.Malformed place rule) = omega arith
+settled_few s t seq check.NotOpen = omega arith
 
 pub tick_few : (s : State) (t : Hash) (r : TickReply) → ListsFew s (after_tick s t r)
 tick_few s t (tick.Timeout n) = omega arith

@@ -20,7 +20,7 @@ use Rattle.ledger_machine.specs.declared.replies.Reply.{Reply}
 use Rattle.ledger_machine.specs.declared.replies.ViewReply.{ViewReply}
 use Rattle.ledger_machine.specs.declared.replies.ViewReply.TheVariants as view
 use Rattle.ledger_machine.specs.State.{State, Session, form_in, with_sessions}
-use Rattle.ledger_machine.specs.Scripts.{IsBeside}
+use Rattle.ledger_machine.specs.Commands.{IsBeside}
 use Rattle.ledger_machine.specs.Views.{is_retained, after_view}
 use Rattle.ledger_machine.specs.Steps.{Does}
 use Rattle.ledger_laws.proofs.Stored.{beside_grows}

@@ -37,7 +37,7 @@ use Rattle.node_offer.specs.Faults.{offer_fault}
 use Rattle.node_offer.specs.Stored.{HasForms}
 use Rattle.node_offer.proofs.Storing.{counted_forms}
 use Rattle.acquire_core.specs.Answers.{forms_in, Answers}
-use Rattle.acquire_core.specs.Replies.{node_stores}
+use Rattle.ledger_spec.specs.Replies.{node_stored}
 use Rattle.store_core.specs.Heeds.{Heeds, IsHeeded, AreHeeded}
 use Rattle.std.specs.Map.{keys_of}
 use Rattle.std.specs.Option.{IfSome}
@@ -183,20 +183,20 @@ module _ (half : Half) (told : List Hash) (r r' : Turning) (s s2 : Store) (a : A
   -- what was written of a node is shaded, and reached from the target
   pub node_walks : {X : Type 0} (outcome : Result X Clash) (result : Result X OfferFault)
       → ((n : Held) → read_wire half blob ≡ Ok n → IsHeeded (forms_in s) r' (hash_of half n))
-      → Answers half outcome (node_stores half (forms_in s) a p kind path blob) s result s2
+      → Answers half outcome (node_stored half (forms_in s) a.target a.peers p kind path blob) s result s2
       → IsWalking told r.walk s → IsWalking told r'.walk s2
   node_walks outcome result heeded answers k =
-      let some = answer_front half outcome (node_stores half (forms_in s) a p kind path blob) s result s2 answers in
+      let some = answer_front half outcome (node_stored half (forms_in s) a.target a.peers p kind path blob) s result s2 answers in
       walking_adds told r'.walk s s2
       (forms_add half told r'.walk some.0 s s2 some.1
-      (λ f c. let w = written f (front_among (node_stores half (forms_in s) a p kind path blob) some.0 some.2 some.3 f c) in
+      (λ f c. let w = written f (front_among (node_stored half (forms_in s) a.target a.peers p kind path blob) some.0 some.2 some.3 f c) in
       subst (λ (h : Hash). Stored (forms_in s) h ⊎ Contains (walks.shaded r'.walk) h) (ap half (sym w.2)) (heeded w.0 w.1))
-      (λ f c there. let w = written f (front_among (node_stores half (forms_in s) a p kind path blob) some.0 some.2 some.3 f c) in
+      (λ f c there. let w = written f (front_among (node_stored half (forms_in s) a.target a.peers p kind path blob) some.0 some.2 some.3 f c) in
       reach_joins (λ q d stored. root (subst (Contains told) (sym (in_one a.target q d)) among) stored)
       (named_reached (forms_in s) (forms_in s2) a.target (half f) (grown some.0 some.1) w.3 (f, there))))
       (walking_heeded told r r' s heeds k)
     where
-      written : (f : Bytes) → Contains (node_stores half (forms_in s) a p kind path blob) f
+      written : (f : Bytes) → Contains (node_stored half (forms_in s) a.target a.peers p kind path blob) f
           → (n : Held) × (read_wire half blob ≡ Ok n) × (f ≡ form_of n) × IsNamed (forms_in s) a.target (half f)
       written f c = node_written half (forms_in s) a.target kind path blob f
           (if_form (is_present a.peers p) (stored_by (read_wire half blob) (node_outcome half (forms_in s) a.target kind path blob)) f c)

@@ -2,7 +2,6 @@
 use Rattle.std.proofs.Common.{◌≡◌, ◌≢◌, ◌<◌, ◌+◌, ◌==◌, ℕ, Bool, true, false, cond, if◌then◌else◌, List, [], ◌∷◌, Some}
 use Rattle.std.proofs.Common.{◌&&◌, Result, Ok, Err, Ordering, Less, Equal, Greater, refl, sym, ap, ◌∙◌, subst, arith}
 use Rattle.std.specs.Map.{set_value, remove_entry}
-use Rattle.std.specs.Option.{option_map}
 use Rattle.std.specs.Ordering.{eq_by_cmp, match_ordering}
 use Rattle.std.proofs.lemmas.Bool.Decides.{nat_tests}
 use Rattle.std.proofs.lemmas.Map.Lookups.{exact_bytes}
@@ -15,13 +14,13 @@ use Rattle.ledger_spec.specs.declared.peers.Tick.TheVariants as ticks
 use Rattle.ledger_spec.specs.Acquiring.{after_verdict, is_bad, is_bad_head, is_bad_root, after_outcome}
 use Rattle.ledger_spec.specs.Peers.{Peers, is_present, was_added, after_adding, after_charging, ticked, after_tick}
 use Rattle.node_offer.specs.declared.fault.OfferFault.{OfferFault}
-use Rattle.node_offer.specs.Outcomes.{numbered}
-use Rattle.acquire_core.specs.declared.replies.BaseReply.{BaseReply as Taken}
-use Rattle.acquire_core.specs.declared.replies.BaseReply.TheVariants as taken
-use Rattle.acquire_core.specs.declared.replies.NodeReply.{NodeReply as TakenNode}
-use Rattle.acquire_core.specs.declared.replies.NodeReply.TheVariants as taken_node
-use Rattle.acquire_core.specs.declared.replies.TickReply.TheVariants as told
+use Rattle.ledger_spec.specs.declared.replies.BaseReply.{BaseReply}
+use Rattle.ledger_spec.specs.declared.replies.BaseReply.TheVariants as base
+use Rattle.ledger_spec.specs.declared.replies.NodeReply.{NodeReply}
+use Rattle.ledger_spec.specs.declared.replies.NodeReply.TheVariants as node
+use Rattle.ledger_spec.specs.declared.replies.TickReply.TheVariants as told
 use Rattle.acquire_core.specs.Replies as acquire
+use Rattle.ledger_spec.specs.Replies as replies
 use Rattle.ledger_laws.proofs.SoundForms.{some_same, same_hash}
 use Rattle.rotating_store.specs.Stores.{Store}
 use Rattle.ledger_machine.specs.State.{ended, with_wanted}
@@ -121,36 +120,36 @@ outcome_stays p bad peers = at (bad && is_present peers p)
     at false = refl
 
 -- three parts charge at most three times, and no charge is a tick; any other answer leaves the acquisition
-pub based_open : (t : Hash) (a a' : Acquiring) (p : ℕ) (r : Result Taken OfferFault) → acquire.TakesBase a p r a' → IsOpen t a → IsOpen t a'
-based_open t a a' p (Ok (taken.Parts h x y)) takes open_ =
+pub based_open : (t : Hash) (a a' : Acquiring) (p : ℕ) (r : Result BaseReply OfferFault) → acquire.TakesBase a p r a' → IsOpen t a → IsOpen t a'
+based_open t a a' p (Ok (base.Parts h x y)) takes open_ =
     let first : Peers = after_outcome p (is_bad_head h) a.peers in
-    let state : Bool = is_bad_root (option_map numbered x) in
-    let tx : Bool = is_bad_root (option_map numbered y) in
+    let state : Bool = is_bad_root x in
+    let tx : Bool = is_bad_root y in
     let second : Peers = after_outcome p state first in
     subst (IsOpen t) (sym takes.after)
     (peers_open t a (after_outcome p tx second)
     (outcome_stays p tx second ∙ outcome_stays p state first ∙ outcome_stays p (is_bad_head h) a.peers) open_)
-based_open t a a' p (Ok taken.Unasked) takes open_ = subst (IsOpen t) (sym takes.after) open_
-based_open t a a' p (Ok taken.NotOpen) takes open_ = subst (IsOpen t) (sym takes.after) open_
+based_open t a a' p (Ok base.Unasked) takes open_ = subst (IsOpen t) (sym takes.after) open_
+based_open t a a' p (Ok base.NotOpen) takes open_ = subst (IsOpen t) (sym takes.after) open_
 based_open t a a' p (Err e) takes open_ = subst (IsOpen t) (sym takes.after) open_
 
 -- a node charges at most once
-pub noded_open : (t : Hash) (a a' : Acquiring) (p : ℕ) (r : Result TakenNode OfferFault) → acquire.TakesNode a p r a' → IsOpen t a
+pub noded_open : (t : Hash) (a a' : Acquiring) (p : ℕ) (r : Result NodeReply OfferFault) → acquire.TakesNode a p r a' → IsOpen t a
     → IsOpen t a'
-noded_open t a a' p (Ok (taken_node.One o)) takes open_ =
+noded_open t a a' p (Ok (node.One o)) takes open_ =
     subst (IsOpen t) (sym takes.after)
-    (peers_open t a (after_outcome p (is_bad (numbered o)) a.peers) (outcome_stays p (is_bad (numbered o)) a.peers) open_)
-noded_open t a a' p (Ok taken_node.Unasked) takes open_ = subst (IsOpen t) (sym takes.after) open_
-noded_open t a a' p (Ok taken_node.NotOpen) takes open_ = subst (IsOpen t) (sym takes.after) open_
+    (peers_open t a (after_outcome p (is_bad o) a.peers) (outcome_stays p (is_bad o) a.peers) open_)
+noded_open t a a' p (Ok node.Unasked) takes open_ = subst (IsOpen t) (sym takes.after) open_
+noded_open t a a' p (Ok node.NotOpen) takes open_ = subst (IsOpen t) (sym takes.after) open_
 noded_open t a a' p (Err e) takes open_ = subst (IsOpen t) (sym takes.after) open_
 
 -- a tick that doesn't give up
-pub ticked_open : (t : Hash) (a : Acquiring) (n : ℕ) → acquire.tick_reply (ticked a.peers) ≡ told.Timeout n → IsOpen t a
+pub ticked_open : (t : Hash) (a : Acquiring) (n : ℕ) → replies.tick_said (ticked a.peers) ≡ told.Timeout n → IsOpen t a
     → IsOpen t (record a { peers = after_tick a.peers })
 ticked_open t a n e open_ = record { own = open_.own; awaited = at (a.peers.ticks + 1 == 7) refl e }
   where
     at : (b : Bool) → (a.peers.ticks + 1 == 7) ≡ b
-        → acquire.tick_reply (if b then ticks.GaveUp 7 else ticks.Timeout (a.peers.ticks + 1)) ≡ told.Timeout n
+        → replies.tick_said (if b then ticks.GaveUp 7 else ticks.Timeout (a.peers.ticks + 1)) ≡ told.Timeout n
         → a.peers.ticks + 1 < 7
     at true is e = cc
     at false is e = let other : a.peers.ticks + 1 ≢ 7 = grind (arith, nat_tests) in omega (arith, other, open_.awaited)

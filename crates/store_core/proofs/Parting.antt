@@ -28,7 +28,7 @@ use Rattle.online_rotate.specs.Rotators.{Turning}
 use Rattle.node_offer.specs.declared.fault.OfferFault.{OfferFault}
 use Rattle.node_offer.specs.Stored.{HasForms}
 use Rattle.acquire_core.specs.Answers.{forms_in, Answers}
-use Rattle.acquire_core.specs.Replies.{base_stores}
+use Rattle.ledger_spec.specs.Replies.{base_stored}
 use Rattle.acquire_core.proofs.Growing.{holds}
 use Rattle.store_core.specs.Heeds.{Heeds, IsHeeded, AreHeeded}
 use Rattle.store_core.proofs.Turns.{forms_add, walking_adds, walking_heeded}
@@ -180,7 +180,7 @@ root_heeded half nodes m t kind r (Some blob) heeded f c =
 module _ (half : Half) (told : List Hash) (r r' : Turning) (s s2 : Store) (a : Acquiring) (p : ℕ) (bytes : Bytes)
     (state tx : Option Bytes) (heeds : Heeds (forms_in s) r r') (among : Contains told a.target) where
   abbrev forms : List Bytes
-  forms = base_stores half (forms_in s) a p bytes state tx
+  forms = base_stored half (forms_in s) a.target a.peers p bytes state tx
 
   front_walks : IsHeeded (forms_in s) r' a.target → AreHeeded half (forms_in s) r' state → AreHeeded half (forms_in s) r' tx
       → (front rest : List Bytes) → HasForms half front s s2 → forms ≡ front ++ rest → IsWalking told r.walk s → IsWalking told r'.walk s2

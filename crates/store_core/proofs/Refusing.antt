@@ -12,8 +12,8 @@ use Rattle.ledger_machine.specs.declared.replies.Reply.{Reply}
 use Rattle.ledger_machine.specs.declared.replies.Reply.TheVariants as says
 use Rattle.ledger_machine.specs.State.{State, form_in, with_form, with_forms, with_sessions}
 use Rattle.ledger_machine.specs.Steps.{IsAfter, Outcomes, Does}
-use Rattle.acquire_core.specs.declared.replies.BaseReply.{BaseReply as Taken}
-use Rattle.acquire_core.specs.declared.replies.NodeReply.{NodeReply as TakenNode}
+use Rattle.ledger_spec.specs.declared.replies.BaseReply.{BaseReply}
+use Rattle.ledger_spec.specs.declared.replies.NodeReply.{NodeReply}
 use Rattle.acquire_core.specs.Replies.{TakesBase, TakesNode}
 use Rattle.edit_session.specs.Drafts.{Draft}
 use Rattle.node_offer.specs.declared.fault.OfferFault.{OfferFault}
@@ -100,13 +100,13 @@ over_rest st' s t a a' at same epoch i = record (over st' s) {
 }
 
 -- a base reply or a node that is refused leaves the acquisition as it was
-pub base_rest : (st' : Store) (s : State) (t : Hash) (p : ℕ) (a a' : Acquiring) (r : Result Taken OfferFault)
+pub base_rest : (st' : Store) (s : State) (t : Hash) (p : ℕ) (a a' : Acquiring) (r : Result BaseReply OfferFault)
     → get_in hash_cmp s.wanted t ≡ Some a → TakesBase a p r a' → st'.epoch ≡ s.epoch → IsRefusal (base_answer r)
     → KeepsRest s (record (over st' s) { wanted = set_in hash_cmp s.wanted t a' })
 base_rest st' s t p a a' (Ok x) at takes epoch is = absurd is
 base_rest st' s t p a a' (Err why) at takes epoch is = over_rest st' s t a a' at takes.after epoch
 
-pub node_rest : (st' : Store) (s : State) (t : Hash) (p : ℕ) (a a' : Acquiring) (r : Result TakenNode OfferFault)
+pub node_rest : (st' : Store) (s : State) (t : Hash) (p : ℕ) (a a' : Acquiring) (r : Result NodeReply OfferFault)
     → get_in hash_cmp s.wanted t ≡ Some a → TakesNode a p r a' → st'.epoch ≡ s.epoch → IsRefusal (node_answer r)
     → KeepsRest s (record (over st' s) { wanted = set_in hash_cmp s.wanted t a' })
 node_rest st' s t p a a' (Ok x) at takes epoch is = absurd is

@@ -8,12 +8,12 @@ use Rattle.ledger_spec.specs.Maps.{ForHash, hash_cmp, get_in, insert_in}
 use Rattle.ledger_spec.specs.Acquiring.{Acquiring, acquiring}
 use Rattle.ledger_spec.proofs.Storing.{in_one}
 use Rattle.missing_walk.specs.declared.Found.{Found}
-use Rattle.acquire_core.specs.declared.replies.CheckReply.{CheckReply as Checked}
-use Rattle.acquire_core.specs.declared.replies.CheckReply.TheVariants as checked
+use Rattle.ledger_spec.specs.declared.replies.CheckReply.{CheckReply}
+use Rattle.ledger_spec.specs.declared.replies.CheckReply.TheVariants as check
 use Rattle.ledger_laws.proofs.SoundForms.{in_head, in_tail, in_nothing}
 use Rattle.ledger_spec.specs.Bytes.{Hash}
 use Rattle.ledger_machine.specs.declared.replies.WantReply.TheVariants as want
-use Rattle.ledger_machine.specs.declared.replies.CheckReply.TheVariants as check
+use Rattle.ledger_spec.specs.declared.replies.CheckReply.TheVariants as check
 use Rattle.ledger_machine.specs.State.{State}
 use Rattle.ledger_machine.specs.Want.{after_want}
 use Rattle.ledger_machine.specs.Check.{after_check}
@@ -98,31 +98,31 @@ own_told s s' own hears = record {
 }
 
 -- a check tells of a ledger that it lists
-pub settled_tells : (s s1 s' : State) (t : Hash) (seq : ℕ) (r : Checked) → Hears s.shaded (told_at t r) s'.shaded
+pub settled_tells : (s s1 s' : State) (t : Hash) (seq : ℕ) (r : CheckReply) → Hears s.shaded (told_at t r) s'.shaded
     → IsAfter (settled s1 t seq r) s' → Tells s s' []
-settled_tells s s1 s' t seq checked.Complete hears after =
+settled_tells s s1 s' t seq check.Complete hears after =
     root_told s s' t
     (inl (subst (λ (m : ForHash ℕ). Contains (keys_of m) t) (sym (ap (λ (x : State). x.listed) after)) (key_in s1.listed t seq))) hears
-settled_tells s s1 s' t seq (checked.Need p places) hears after = none_told s s' hears
-settled_tells s s1 s' t seq (checked.Waiting n) hears after = none_told s s' hears
-settled_tells s s1 s' t seq checked.NoPeer hears after = none_told s s' hears
-settled_tells s s1 s' t seq (checked.SeqDiffers asked found) hears after = none_told s s' hears
-settled_tells s s1 s' t seq checked.ZeroState hears after = none_told s s' hears
-settled_tells s s1 s' t seq (checked.BelowFloor floor) hears after = none_told s s' hears
-settled_tells s s1 s' t seq (checked.Malformed place fault) hears after = none_told s s' hears
-settled_tells s s1 s' t seq checked.NotOpen hears after = none_told s s' hears
+settled_tells s s1 s' t seq (check.Need p places) hears after = none_told s s' hears
+settled_tells s s1 s' t seq (check.Waiting n) hears after = none_told s s' hears
+settled_tells s s1 s' t seq check.NoPeer hears after = none_told s s' hears
+settled_tells s s1 s' t seq (check.SeqDiffers asked found) hears after = none_told s s' hears
+settled_tells s s1 s' t seq check.ZeroState hears after = none_told s s' hears
+settled_tells s s1 s' t seq (check.BelowFloor floor) hears after = none_told s s' hears
+settled_tells s s1 s' t seq (check.Malformed place fault) hears after = none_told s s' hears
+settled_tells s s1 s' t seq check.NotOpen hears after = none_told s s' hears
 
 -- or of one that is open still
-some_open : (o : Option Acquiring) (floor : ℕ) (found : Found) → checked.Complete ≡ judged_by o floor found → (a : Acquiring) × (o ≡ Some a)
+some_open : (o : Option Acquiring) (floor : ℕ) (found : Found) → check.Complete ≡ judged_by o floor found → (a : Acquiring) × (o ≡ Some a)
 some_open None floor found e = cc
 some_open (Some a) floor found e = (a, refl)
 
-pub unsettled_tells : (s s1 s2 : State) (t : Hash) (r : Checked) (floor : ℕ) (found : Found) → r ≡ judged_by
+pub unsettled_tells : (s s1 s2 : State) (t : Hash) (r : CheckReply) (floor : ℕ) (found : Found) → r ≡ judged_by
     (get_in hash_cmp s1.wanted t) floor found
-    → r ≡ checked.Complete → Hears s.shaded (told_at t r) s2.shaded → IsAfter s1 s2 → Tells s s2 []
+    → r ≡ check.Complete → Hears s.shaded (told_at t r) s2.shaded → IsAfter s1 s2 → Tells s s2 []
 unsettled_tells s s1 s2 t r floor found is whole hears after =
     let some = some_open (get_in hash_cmp s1.wanted t) floor found (sym whole ∙ is) in
     root_told s s2 t
     (inr (subst (λ (m : ForHash Acquiring). Contains (keys_of m) t) (sym (ap (λ (x : State). x.wanted) after))
     (found_key s1.wanted t some.0 some.1)))
-    (subst (λ (x : Checked). Hears s.shaded (told_at t x) s2.shaded) whole hears)
+    (subst (λ (x : CheckReply). Hears s.shaded (told_at t x) s2.shaded) whole hears)

@@ -20,16 +20,16 @@ use Rattle.ledger_machine.specs.declared.commands.Command.{Command}
 use Rattle.ledger_machine.specs.declared.commands.Command.TheVariants as command
 use Rattle.ledger_machine.specs.declared.replies.WantReply.{WantReply}
 use Rattle.ledger_machine.specs.declared.replies.WantReply.TheVariants as want
-use Rattle.ledger_machine.specs.declared.replies.CheckReply.{CheckReply}
-use Rattle.ledger_machine.specs.declared.replies.CheckReply.TheVariants as check
-use Rattle.ledger_machine.specs.declared.replies.TickReply.{TickReply}
-use Rattle.ledger_machine.specs.declared.replies.TickReply.TheVariants as tick
+use Rattle.ledger_spec.specs.declared.replies.CheckReply.{CheckReply}
+use Rattle.ledger_spec.specs.declared.replies.CheckReply.TheVariants as check
+use Rattle.ledger_spec.specs.declared.replies.TickReply.{TickReply}
+use Rattle.ledger_spec.specs.declared.replies.TickReply.TheVariants as tick
 use Rattle.ledger_machine.specs.declared.replies.ViewReply.{ViewReply}
 use Rattle.ledger_machine.specs.declared.replies.ViewReply.TheVariants as view
 use Rattle.ledger_machine.specs.declared.replies.EditReply.{EditReply}
 use Rattle.ledger_machine.specs.declared.replies.EditReply.TheVariants as edits
-use Rattle.ledger_machine.specs.declared.replies.BaseReply.TheVariants as base
-use Rattle.ledger_machine.specs.declared.replies.NodeReply.TheVariants as node
+use Rattle.ledger_spec.specs.declared.replies.BaseReply.TheVariants as base
+use Rattle.ledger_spec.specs.declared.replies.NodeReply.TheVariants as node
 use Rattle.ledger_machine.specs.declared.replies.CloseReply.TheVariants as close
 use Rattle.ledger_machine.specs.declared.replies.Reply.{Reply}
 use Rattle.ledger_machine.specs.declared.replies.Reply.TheVariants as says

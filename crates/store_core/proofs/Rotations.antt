@@ -41,7 +41,8 @@ use Rattle.ledger_machine.specs.State.{State, Session, form_in, roots, bases, du
 use Rattle.ledger_machine.specs.Rotation.{begin_given, begin_reply, after_begin, ShadesRoots, Begins, Swapped, WhileTurning}
 use Rattle.ledger_machine.specs.Rotation.{AreShaded}
 use Rattle.ledger_machine.specs.Rotation.{Tells}
-use Rattle.ledger_machine.specs.Steps.{IsAfter, MayBeRefused, Swaps, own_hashes}
+use Rattle.ledger_machine.specs.Commands.{MayBeRefused}
+use Rattle.ledger_machine.specs.Steps.{IsAfter, Swaps, own_hashes}
 use Rattle.ledger_machine.specs.Steps.{Does}
 use Rattle.ledger_laws.proofs.SoundForms.{in_head}
 use Rattle.ledger_laws.proofs.Ways.{root_named, named_reached}

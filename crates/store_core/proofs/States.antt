@@ -9,8 +9,8 @@ use Rattle.ledger_spec.specs.Acquiring.{Acquiring}
 use Rattle.ledger_machine.specs.declared.commands.Command.{Command}
 use Rattle.ledger_machine.specs.declared.commands.Command.TheVariants as command
 use Rattle.ledger_machine.specs.declared.replies.WantReply.{WantReply}
-use Rattle.ledger_machine.specs.declared.replies.PeerReply.{PeerReply}
-use Rattle.ledger_machine.specs.declared.replies.CheckReply.{CheckReply}
+use Rattle.ledger_spec.specs.declared.replies.PeerReply.{PeerReply}
+use Rattle.ledger_spec.specs.declared.replies.CheckReply.{CheckReply}
 use Rattle.ledger_machine.specs.declared.replies.Reply.TheVariants as says
 use Rattle.std.specs.FinMap as finite
 use Rattle.std.specs.FinSet as set
@@ -19,7 +19,8 @@ use Rattle.store_core.specs.Desks.{Desk}
 use Rattle.ledger_machine.specs.Want.{want_reply, after_want}
 use Rattle.ledger_machine.specs.Peer.{peer_reply, after_peer}
 use Rattle.ledger_machine.specs.Check.{check_reply, after_check}
-use Rattle.ledger_machine.specs.Steps.{Refused, IsAfter, own_forms, MayBeRefused}
+use Rattle.ledger_machine.specs.Commands.{MayBeRefused}
+use Rattle.ledger_machine.specs.Steps.{Refused, IsAfter, own_forms}
 use Rattle.ledger_machine.specs.Steps.{Does}
 
 some_injective : {X : Type 0} {x y : X} → Some x ≡ Some y → x ≡ y

@@ -1,9 +1,9 @@
 -- What a core does with what a reader hands in.
 use Rattle.std.specs.Prelude.{◌≡◌, ◌≢◌, ◌⊎◌, ◌≤◌, ℕ, Bool, IsTrue, Result, Err}
 use Rattle.ledger_spec.specs.Bytes.{Half}
-use Rattle.path_proof.specs.declared.reading.Answer.{Answer}
-use Rattle.path_proof.specs.declared.reading.ReadFault.{ReadFault}
-use Rattle.path_proof.specs.declared.reading.ReadFault.TheVariants as faults
+use Rattle.path_proof.specs.declared.answer.Answer.{Answer}
+use Rattle.path_proof.specs.declared.answer.ReadFault.{ReadFault}
+use Rattle.path_proof.specs.declared.answer.ReadFault.TheVariants as faults
 use Rattle.run_io.specs.Bytes.{Rose}
 use Rattle.store_core.specs.Failing.{is_among}
 use Rattle.store_core.specs.Journal.{CoreView, AdvancesFor, Slices, ChecksFew, CopiesFew}

@@ -9,9 +9,9 @@ use Rattle.ledger_spec.specs.Bytes.{Hash, Half}
 use Rattle.ledger_spec.specs.Reads.{Outcome, follow}
 use Rattle.ledger_spec.specs.declared.Kind.{Kind}
 use Rattle.path_proof.specs.Paths.{held_nodes}
-use Rattle.path_proof.specs.declared.reading.Answer.{Answer}
-use Rattle.path_proof.specs.declared.reading.ReadFault.{ReadFault}
-use Rattle.path_proof.specs.declared.reading.ReadFault.TheVariants as faults
+use Rattle.path_proof.specs.declared.answer.Answer.{Answer}
+use Rattle.path_proof.specs.declared.answer.ReadFault.{ReadFault}
+use Rattle.path_proof.specs.declared.answer.ReadFault.TheVariants as faults
 use Rattle.ledger_machine.specs.declared.commands.Command.{Command}
 use Rattle.ledger_machine.specs.declared.commands.Command.TheVariants as command
 use Rattle.ledger_machine.specs.declared.commands.Line.{Line}

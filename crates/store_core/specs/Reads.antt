@@ -6,8 +6,8 @@ use Rattle.shamap_node.specs.declared.Node.{Node}
 use Rattle.ledger_spec.specs.declared.Kind.{Kind}
 use Rattle.ledger_spec.specs.Bytes.{Hash, Half}
 use Rattle.ledger_spec.specs.Reads.{follow}
-use Rattle.path_proof.specs.declared.reading.Answer.{Answer}
-use Rattle.path_proof.specs.declared.reading.ReadFault.{ReadFault}
+use Rattle.path_proof.specs.declared.answer.Answer.{Answer}
+use Rattle.path_proof.specs.declared.answer.ReadFault.{ReadFault}
 use Rattle.store_core.specs.declared.jobs.ReadJob.{ReadJob}
 use Rattle.path_proof.specs.Paths.{held_nodes, outcome_by}
 use Rattle.ledger_machine.specs.declared.commands.Command.{Command}

@@ -28,10 +28,10 @@ ghost use Rattle.store_core.specs.Wanting.{judged_by, found_seq as seq_found, se
 
 use crate::heeding::{take_base, take_node};
 use crate::limits::MOST_WANTED;
-use crate::replies::{base_answer, check_told, node_answer, peer_told};
+use crate::replies::{base_answer, node_answer};
 use crate::rotating::Part;
 use crate::tables::Tables;
-use acquire_core::{Acquire, CheckReply as Checked, TickReply as Ticked};
+use acquire_core::Acquire;
 use half_hash::{Blob, Hash32, Memory, NodeHash, known_half};
 use ledger_machine::{
     BaseReply, CheckReply, Command, NodeReply, PeerReply, Reply, TickReply, WantReply,
@@ -124,7 +124,7 @@ impl<H: NodeHash, Sh: Shelf> Tables<H, Sh> {
             return Ok(PeerReply::NotOpen);
         };
         let reply = acquire.peer(peer)?;
-        Ok(peer_told(reply))
+        Ok(reply)
     }
 
     /// Takes a base reply of a peer: a header, and the roots of its maps where they are given. What is written then is reached from the
@@ -270,11 +270,11 @@ impl<H: NodeHash, Sh: Shelf> Tables<H, Sh> {
         };
         let reply = self.judge(alloc, target, found)?;
         self.settle(target, found_seq(found), &reply)?;
-        Ok(check_told(reply))
+        Ok(reply)
     }
 
     // What an acquisition comes to by what a search found.
-    fn judge(&mut self, alloc: Global, target: &Hash32, found: &Found) -> Result<Checked, Memory>
+    fn judge(&mut self, alloc: Global, target: &Hash32, found: &Found) -> Result<CheckReply, Memory>
         requires { IsFound found.now }
         ensures reply { IfOk result (λ r. r ≡ judged_by (get_in hash_cmp self.old.state.wanted target.now) self.old.state.floor found.now) }
         ensures after { IfOk result (λ _. self.new.state ≡ with_wanted self.old.state target.now
@@ -286,17 +286,17 @@ impl<H: NodeHash, Sh: Shelf> Tables<H, Sh> {
     {
         let floor = self.book.floor();
         let Some(acquire) = self.wanted.get_mut(target) else {
-            return Ok(Checked::NotOpen);
+            return Ok(CheckReply::NotOpen);
         };
         Ok(acquire.check(alloc, found, floor)?)
     }
 
     // Ends what the answer ends: a complete ledger is listed, and one that isn't acceptable is wanted no more.
-    fn settle(&mut self, target: &Hash32, seq: u32, reply: &Checked) -> Result<(), Memory>
+    fn settle(&mut self, target: &Hash32, seq: u32, reply: &CheckReply) -> Result<(), Memory>
         ensures ok { OnOk result (IsAfter (settled self.old.state target.now seq reply.now) self.new.state) }
 
         // only to list a ledger takes memory
-        ensures err { OnErr result ((reply.now ≡ Checked.Complete) × IsAfter self.old.state self.new.state) }
+        ensures err { OnErr result ((reply.now ≡ CheckReply.Complete) × IsAfter self.old.state self.new.state) }
         ensures hears { Hears self.old.state.shaded (told_at target.now reply.now) self.new.state.shaded }
         ensures faults { self.new.faults ≡ self.old.faults }
         ensures gets { self.new.gets ≡ self.old.gets }
@@ -305,11 +305,11 @@ impl<H: NodeHash, Sh: Shelf> Tables<H, Sh> {
         ensures copies { IsTrue Sh.B.tells → backs self.new ≡ backs self.old }
     {
         match reply {
-            Checked::Complete => self.list(target, seq)?,
-            Checked::SeqDiffers { .. }
-            | Checked::ZeroState
-            | Checked::BelowFloor(_)
-            | Checked::Malformed { .. } => self.end(target),
+            CheckReply::Complete => self.list(target, seq)?,
+            CheckReply::SeqDiffers { .. }
+            | CheckReply::ZeroState
+            | CheckReply::BelowFloor(_)
+            | CheckReply::Malformed { .. } => self.end(target),
             _ => {}
         }
         Ok(())
@@ -339,12 +339,12 @@ impl<H: NodeHash, Sh: Shelf> Tables<H, Sh> {
             return TickReply::NotOpen;
         };
         match acquire.tick() {
-            Ticked::Timeout(number) => TickReply::Timeout(number),
-            Ticked::GaveUp(number) => {
+            TickReply::Timeout(number) => TickReply::Timeout(number),
+            TickReply::GaveUp(number) => {
                 self.wanted.remove(target);
                 TickReply::GaveUp(number)
             }
-            Ticked::NotOpen => TickReply::NotOpen,
+            TickReply::NotOpen => TickReply::NotOpen,
         }
     }
 }

@@ -8,7 +8,7 @@ ghost use Rattle.ledger_spec.specs.Forms.{hash_of};
 ghost use Rattle.ledger_spec.specs.Maps.{numbered_cmp, get_in, has_in};
 ghost use Rattle.ledger_spec.specs.declared.Kind.{Kind as the_kind};
 ghost use Rattle.ledger_machine.specs.Limits.{actors};
-ghost use Rattle.ledger_machine.specs.Scripts.{IsInRange};
+ghost use Rattle.ledger_machine.specs.Commands.{IsInRange};
 ghost use Rattle.ledger_machine.specs.Sound.{Sound};
 ghost use Rattle.ledger_machine.specs.State.{form_in, opening};
 ghost use Rattle.ledger_machine.specs.Views.{is_retained as state_retains};

@@ -9,15 +9,16 @@ ghost use Rattle.ledger_spec.specs.Own.{AreStored};
 ghost use Rattle.ledger_spec.specs.Wire.{read_wire};
 ghost use Rattle.rotating_store.specs.Reading.{IsLater};
 ghost use Rattle.acquire_core.specs.Answers.{forms_in, Answers};
-ghost use Rattle.acquire_core.specs.Replies.{said_base, said_node};
-ghost use Rattle.acquire_core.specs.Replies.{base_reply, base_stores, TakesBase, node_reply, node_stores, TakesNode};
+ghost use Rattle.ledger_spec.specs.Replies.{base_given, base_stored, node_given, node_stored};
+ghost use Rattle.acquire_core.specs.Replies.{TakesBase, TakesNode};
 ghost use Rattle.rotating_store.specs.Stores.{nodes_of, Counted};
 ghost use Rattle.online_rotate.specs.Copying.{IsWalking};
 ghost use Rattle.std.specs.Option.{option_copied};
 ghost use Rattle.store_core.specs.Heeds.{Heeds, IsHeeded, AreHeeded};
 
-use acquire_core::{Acquire, BaseReply, NodeReply};
+use acquire_core::Acquire;
 use half_hash::{Hash32, NodeHash};
+use ledger_spec::{BaseReply, NodeReply};
 use nib_path::NodeId;
 use node_backend::{BackFault, Shelf};
 use node_offer::OfferFault;
@@ -39,8 +40,8 @@ pub(crate) fn take_node<H: NodeHash, Sh: Shelf>(
     blob: &[u8],
 ) -> Result<NodeReply, OfferFault>
     ensures answer { IsTrue Sh.B.tells → AreStored H.half (forms_in store.old) → Answers H.half
-        (node_reply H.half (forms_in store.old) acquire.old peer kind id.now blob.now)
-        (node_stores H.half (forms_in store.old) acquire.old peer kind id.now blob.now) store.old (said_node result) store.new }
+        (node_given H.half (forms_in store.old) acquire.old.target acquire.old.peers peer kind id.now blob.now)
+        (node_stored H.half (forms_in store.old) acquire.old.target acquire.old.peers peer kind id.now blob.now) store.old result store.new }
     ensures after { TakesNode acquire.old peer result acquire.new }
     ensures walks { IsTrue Sh.B.tells → AreStored H.half (forms_in store.old) → rotator.old.turning ≡ true
         → Contains rotator.old.shaded acquire.old.target → IsWalking rotator.old.shaded rotator.old.walk store.old
@@ -71,9 +72,11 @@ pub(crate) fn take_base<H: NodeHash, Sh: Shelf>(
     tx: Option<&[u8]>,
 ) -> Result<BaseReply, OfferFault>
     ensures answer { IsTrue Sh.B.tells → AreStored H.half (forms_in store.old) → Answers H.half
-        (base_reply H.half (forms_in store.old) acquire.old peer header.now (option_copied state.entry) (option_copied tx.entry))
-        (base_stores H.half (forms_in store.old) acquire.old peer header.now (option_copied state.entry) (option_copied tx.entry))
-        store.old (said_base result) store.new }
+        (base_given H.half (forms_in store.old) acquire.old.target acquire.old.peers peer header.now (option_copied state.entry)
+        (option_copied tx.entry))
+        (base_stored H.half (forms_in store.old) acquire.old.target acquire.old.peers peer header.now (option_copied state.entry)
+        (option_copied tx.entry))
+        store.old result store.new }
     ensures after { TakesBase acquire.old peer result acquire.new }
     ensures walks { IsTrue Sh.B.tells → AreStored H.half (forms_in store.old) → rotator.old.turning ≡ true
         → acquire.old.target ≡ target.now → Contains rotator.old.shaded target.now

@@ -8,7 +8,7 @@ ghost use Rattle.shamap_node.specs.Nodes.{held};
 ghost use Rattle.ledger_spec.specs.Forms.{hash_of};
 ghost use Rattle.ledger_machine.specs.State.{form_in};
 ghost use Rattle.path_proof.specs.Sources.{Gives};
-ghost use Rattle.ledger_machine.specs.Scripts.{IsBeside, IsInRange};
+ghost use Rattle.ledger_machine.specs.Commands.{IsBeside, IsInRange};
 ghost use Rattle.ledger_machine.specs.Rotation.{Tells};
 ghost use Rattle.ledger_machine.specs.Sound.{Sound};
 ghost use Rattle.ledger_machine.specs.State.{form_in, opening};

@@ -4,7 +4,7 @@ ghost use Rattle.std.specs.FinMap as finite;
 ghost use Rattle.std.specs.Option.{option_copied};
 ghost use Rattle.run_io.specs.Bytes.{Rose};
 ghost use Rattle.shamap_node.specs.Nodes.{held};
-ghost use Rattle.ledger_machine.specs.Scripts.{IsBeside, IsInRange};
+ghost use Rattle.ledger_machine.specs.Commands.{IsBeside, IsInRange};
 ghost use Rattle.ledger_machine.specs.Rotation.{Tells};
 ghost use Rattle.ledger_machine.specs.State.{opening};
 ghost use Rattle.ledger_machine.specs.Steps.{own_hashes};

@@ -10,7 +10,8 @@ use borrow.Author.Tests.{lt-ltb}
 use Rattle.ledger_spec.specs.Bytes.{are_bytes}
 use Rattle.std.proofs.lemmas.List.FromFn.{length-range_with_len, get_or-range_with_len}
 use Rattle.ledger_machine.specs.declared.commands.Line.{Line}
-use Rattle.ledger_machine.specs.Scripts.{Rises, IsInRange}
+use Rattle.ledger_machine.specs.Commands.{IsInRange}
+use Rattle.ledger_machine.specs.Scripts.{Rises}
 use Rattle.script_form.specs.Servable.{WaitsForEarlier}
 use Rattle.swarm_gen.specs.Serving.{AreLines}
 use Rattle.map_changes.proofs.Walking.{range_more}

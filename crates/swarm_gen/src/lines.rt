@@ -9,7 +9,7 @@ ghost use Rattle.swarm_gen.specs.Script.{rotation_lines, acquired, acquirer as a
 ghost use Rattle.swarm_gen.specs.Adding.{Adds, said, ledger_from};
 ghost use Rattle.swarm_gen.specs.Serving.{IsOfLedger};
 ghost use Rattle.ledger_spec.specs.Bytes.{is_nonzero, are_bytes};
-ghost use Rattle.ledger_machine.specs.Scripts.{IsInRange};
+ghost use Rattle.ledger_machine.specs.Commands.{IsInRange};
 ghost use Rattle.script_form.specs.Servable.{AreServable};
 ghost use Rattle.std.specs.List.{All};
 

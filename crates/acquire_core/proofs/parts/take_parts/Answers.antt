@@ -1,6 +1,5 @@
 -- all parts have an outcome, or one that has none stands behind parts that have one
-use Rattle.std.specs.Option.{option_copied, option_map}
-use Rattle.node_offer.specs.Outcomes.{numbered}
+use Rattle.std.specs.Option.{option_copied}
 use Rattle.acquire_core.proofs.Judging.{handed_parts, header_ends, state_ends, tx_ends, all_judged}
 use Rattle.acquire_core.proofs.parts.take_parts.Goals as goal
 
@@ -31,7 +30,7 @@ returns-in_err-tx-clause-answer g c tells all =
     c.from_residual-in_err-tx.ensures.1
     (tx_ends g.H.NodeHash.half c.args.store.now c.args.target.now c.args.header.now (option_copied c.args.state) (option_copied c.args.tx)
     c.in_ok-header.header c.take_header.new.store (c.in_ok-header.ensures.answer tells)
-    (option_map numbered c.in_ok-state.state) c.take_root.new.store (c.in_ok-state.ensures.answer tells filed)
+    c.in_ok-state.state c.take_root.new.store (c.in_ok-state.ensures.answer tells filed)
     c.in_err-tx.field-0.0 c.take_root-2.new.store (c.in_err-tx.ensures.answer tells (c.in_ok-state.ensures.kept tells filed)))
 
 -- each part was judged over what those before it left, so the outcomes are the reply's and its forms are stored in order
@@ -40,5 +39,5 @@ returns-clause-answer g c tells all =
     let filed = c.in_ok-header.ensures.kept tells all in
     all_judged g.H.NodeHash.half c.args.store.now c.args.target.now c.args.header.now (option_copied c.args.state) (option_copied c.args.tx)
     c.in_ok-header.header c.take_header.new.store (c.in_ok-header.ensures.answer tells)
-    (option_map numbered c.in_ok-state.state) c.take_root.new.store (c.in_ok-state.ensures.answer tells filed)
-    (option_map numbered c.in_ok-tx.tx) c.take_root-2.new.store (c.in_ok-tx.ensures.answer tells (c.in_ok-state.ensures.kept tells filed))
+    c.in_ok-state.state c.take_root.new.store (c.in_ok-state.ensures.answer tells filed)
+    c.in_ok-tx.tx c.take_root-2.new.store (c.in_ok-tx.ensures.answer tells (c.in_ok-state.ensures.kept tells filed))

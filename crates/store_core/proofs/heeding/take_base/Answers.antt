@@ -4,7 +4,7 @@ use Rattle.std.specs.Option.{option_copied}
 use Rattle.ledger_spec.specs.Bytes.{Lookup}
 use Rattle.ledger_spec.specs.Own.{AreStored}
 use Rattle.acquire_core.specs.Answers.{forms_in, Answers}
-use Rattle.acquire_core.specs.Replies.{base_reply, base_stores, said_base}
+use Rattle.ledger_spec.specs.Replies.{base_given, base_stored}
 use Rattle.store_core.proofs.Turns.{walking_counted, walking_heeded}
 use Rattle.store_core.proofs.Offered.{answers_counted, counted_nodes}
 use Rattle.store_core.specs.Heeds.{IsHeeded}
@@ -26,16 +26,16 @@ returns-clause-answer g c told stored =
     let same : forms_in c.heed_base.new.store ≡ forms_in c.args.store.now =
     counted_nodes c.args.store.now c.heed_base.new.store (c.heed_base.ensures.store told) in
     answers_counted half
-    (base_reply half (forms_in c.args.store.now) c.args.acquire.now c.args.peer c.args.header.now (option_copied c.args.state)
+    (base_given half (forms_in c.args.store.now) c.args.acquire.now.target c.args.acquire.now.peers c.args.peer c.args.header.now (option_copied c.args.state)
     (option_copied c.args.tx))
-    (base_stores half (forms_in c.args.store.now) c.args.acquire.now c.args.peer c.args.header.now (option_copied c.args.state)
+    (base_stored half (forms_in c.args.store.now) c.args.acquire.now.target c.args.acquire.now.peers c.args.peer c.args.header.now (option_copied c.args.state)
     (option_copied c.args.tx))
-    c.args.store.now c.heed_base.new.store (said_base c.base.result) c.base.new.store (c.heed_base.ensures.store told)
+    c.args.store.now c.heed_base.new.store c.base.result c.base.new.store (c.heed_base.ensures.store told)
     (subst (λ (m : Lookup). Answers half
-    (base_reply half m c.args.acquire.now c.args.peer c.args.header.now (option_copied c.args.state)
+    (base_given half m c.args.acquire.now.target c.args.acquire.now.peers c.args.peer c.args.header.now (option_copied c.args.state)
     (option_copied c.args.tx))
-    (base_stores half m c.args.acquire.now c.args.peer c.args.header.now (option_copied c.args.state)
-    (option_copied c.args.tx)) c.heed_base.new.store (said_base c.base.result) c.base.new.store) same
+    (base_stored half m c.args.acquire.now.target c.args.acquire.now.peers c.args.peer c.args.header.now (option_copied c.args.state)
+    (option_copied c.args.tx)) c.heed_base.new.store c.base.result c.base.new.store) same
     (c.base.ensures.answer told (subst (AreStored half) (sym same) stored)))
 
 -- what was written is shaded, and reached from the target
@@ -45,7 +45,7 @@ returns-clause-walks g c told stored turning is among k =
     base_walks half c.args.rotator.now.shaded c.args.rotator.now c.heed_base.new.rotator c.args.store.now c.base.new.store
     c.args.acquire.now c.args.peer c.args.header.now (option_copied c.args.state) (option_copied c.args.tx)
     (c.heed_base.ensures.heeds told) (subst (Contains c.args.rotator.now.shaded) (sym is) among)
-    (base_reply half (forms_in c.args.store.now) c.args.acquire.now c.args.peer c.args.header.now (option_copied c.args.state)
-    (option_copied c.args.tx)) (said_base c.base.result)
+    (base_given half (forms_in c.args.store.now) c.args.acquire.now.target c.args.acquire.now.peers c.args.peer c.args.header.now (option_copied c.args.state)
+    (option_copied c.args.tx)) c.base.result
     (subst (IsHeeded (forms_in c.args.store.now) c.heed_base.new.rotator) (sym is) (c.in_ok-heed_base.ensures.target told turning))
     (c.in_ok-heed_base.ensures.state told turning) (c.in_ok-heed_base.ensures.tx told turning) (returns-clause-answer g c told stored) k

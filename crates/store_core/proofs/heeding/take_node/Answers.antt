@@ -3,7 +3,7 @@ use Rattle.std.proofs.Common.{◌≡◌, sym, subst}
 use Rattle.ledger_spec.specs.Bytes.{Lookup}
 use Rattle.ledger_spec.specs.Own.{AreStored}
 use Rattle.acquire_core.specs.Answers.{forms_in, Answers}
-use Rattle.acquire_core.specs.Replies.{node_reply, node_stores, said_node}
+use Rattle.ledger_spec.specs.Replies.{node_given, node_stored}
 use Rattle.store_core.proofs.Turns.{walking_counted, walking_heeded}
 use Rattle.store_core.proofs.Offered.{answers_counted, counted_nodes, node_walks}
 use Rattle.store_core.proofs.heeding.take_node.Goals as goal
@@ -23,12 +23,12 @@ returns-clause-answer g c told stored =
     let same : forms_in c.heed_node.new.store ≡ forms_in c.args.store.now =
     counted_nodes c.args.store.now c.heed_node.new.store (c.heed_node.ensures.store told) in
     answers_counted half
-    (node_reply half (forms_in c.args.store.now) c.args.acquire.now c.args.peer c.args.kind c.args.id.now c.args.blob.now)
-    (node_stores half (forms_in c.args.store.now) c.args.acquire.now c.args.peer c.args.kind c.args.id.now c.args.blob.now)
-    c.args.store.now c.heed_node.new.store (said_node c.node.result) c.node.new.store (c.heed_node.ensures.store told)
-    (subst (λ (m : Lookup). Answers half (node_reply half m c.args.acquire.now c.args.peer c.args.kind c.args.id.now c.args.blob.now)
-    (node_stores half m c.args.acquire.now c.args.peer c.args.kind c.args.id.now c.args.blob.now) c.heed_node.new.store
-    (said_node c.node.result) c.node.new.store) same
+    (node_given half (forms_in c.args.store.now) c.args.acquire.now.target c.args.acquire.now.peers c.args.peer c.args.kind c.args.id.now c.args.blob.now)
+    (node_stored half (forms_in c.args.store.now) c.args.acquire.now.target c.args.acquire.now.peers c.args.peer c.args.kind c.args.id.now c.args.blob.now)
+    c.args.store.now c.heed_node.new.store c.node.result c.node.new.store (c.heed_node.ensures.store told)
+    (subst (λ (m : Lookup). Answers half (node_given half m c.args.acquire.now.target c.args.acquire.now.peers c.args.peer c.args.kind c.args.id.now c.args.blob.now)
+    (node_stored half m c.args.acquire.now.target c.args.acquire.now.peers c.args.peer c.args.kind c.args.id.now c.args.blob.now) c.heed_node.new.store
+    c.node.result c.node.new.store) same
     (c.node.ensures.answer told (subst (AreStored half) (sym same) stored)))
 
 -- what was written is shaded, and reached from the target
@@ -36,6 +36,6 @@ pub returns-clause-walks : goal.returns-clause-walks
 returns-clause-walks g c told stored turning among k =
     node_walks g.H.NodeHash.half c.args.rotator.now.shaded c.args.rotator.now c.heed_node.new.rotator c.args.store.now c.node.new.store
     c.args.acquire.now c.args.peer c.args.kind c.args.id.now c.args.blob.now (c.heed_node.ensures.heeds told) among
-    (node_reply g.H.NodeHash.half (forms_in c.args.store.now) c.args.acquire.now c.args.peer c.args.kind c.args.id.now c.args.blob.now)
-    (said_node c.node.result)
+    (node_given g.H.NodeHash.half (forms_in c.args.store.now) c.args.acquire.now.target c.args.acquire.now.peers c.args.peer c.args.kind c.args.id.now c.args.blob.now)
+    c.node.result
     (c.in_ok-heed_node.ensures.heeded told turning) (returns-clause-answer g c told stored) k

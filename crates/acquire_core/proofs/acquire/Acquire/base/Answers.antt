@@ -1,11 +1,10 @@
-use Rattle.std.proofs.Common.{◌≡◌, true, refl, sym, ◌∙◌}
+use Rattle.std.proofs.Common.{◌≡◌, true, sym, ◌∙◌}
 use Rattle.std.specs.Option.{option_copied}
 use Rattle.ledger_spec.specs.Peers.{is_present}
 use Rattle.ledger_spec.specs.Acquiring.{Acquiring}
 use Rattle.acquire_core.specs.Answers.{forms_in}
 use Rattle.acquire_core.specs.Parts.{shown}
-use Rattle.acquire_core.specs.Replies.{said_base}
-use Rattle.acquire_core.proofs.Judging.{handed_as}
+use Rattle.acquire_core.proofs.Judging.{handed}
 use Rattle.acquire_core.proofs.Replying.{base_answers, base_refused}
 use Rattle.acquire_core.proofs.Wanting.{stays}
 use Rattle.acquire_core.proofs.acquire.Acquire.base.Goals as goal
@@ -24,8 +23,8 @@ returns-in_err-parts-clause-answer g c tells all =
     let here : is_present c.self.inside.peers c.args.peer ≡ true = sym c.has.ensures ∙ c.if-not-has.false in
     let a : Acquiring = record { target = c.self.inside.target; seq = c.self.inside.seq; peers = c.self.inside.peers } in
     rw (← c.self.view_is)
-    (handed_as g.H.NodeHash.half _ _ c.args.store.now c.take_parts.new.store said_base c.from_residual.result c.in_err-parts.field-0.0
-    (λ k. refl) c.from_residual.ensures.1
+    (handed g.H.NodeHash.half _ _ c.args.store.now c.take_parts.new.store c.from_residual.result c.in_err-parts.field-0.0
+    c.from_residual.ensures.1
     (base_refused g.H.NodeHash.half (forms_in c.args.store.now) c.args.store.now c.take_parts.new.store a c.args.peer here
     c.args.header.now (option_copied c.args.state) (option_copied c.args.tx) c.in_err-parts.field-0.0
     (c.in_err-parts.ensures.answer tells all)))

@@ -2,7 +2,6 @@
 use Rattle.std.proofs.Common.{◌≡◌, true, sym, ◌∙◌}
 use Rattle.ledger_spec.specs.Peers.{is_present}
 use Rattle.ledger_spec.specs.Acquiring.{Acquiring}
-use Rattle.node_offer.specs.Outcomes.{numbered}
 use Rattle.acquire_core.specs.Answers.{forms_in}
 use Rattle.acquire_core.proofs.Replying.{node_answers}
 use Rattle.acquire_core.proofs.acquire.Acquire.node.Goals as goal
@@ -13,4 +12,4 @@ returns-clause-answer g c tells all =
     let a : Acquiring = record { target = c.self.inside.target; seq = c.self.inside.seq; peers = c.self.inside.peers } in
     rw (← c.self.view_is)
     (node_answers g.H.NodeHash.half (forms_in c.args.store.now) c.args.store.now c.take_node.new.store a c.args.peer here c.args.kind
-    c.args.id.now c.args.blob.now (numbered c.in_ok-offered.offered) (c.in_ok-offered.ensures.answer tells all))
+    c.args.id.now c.args.blob.now c.in_ok-offered.offered (c.in_ok-offered.ensures.answer tells all))

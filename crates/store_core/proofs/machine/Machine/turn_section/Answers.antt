@@ -3,7 +3,8 @@ use Rattle.std.proofs.Common.{◌≡◌, [], List, Ok, map, sym, ap, subst}
 use Rattle.ledger_spec.specs.Forms.{Held}
 use Rattle.shamap_node.specs.Nodes.{held}
 use Rattle.ledger_machine.specs.declared.commands.Command.TheVariants as command
-use Rattle.ledger_machine.specs.Steps.{Step, MayBeRefused}
+use Rattle.ledger_machine.specs.Commands.{MayBeRefused}
+use Rattle.ledger_machine.specs.Steps.{Step}
 use Rattle.ledger_machine.specs.State.{State}
 use Rattle.store_core.proofs.Rotations.{does_unread, same_told}
 use Rattle.store_core.proofs.Sections.{copied_few}

@@ -8,7 +8,7 @@ use Rattle.ledger_machine.specs.declared.commands.Command.{Command}
 use Rattle.ledger_machine.specs.declared.commands.Command.TheVariants as command
 use Rattle.ledger_machine.specs.Steps.{Does}
 use Rattle.acquire_core.specs.Answers.{forms_in}
-use Rattle.acquire_core.specs.Replies as acquire
+use Rattle.ledger_spec.specs.Replies as replies
 use Rattle.rotating_store.specs.Stores.{Store}
 use Rattle.store_core.specs.Desks.{Desk, over, state_of, KeepsRest}
 use Rattle.store_core.specs.Wanting.{AreOpen, base_answer}
@@ -41,9 +41,9 @@ invariant_of-self-2 g c =
           (λ told.
           let st : Store = c.self.inside.store in
           let is : IsOver st c.args.self.now.state = rw (← c.self.view_is) (record { nodes = refl; born = refl; epoch = refl }) in
-          answers_forms half (acquire.base_reply half (forms_in st) a c.args.peer c.args.header.now c.args.state.now c.args.tx.now)
-          (acquire.base_stores half (forms_in st) a c.args.peer c.args.header.now c.args.state.now c.args.tx.now) st
-          (acquire.said_base c.take_base-taken.result) c.take_base-taken.new.store
+          answers_forms half (replies.base_given half (forms_in st) a.target a.peers c.args.peer c.args.header.now c.args.state.now c.args.tx.now)
+          (replies.base_stored half (forms_in st) a.target a.peers c.args.peer c.args.header.now c.args.state.now c.args.tx.now) st
+          c.take_base-taken.result c.take_base-taken.new.store
           (same_parts half st c.take_base-taken.new.store a c.args.peer c.take_base-taken.result c.args.header.now _ c.args.state.now _
           c.args.tx.now _
           c.bytes.ensures c.lent-state.ensures c.lent-tx.ensures
@@ -123,9 +123,9 @@ returns-clause-stays g c =
       copies = λ told. stored_backs half c.self.inside.store c.take_base-taken.new.store (
           let st : Store = c.self.inside.store in
           let is : IsOver st c.args.self.now.state = rw (← c.self.view_is) (record { nodes = refl; born = refl; epoch = refl }) in
-          answers_forms half (acquire.base_reply half (forms_in st) a c.args.peer c.args.header.now c.args.state.now c.args.tx.now)
-          (acquire.base_stores half (forms_in st) a c.args.peer c.args.header.now c.args.state.now c.args.tx.now) st
-          (acquire.said_base c.take_base-taken.result) c.take_base-taken.new.store
+          answers_forms half (replies.base_given half (forms_in st) a.target a.peers c.args.peer c.args.header.now c.args.state.now c.args.tx.now)
+          (replies.base_stored half (forms_in st) a.target a.peers c.args.peer c.args.header.now c.args.state.now c.args.tx.now) st
+          c.take_base-taken.result c.take_base-taken.new.store
           (same_parts half st c.take_base-taken.new.store a c.args.peer c.take_base-taken.result c.args.header.now _ c.args.state.now _
           c.args.tx.now _
           c.bytes.ensures c.lent-state.ensures c.lent-tx.ensures

@@ -7,7 +7,7 @@ use Rattle.missing_walk.specs.Sees.{Finds}
 use Rattle.ledger_machine.specs.State.{State, form_in, stored_seq}
 use Rattle.ledger_machine.specs.Check.{after_check}
 use Rattle.ledger_machine.specs.Steps.{IsAfter}
-use Rattle.store_core.specs.Wanting.{check_told, settled, told_at}
+use Rattle.store_core.specs.Wanting.{settled, told_at}
 use Rattle.store_core.proofs.States.{on_err}
 use Rattle.store_core.proofs.Checks.{found_here}
 use Rattle.store_core.proofs.Founds.{check_found, check_settled, check_unsettled, found_seq_is}
@@ -30,7 +30,7 @@ returns-clause-reply g c told =
     let finds : Finds half (form_in s) t c.in-Some.found = (found_here g.H.NodeHash.half g.Sh.B.Backend.tells c.args.self.now.state c.args.target.now c.args.found.now c.in-Some.found
     c.requires.found
     (rw (← c.self.view_is) (sym c.contains_key.ensures ∙ c.if-not-contains_key.false)) c.in-Some.is).1 told in
-    c.check_told.ensures ∙ ap check_told c.in_ok-reply.ensures.reply ∙ check_found half s t c.in-Some.found finds
+    c.in_ok-reply.ensures.reply ∙ check_found half s t c.in-Some.found finds
 
 -- the state changes as the reply says, with the sequence of the stored header
 pub returns-clause-after : goal.returns-clause-after
@@ -45,8 +45,7 @@ returns-clause-after g c told =
     let is = check_settled s t s.floor c.in-Some.found c.judge.new.self.state given c.found_seq.result c.in_ok-reply.reply
     c.in_ok-reply.ensures.reply
     c.in_ok-reply.ensures.after refl
-    ∙ ap (λ n. after_check s t n (check_told c.in_ok-reply.reply)) (c.found_seq.ensures ∙ found_seq_is half s t c.in-Some.found finds)
-    ∙ ap (after_check s t (stored_seq s t)) (sym c.check_told.ensures) in
+    ∙ ap (λ n. after_check s t n c.in_ok-reply.reply) (c.found_seq.ensures ∙ found_seq_is half s t c.in-Some.found finds) in
     subst (λ (x : State). IsAfter x c.settle.new.self.state) is c.in_ok-settle.ensures.ok
 
 -- only to list a complete ledger wants memory, and its acquisition stayed as it was

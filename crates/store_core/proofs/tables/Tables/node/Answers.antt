@@ -9,7 +9,7 @@ use Rattle.ledger_machine.specs.declared.commands.Command.{Command}
 use Rattle.ledger_machine.specs.declared.commands.Command.TheVariants as command
 use Rattle.ledger_machine.specs.Steps.{Does}
 use Rattle.acquire_core.specs.Answers.{forms_in}
-use Rattle.acquire_core.specs.Replies as acquire
+use Rattle.ledger_spec.specs.Replies as replies
 use Rattle.rotating_store.specs.Stores.{Store}
 use Rattle.store_core.specs.Desks.{Desk, over, state_of, KeepsRest}
 use Rattle.store_core.specs.Wanting.{AreOpen, node_answer}
@@ -41,9 +41,9 @@ invariant_of-self-2 g c =
           (λ told.
           let st : Store = c.self.inside.store in
           let is : IsOver st c.args.self.now.state = rw (← c.self.view_is) (record { nodes = refl; born = refl; epoch = refl }) in
-          answers_forms half (acquire.node_reply half (forms_in st) a c.args.peer c.args.kind c.args.id.now c.args.blob.now)
-          (acquire.node_stores half (forms_in st) a c.args.peer c.args.kind c.args.id.now c.args.blob.now) st
-          (acquire.said_node c.take_node-taken.result) c.take_node-taken.new.store
+          answers_forms half (replies.node_given half (forms_in st) a.target a.peers c.args.peer c.args.kind c.args.id.now c.args.blob.now)
+          (replies.node_stored half (forms_in st) a.target a.peers c.args.peer c.args.kind c.args.id.now c.args.blob.now) st
+          c.take_node-taken.result c.take_node-taken.new.store
           (same_blob half st c.take_node-taken.new.store a c.args.peer c.args.kind c.args.id.now c.take_node-taken.result c.args.blob.now _
           c.bytes.ensures (c.take_node-taken.ensures.answer told (filed_over half st c.args.self.now.state is (c.requires.filed told)))))
           (λ told turning.
@@ -122,9 +122,9 @@ returns-clause-stays g c =
       copies = λ told. stored_backs half c.self.inside.store c.take_node-taken.new.store (
           let st : Store = c.self.inside.store in
           let is : IsOver st c.args.self.now.state = rw (← c.self.view_is) (record { nodes = refl; born = refl; epoch = refl }) in
-          answers_forms half (acquire.node_reply half (forms_in st) a c.args.peer c.args.kind c.args.id.now c.args.blob.now)
-          (acquire.node_stores half (forms_in st) a c.args.peer c.args.kind c.args.id.now c.args.blob.now) st
-          (acquire.said_node c.take_node-taken.result) c.take_node-taken.new.store
+          answers_forms half (replies.node_given half (forms_in st) a.target a.peers c.args.peer c.args.kind c.args.id.now c.args.blob.now)
+          (replies.node_stored half (forms_in st) a.target a.peers c.args.peer c.args.kind c.args.id.now c.args.blob.now) st
+          c.take_node-taken.result c.take_node-taken.new.store
           (same_blob half st c.take_node-taken.new.store a c.args.peer c.args.kind c.args.id.now c.take_node-taken.result c.args.blob.now _
           c.bytes.ensures (c.take_node-taken.ensures.answer told (filed_over half st c.args.self.now.state is (c.requires.filed told))))
           );

@@ -1,15 +1,15 @@
-//! What an acquisition answers. `NotOpen` is for the caller, that knows which acquisitions are open: no call of this crate answers it. A
-//! fault of the store, a clash and want of memory are no replies: the calls end with them as errors.
+//! What is answered to a peer's command, and to a check. `NotOpen` is for the machine, that knows which acquisitions are open. A fault of
+//! the store, a clash and want of memory are no replies of these.
 
-use ledger_spec::{HeadOffered, Place, Places, ShapeFault};
-use node_offer::Offered;
+use crate::{HeadOffered, Offered, Place, Places};
 
 /// What became of a peer that joins.
-#[derive(Clone, Copy, Debug, PartialEq, Eq)]
+#[derive(Drop)]
 pub enum PeerReply {
     Added,
     /// It was added before; perhaps it was dropped since.
     Known,
+    /// No acquisition is open under the target.
     NotOpen,
 }
 
@@ -24,6 +24,7 @@ pub enum BaseReply {
     },
     /// The peer isn't present.
     Unasked,
+    /// No acquisition is open under the target.
     NotOpen,
 }
 
@@ -33,6 +34,7 @@ pub enum NodeReply {
     One(Offered),
     /// The peer isn't present.
     Unasked,
+    /// No acquisition is open under the target.
     NotOpen,
 }
 
@@ -47,20 +49,23 @@ pub enum CheckReply {
     Waiting(usize),
     /// Places are missing, and no peer is present.
     NoPeer,
+    /// The header has another sequence than the one that was asked for.
     SeqDiffers { asked: u32, found: u32 },
     /// The header has no state map.
     ZeroState,
     /// The header's sequence is below this floor.
     BelowFloor(u32),
-    /// What is stored breaks this rule at this place.
-    Malformed { place: Place, rule: ShapeFault },
+    /// What is stored breaks the rule of this number at this place.
+    Malformed { place: Place, rule: u8 },
+    /// No acquisition is open under the target.
     NotOpen,
 }
 
 /// What comes of a tick: its number, from 1.
-#[derive(Clone, Copy, Debug, PartialEq, Eq)]
+#[derive(Drop)]
 pub enum TickReply {
     Timeout(u8),
     GaveUp(u8),
+    /// No acquisition is open under the target.
     NotOpen,
 }
