@@ -1,5 +1,6 @@
 -- The read that a line asks for, and what is done for one that a reader hands in.
-use Rattle.std.proofs.Common.{◌≡◌, ◌≢◌, inl, inr, ℕ, Bool, true, false, IsTrue, List, [], ◌∷◌, Option, None, Some, IfSome, IsSome, refl, sym, ap}
+use Rattle.std.proofs.Common.{◌≡◌, ◌≢◌, inl, inr, ℕ, Bool, true, false, IsTrue, List, [], ◌∷◌, Option, None, Some, IfSome, IsSome, refl}
+use Rattle.std.proofs.Common.{sym, ap}
 use Rattle.std.proofs.Common.{◌∙◌, subst, arith, ◌++◌, ◌||◌, if◌then◌else◌, Result, Ok, Err}
 use Rattle.std.specs.Prelude.{◌==◌}
 use Rattle.std.proofs.lemmas.Bool.{false≢true}
@@ -27,7 +28,8 @@ use Rattle.ledger_machine.specs.State.{State}
 use Rattle.ledger_machine.specs.Commands.{MayBeRefused}
 use Rattle.node_backend.specs.declared.back.BackFault.TheVariants as back
 use Rattle.store_core.specs.Desks.{Desk}
-use Rattle.store_core.specs.Halls.{AreViews, IsQuiet, Serves, root_by}
+use Rattle.store_core.specs.Halls.{AreViews, IsQuiet, root_by}
+use Rattle.store_core.specs.Serving.{Serves}
 use Rattle.store_core.specs.Jobs.{job_for, job_in, free_line, if_free, IsTaken, IfSays, TakesIn}
 use Rattle.store_core.specs.Reads.{IsReplied}
 use Rattle.store_core.specs.Telling.{AreTold}
@@ -103,10 +105,12 @@ module _ (half : Half) (told : Bool) (Cause : Type 0) (d : Desk) (views : ForAct
         step = λ t. step_got half d.state a get_of.view job.kind job.key job.root by.0 (held_nodes used)
             (sym (roots_same d.state views job.kind (a, get_of.view) (keeps t)) ∙ get_of.root) by.2 (roots t);
         told = roots;
-        refused = λ no. absurd no;
-        grows = record { later = omega arith; few = omega arith; ages = omega arith };
-        slices = refl;
-        fault = λ e. absurd (let no : says.Get by.0 ≡ says.Fault = e in cc);
+        leaves = record {
+          refused = λ no. absurd no;
+          grows = record { later = omega arith; few = omega arith; ages = omega arith };
+          slices = refl;
+          fault = λ e. absurd (let no : says.Get by.0 ≡ says.Fault = e in cc);
+        };
       }))
 
   -- a fault that was handed in, for its own cause
@@ -183,7 +187,8 @@ module _ (roots : Kind → ℕ × ℕ → Option Hash) (lines : List Line) (jour
   blocked_job blocked = none_from (job_in roots lines journal a) (λ j. blocked_jobless j blocked)
 
 -- what is taken stands in the entry that is added
-pub takes_in : (half : Half) (job : ReadJob) (got : Result Answer ReadFault) (journal new : List Entry) (e : Entry) → new ≡ journal ++ e ∷ []
+pub takes_in : (half : Half) (job : ReadJob) (got : Result Answer ReadFault) (journal new : List Entry) (e : Entry) → new ≡ journal ++ e ∷
+    []
     → IfSays half job got (λ nodes o. IsTaken nodes o e.reply e.used.items) → TakesIn half job got journal new
 takes_in half job (Ok answer) journal new e is takes = λ o says. (e, is, takes o says)
 takes_in half job (Err why) journal new e is takes = tt

@@ -26,10 +26,20 @@ use Rattle.ledger_machine.specs.State.{State, Session, form_in, roots, bases, wi
 use Rattle.ledger_machine.specs.Steps.{IsAfter, own_hashes}
 use Rattle.open_sessions.specs.Edited.{sessions_in}
 use Rattle.store_core.specs.Machines.{told_forms, with_open, KeepsDrafts}
-use Rattle.store_core.specs.Desks.{Desk}
-use Rattle.store_core.specs.Telling.{IsSteady, TellsRoot, AreTold, BeginsBy, AfterSwap}
-use Rattle.store_core.proofs.Machines.{keeps_same}
+use Rattle.store_core.specs.Desks.{Desk, KeepsRest}
+use Rattle.store_core.specs.Telling.{IsSteady, TellsRoot, AreTold, BeginsBy, AfterSwap, CopiesBy, CountsSlice}
+use Rattle.copy_walk.specs.declared.walk.Left.{Left}
+use Rattle.ledger_searches.specs.declared.searches.Searches.{Searches}
+use Rattle.ledger_searches.specs.Hunting.{hunt_of}
+use Rattle.missing_walk.specs.declared.fault.SearchFault.{SearchFault}
+use Rattle.store_core.specs.Checking.{IsSought, LeavesSearch}
+use Rattle.store_core.specs.Serving.{Seeks}
+use Rattle.store_core.specs.declared.acquiring.Sought.{Sought}
+use Rattle.store_core.specs.declared.acquiring.Sought.TheVariants as sought
+use Rattle.store_core.specs.declared.rotating.Part.{Part}
+use Rattle.store_core.proofs.Machines.{keeps_same, reads_beside}
 use Rattle.store_core.proofs.Rotations.{open_kept, open_swapped}
+use Rattle.store_core.proofs.Sections.{open_rest}
 use Rattle.store_core.proofs.Roots.{listed_among, viewed_among, wanted_among, each_stands}
 
 pub beside_steady : (c : Command) → IsBeside c → IsSteady c
@@ -129,3 +139,63 @@ module _ (half : Half) (tells : Bool) (d d' : Desk) (drafts : ForActor Draft) wh
       → IfOk r (λ x. AfterSwap (with_open half tells d.state drafts) x (with_open half tells d'.state drafts))
   swap_after (Ok x) law told filed all kept ok = open_swapped half law tells d.state d'.state drafts told filed all kept x ok
   swap_after (Err e) law told filed all kept ok = tt
+
+-- where a call is refused the state beside the sessions stays as the machine's does
+pub err_open : {X E : Type 0} (half : Half) (tells : Bool) (s s' : State) (drafts : ForActor Draft) (r : Result X E) → OnErr r (s' ≡ s)
+    → OnErr r (with_open half tells s' drafts ≡ with_open half tells s drafts)
+err_open half tells s s' drafts (Ok x) same = tt
+err_open half tells s s' drafts (Err e) same = ap (λ (x : State). with_open half tells x drafts) same
+
+pub kept_open : {X E : Type 0} (half : Half) (tells : Bool) (s s' : State) (drafts : ForActor Draft) (r : Result X E)
+    → (IsTrue tells → OnErr r (s' ≡ s)) → OnErr r (KeepsRest s s')
+    → OnErr r (KeepsRest (with_open half tells s drafts) (with_open half tells s' drafts))
+kept_open half tells s s' drafts (Ok x) same rest = tt
+kept_open half tells s s' drafts (Err e) same rest = open_rest half tells s s' drafts same rest
+
+-- ---- what contracts see of the machine beside the sessions
+abbrev opened : Half → Bool → Desk → ForActor Draft → Desk
+opened half tells d drafts = record d { state = with_open half tells d.state drafts }
+
+-- what a command copies
+pub copies_open : (half : Half) (tells : Bool) (d d' : Desk) (drafts : ForActor Draft) (c : Command) → CopiesBy c d d'
+    → CopiesBy c (opened half tells d drafts) (opened half tells d' drafts)
+copies_open half tells d d' drafts command.Swap copies = copies
+copies_open half tells d d' drafts c copies = copies
+
+-- how many slices left something
+pub counts_open : (half : Half) (tells : Bool) (d d' : Desk) (drafts : ForActor Draft) (r : Result Left BackFault) → CountsSlice r d d'
+    → CountsSlice r (opened half tells d drafts) (opened half tells d' drafts)
+counts_open half tells d d' drafts (Ok l) counts = counts
+counts_open half tells d d' drafts (Err e) counts = counts
+
+-- what a search comes to
+module _ (half : Half) (tells : Bool) (d d' : Desk) (drafts : ForActor Draft) (a : ℕ) (t : Hash) (part : Part) (x x' : Searches) where
+  sought_open : (r : Result Sought SearchFault) → IfOk r (IsSought half tells d'.state t part)
+      → IfOk r (IsSought half tells (with_open half tells d'.state drafts) t part)
+  sought_open (Ok (sought.Ended found)) is = is
+  sought_open (Ok sought.More) is = is
+  sought_open (Err e) is = tt
+
+  leaves_open : (r : Result Sought SearchFault)
+      → IfOk r (LeavesSearch half d.state t (hunt_of x.hunts.items a) x.marks (hunt_of x'.hunts.items a) x'.marks)
+      → IfOk r (LeavesSearch half (with_open half tells d.state drafts) t (hunt_of x.hunts.items a) x.marks (hunt_of x'.hunts.items a)
+      x'.marks)
+  leaves_open (Ok (sought.Ended found)) leaves = leaves
+  leaves_open (Ok sought.More) leaves = record { open_still = leaves.open_still; goes = leaves.goes; unmarked = leaves.unmarked }
+  leaves_open (Err e) leaves = tt
+
+  pub seeks_open : (r : Result Sought SearchFault) → Seeks half tells d a t part x r x' d'
+      → Seeks half tells (opened half tells d drafts) a t part x r x' (opened half tells d' drafts)
+  seeks_open r seeks = record {
+    found = sought_open r seeks.found;
+    leaves = λ told. leaves_open r (seeks.leaves told);
+    first = seeks.first;
+    shares = record {
+      kept = record { paired = seeks.shares.kept.paired; rule = seeks.shares.kept.rule };
+      generation = seeks.shares.generation;
+      others = seeks.shares.others;
+      few = seeks.shares.few;
+    };
+    reads = reads_beside half tells drafts d d' seeks.reads;
+    fault = seeks.fault;
+  }

@@ -1,5 +1,5 @@
 -- Changes of open sessions are the machine's rows.
-use Rattle.std.proofs.Common.{◌≡◌, ℕ, Bool, true, false, IsTrue, is_some, Option, Result, Ok, Err, IfOk, sym, ap, ◌∙◌, subst}
+use Rattle.std.proofs.Common.{◌≡◌, ℕ, Bool, true, false, IsTrue, is_some, Option, Result, Ok, Err, IfOk, IfErr, sym, ap, ◌∙◌, subst}
 use Rattle.std.specs.Option.{unwrap_or}
 use Rattle.std.specs.Result.{OnErr}
 use Rattle.std.proofs.lemmas.Bool.{false≢true}
@@ -14,7 +14,11 @@ use Rattle.open_sessions.specs.Changed.{Changed}
 use Rattle.open_sessions.specs.Rows.{AllKept, del_said}
 use Rattle.open_sessions.proofs.Rows.{put_gives, tx_gives, del_gives}
 use Rattle.store_core.specs.Machines.{with_open, KeepsDrafts}
-use Rattle.store_core.specs.Desks.{Desk, OnlyReads, Stays}
+use Rattle.node_backend.specs.declared.back.BackFault.{BackFault}
+use Rattle.node_backend.specs.declared.back.BackFault.TheVariants as back
+use Rattle.run_io.specs.Bytes.{Rose}
+use Rattle.store_core.specs.Desks.{Desk, KeepsRest, LooksUp, OnlyReads, Stays}
+use Rattle.store_core.proofs.Sections.{open_rest, reads_keep}
 
 -- one of two facts of an answer
 pub ok_first : {X E : Type 0} (P Q : X → Type 0) (r : Result X E) → IfOk r (λ x. P x × Q x) → IfOk r P
@@ -69,6 +73,26 @@ reads_stays half tells d d' old new read = record {
 pub reads_told : (half : Half) (tells : Bool) (d d' : Desk) (old new : ForActor Draft) → OnlyReads tells d d'
     → (with_open half tells d'.state new).shaded ≡ (with_open half tells d.state old).shaded
 reads_told half tells d d' old new read = ap (λ (s : State). s.shaded) read.tables
+
+-- so a session's command looks something up in the store
+pub looks_beside : {X : Type 0} (half : Half) (tells : Bool) (d d' : Desk) (old new : ForActor Draft) (r : Result X BackFault)
+    → OnErr r (new ≡ old) → OnlyReads tells d d' → IfErr r (λ e. e ≡ back.Fault → Rose d.faults d'.faults)
+    → LooksUp tells (record d { state = with_open half tells d.state old }) r (record d' { state = with_open half tells d'.state new })
+looks_beside half tells d d' old new (Ok x) err reads fault = record {
+  err = λ told. tt;
+  kept = tt;
+  told = reads_told half tells d d' old new reads;
+  stays = reads_stays half tells d d' old new reads;
+  fault = tt;
+}
+looks_beside half tells d d' old new (Err e) err reads fault = record {
+  err = λ told. ap (λ (s : State). with_open half tells s new) (reads.state told) ∙ ap (with_open half tells d.state) err;
+  kept = subst (λ (ds : ForActor Draft). KeepsRest (with_open half tells d.state old) (with_open half tells d'.state ds)) (sym err)
+      (open_rest half tells d.state d'.state old reads.state (reads_keep tells d d' reads).rest);
+  told = reads_told half tells d d' old new reads;
+  stays = reads_stays half tells d d' old new reads;
+  fault = fault;
+}
 
 module _ (half : Half) (tells : Bool) (s s' : State) (old new : ForActor Draft) (x : ℕ × ℕ) where
   -- where nothing was changed, the state is as before

@@ -55,7 +55,7 @@ tells_over tells half st s told is all = record {
 }
 
 -- where nothing is found
-clean : (half : Half) (nodes : Lookup) (t : Hash) (f : Found) → Finds half nodes t f → findings half nodes t ≡ [] → IsClean f
+pub clean : (half : Half) (nodes : Lookup) (t : Hash) (f : Found) → Finds half nodes t f → findings half nodes t ≡ [] → IsClean f
 clean half nodes t f finds none = record {
   missing = finds.missing ∙ ap (λ (fs : List Finding). filter_map missing_of (up_to 256 fs)) none;
   broken = finds.broken ∙ ap (λ (fs : List Finding). first_broken (up_to 256 fs)) none;
@@ -65,7 +65,8 @@ clean half nodes t f finds none = record {
 unfound : (half : Half) (s s' : State) (actor : ℕ) (t : Hash) → IsAfter s s' → Refused half s actor (command.Check t) s'
 unfound half s s' actor t after = record { forms = []; own = λ form i. absurd (in_nothing i); same = after }
 
-pub does_unchecked : (half : Half) (s s' : State) (actor : ℕ) (t : Hash) → IsAfter s s' → Does half s actor (command.Check t) says.Memory [] s'
+pub does_unchecked : (half : Half) (s s' : State) (actor : ℕ) (t : Hash) → IsAfter s s' → Does half s actor (command.Check t) says.Memory
+    [] s'
 does_unchecked half s s' actor t after = record { outcome = (tt, unfound half s s' actor t after); uses = refl }
 
 pub does_unfound : (half : Half) (s s' : State) (actor : ℕ) (t : Hash) (e : SearchFault) → IsAfter s s'
@@ -80,7 +81,8 @@ others_same a x x' same =
     ∙ ap (λ (hs : List (Option Hunt)). slice_set x.hunts.items a (hunt_of hs a)) (sym same)
 
 -- what a slice of the search leaves, and what one that is run to its end
-module _ (half : Half) (told : Bool) (s : State) (a : ℕ) (t : Hash) (part : Part) (x : Searches) (gets0 gets : ℕ) (x' : Searches) (gets' : ℕ)
+module _ (half : Half) (told : Bool) (s : State) (a : ℕ) (t : Hash) (part : Part) (x : Searches) (gets0 gets : ℕ) (x' : Searches) (gets' :
+    ℕ)
     (same : gets0 ≡ gets) (paired : IsPaired x') (generation : x'.marks.generation ≡ x.marks.generation)
     (rule : IsTrue told → AreTrueOf half (form_in s) x') where
   pub slice_shares : LeavesOthers a x x' → IsRunWhole x.marks.generation (hunt_of x.hunts.items a) t ⊎ (gets' ≤ gets0 + most_asked)
@@ -113,7 +115,8 @@ module _ (half : Half) (told : Bool) (s s' : State) (t : Hash) (same : IsTrue to
   sought_on part (Some f) cut known finds = found_on f known finds
 
 -- what is found of a ledger whose acquisition is open
-pub found_here : (half : Half) (told : Bool) (s : State) (t : Hash) (o : Option Found) (f : Found) → HasFound half told s (command.Check t) o
+pub found_here : (half : Half) (told : Bool) (s : State) (t : Hash) (o : Option Found) (f : Found) → HasFound half told s (command.Check
+    t) o
     → IsOpen s t → o ≡ Some f → IsFound f × (IsTrue told → Finds half (form_in s) t f)
 found_here half told s t o f has opened is =
     subst (λ (p : Option Found). IsSomeAnd p (λ g. IsFound g × (IsTrue told → Finds half (form_in s) t g))) is (has opened)
@@ -235,7 +238,8 @@ module _ (half : Half) (told : Bool) (s s' : State) (a : ℕ) (c : Command) (use
 
 -- behind the end of its search a check has left the same marks
 module _ (half : Half) (s : State) (a : ℕ) (x' x'' : Searches) where
-  no_swap : (t : Hash) (epoch : ℕ) (s' : State) (used : List Held) → Step half s a (command.Check t) (says.Swap (swaps.Swapped epoch)) used s' → ⊥
+  no_swap : (t : Hash) (epoch : ℕ) (s' : State) (used : List Held) → Step half s a (command.Check t) (says.Swap (swaps.Swapped epoch))
+      used s' → ⊥
   no_swap t epoch s' used step = cc (step.outcome.says)
 
   marks_on : (t : Hash) (reply : Reply) (s' : State) (used : List Held) → Step half s a (command.Check t) reply used s'

@@ -75,7 +75,8 @@ module _ (half : Half) (job : ReadJob) (got : Result Answer ReadFault) where
       at got by (subst (λ (j : ReadJob). TakesIn half j h.got old new) same takes)
     where
       at : (r : Result Answer ReadFault) → IsJudged r h.got → TakesIn half job h.got old new → TakesIn half job r old new
-      at (Ok a) by takes = subst (λ (us : List (Arc Node Global)). (o : Outcome) → follow half job.kind job.root job.key (held_nodes us) ≡ Some o
+      at (Ok a) by takes = subst (λ (us : List (Arc Node Global)). (o : Outcome) → follow half job.kind job.root job.key (held_nodes us) ≡
+          Some o
           → (e : Entry) × (new ≡ old ++ e ∷ []) × IsTaken us o e.reply e.used.items) by.2
           (subst (λ (r : Result Answer ReadFault). TakesIn half job r old new) by.1 takes)
       at (Err why) by takes = tt

@@ -89,27 +89,7 @@ faults_push (x ∷ es) e = omega (arith, faults_push es e)
 
 fault_or_none : (r : Reply) → (r ≡ says.Fault) ⊎ (fault_count r ≡ 0)
 fault_or_none says.Fault = inl refl
-fault_or_none says.Memory = inr refl
-fault_or_none (says.Clash h o n) = inr refl
-fault_or_none (says.ZeroHash f) = inr refl
-fault_or_none (says.Want r) = inr refl
-fault_or_none (says.Peer r) = inr refl
-fault_or_none (says.Base r) = inr refl
-fault_or_none (says.Node r) = inr refl
-fault_or_none (says.Check r) = inr refl
-fault_or_none (says.Tick r) = inr refl
-fault_or_none (says.View r) = inr refl
-fault_or_none (says.Unview r) = inr refl
-fault_or_none (says.Get r) = inr refl
-fault_or_none (says.Page r) = inr refl
-fault_or_none (says.Edit r) = inr refl
-fault_or_none (says.Put r) = inr refl
-fault_or_none (says.Tx r) = inr refl
-fault_or_none (says.Abandon r) = inr refl
-fault_or_none (says.Del r) = inr refl
-fault_or_none (says.Close r) = inr refl
-fault_or_none (says.Begin r) = inr refl
-fault_or_none (says.Swap r) = inr refl
+fault_or_none _ = inr refl
 
 -- a count that rises with each fault bounds the faults; it never passes the last value of a u64. A fault that stood apart may be the
 -- entry's
@@ -481,7 +461,8 @@ pub kept_open : (half : Half) (records : List Record) (lines : List Line) (curso
     → length lines ≤ capacity → opened ≡ now → s.listed ≡ [] → s.turning ≡ None → s.epoch ≡ 0
     → (IsTrue told → s ≡ opening_of records interval)
     → CoreKeeps half records lines cursors journal capacity interval told opened now apart s
-kept_open half records lines cursors journal capacity interval told opened now apart s nothing none size start_at servable recorded room same unlisted
+kept_open half records lines cursors journal capacity interval told opened now apart s nothing none size start_at servable recorded room
+    same unlisted
     idle age start =
     let P : List Entry → Type 0 = λ j. CoreKeeps half records lines cursors j capacity interval told opened now apart s in
     subst P (sym none) (record {

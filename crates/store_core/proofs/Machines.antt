@@ -84,7 +84,9 @@ viewed_nodes s v t view.TooMany = refl
 
 -- what reads the store leaves the sessions
 pub reads_beside : (half : Half) (tells : Bool) (drafts : ForActor Draft) (d d' : Desk) → OnlyReads tells d d'
-    → OnlyReads tells (record d { state = with_open half tells d.state drafts }) (record d' { state = with_open half tells d'.state drafts })
+    → OnlyReads tells (record d { state = with_open half tells d.state drafts }) (record d' {
+      state = with_open half tells d'.state drafts;
+    })
 reads_beside half true drafts d d' r = record {
   state = λ told. ap (λ (s : State). with_open half true s drafts) (r.state told);
   tables = ap (λ (s : State). with_open half true s drafts) (r.state refl)

@@ -191,7 +191,8 @@ module _ (half : Half) (told : List Hash) (r r' : Turning) (s s2 : Store) (a : A
       (forms_add half told r'.walk some.0 s s2 some.1
       (λ f c. let w = written f (front_among (node_stored half (forms_in s) a.target a.peers p kind path blob) some.0 some.2 some.3 f c) in
       subst (λ (h : Hash). Stored (forms_in s) h ⊎ Contains (walks.shaded r'.walk) h) (ap half (sym w.2)) (heeded w.0 w.1))
-      (λ f c there. let w = written f (front_among (node_stored half (forms_in s) a.target a.peers p kind path blob) some.0 some.2 some.3 f c) in
+      (λ f c there. let w = written f (front_among (node_stored half (forms_in s) a.target a.peers p kind path blob) some.0 some.2 some.3
+      f c) in
       reach_joins (λ q d stored. root (subst (Contains told) (sym (in_one a.target q d)) among) stored)
       (named_reached (forms_in s) (forms_in s2) a.target (half f) (grown some.0 some.1) w.3 (f, there))))
       (walking_heeded told r r' s heeds k)

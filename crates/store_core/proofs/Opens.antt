@@ -120,7 +120,8 @@ outcome_stays p bad peers = at (bad && is_present peers p)
     at false = refl
 
 -- three parts charge at most three times, and no charge is a tick; any other answer leaves the acquisition
-pub based_open : (t : Hash) (a a' : Acquiring) (p : ℕ) (r : Result BaseReply OfferFault) → acquire.TakesBase a p r a' → IsOpen t a → IsOpen t a'
+pub based_open : (t : Hash) (a a' : Acquiring) (p : ℕ) (r : Result BaseReply OfferFault) → acquire.TakesBase a p r a' → IsOpen t a →
+    IsOpen t a'
 based_open t a a' p (Ok (base.Parts h x y)) takes open_ =
     let first : Peers = after_outcome p (is_bad_head h) a.peers in
     let state : Bool = is_bad_root x in

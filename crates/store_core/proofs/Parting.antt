@@ -1,5 +1,6 @@
 -- What a base reply writes is shaded before, and named by what its target reaches, part by part.
-use Rattle.std.proofs.Common.{◌≡◌, ◌⊎◌, inl, inr, ⊎_elim, Bool, true, false, if◌then◌else◌, not, is_some, length, ◌==◌, ℕ, List, [], ◌∷◌, ◌++◌}
+use Rattle.std.proofs.Common.{◌≡◌, ◌⊎◌, inl, inr, ⊎_elim, Bool, true, false, if◌then◌else◌, not, is_some, length, ◌==◌, ℕ, List, [], ◌∷◌}
+use Rattle.std.proofs.Common.{◌++◌}
 use Rattle.std.proofs.Common.{Option, None, Some, Result, Ok, Err, Contains, refl, sym, ap, ◌∙◌, subst}
 use Rattle.std.specs.Cmp.Lexicographic.{same_text}
 use Rattle.std.proofs.lemmas.List.Elements.{Contains-append_left, Contains-append_cases}
@@ -48,7 +49,8 @@ module _ (half : Half) (t : Hash) where
   front_named nodes [] ys a = tt
   front_named nodes (x ∷ xs) ys a = (a.0, front_named (with_form half nodes x) xs ys a.1)
 
-  both_named : (nodes : Lookup) (xs ys : List Bytes) → AreNamed nodes xs → AreNamed (with_forms half nodes xs) ys → AreNamed nodes (xs ++ ys)
+  both_named : (nodes : Lookup) (xs ys : List Bytes) → AreNamed nodes xs → AreNamed (with_forms half nodes xs) ys → AreNamed nodes (xs ++
+      ys)
   both_named nodes [] ys a b = b
   both_named nodes (x ∷ xs) ys a b = (a.0, both_named (with_form half nodes x) xs ys a.1 b)
 
@@ -139,7 +141,8 @@ module _ (half : Half) (t : Hash) where
       long true among = absurd (in_nothing among)
       long false among = fits (same_bytes (half form) t) refl among
 
-  head_named : (nodes : Lookup) (bytes : Bytes) (r : Result HeadOffered Clash) → ((f : Bytes) → Contains (head_forms r bytes) f → half f ≡ t)
+  head_named : (nodes : Lookup) (bytes : Bytes) (r : Result HeadOffered Clash) → ((f : Bytes) → Contains (head_forms r bytes) f → half f ≡
+      t)
       → AreNamed nodes (head_forms r bytes)
   head_named nodes bytes (Ok head.Good) own = (inl (own (header_prefix ++ bytes) (in_head (header_prefix ++ bytes) [])), tt)
   head_named nodes bytes (Ok head.Duplicate) own = tt
@@ -186,7 +189,8 @@ module _ (half : Half) (told : List Hash) (r r' : Turning) (s s2 : Store) (a : A
       → (front rest : List Bytes) → HasForms half front s s2 → forms ≡ front ++ rest → IsWalking told r.walk s → IsWalking told r'.walk s2
   front_walks target state_heeded tx_heeded front rest has parts k =
       walking_adds told r'.walk s s2
-      (forms_add half told r'.walk front s s2 has (λ f c. heeded f (subst (λ (fs : List Bytes). Contains fs f) (sym parts) (Contains-append_left front rest f c)))
+      (forms_add half told r'.walk front s s2 has (λ f c. heeded f (subst (λ (fs : List Bytes). Contains fs f) (sym parts)
+      (Contains-append_left front rest f c)))
       (λ f c there. reach_joins (λ q d stored. root (subst (Contains told) (sym (in_one a.target q d)) among) stored)
       (reached f c there)))
       (walking_heeded told r r' s heeds k)

@@ -29,11 +29,13 @@ no_key h c = let lt : c.0 < 0 = c.1 in absurd (omega (arith, lt))
 
 -- a hash of a list is its first or one of the others
 first_or : (x h : Hash) (xs : List Hash) → Contains (x ∷ xs) h → (x ≡ h) ⊎ Contains xs h
-first_or x h xs c = ⊎_elim (λ one. ⊎_elim (λ none. absurd (no_key h none)) (λ same. inl same) (Contains-push_cases [] x h one)) (λ more. inr more)
+first_or x h xs c = ⊎_elim (λ one. ⊎_elim (λ none. absurd (no_key h none)) (λ same. inl same) (Contains-push_cases [] x h one)) (λ more.
+    inr more)
     (Contains-append_cases (x ∷ []) xs h c)
 
 -- the keys from before an entry was put are there
-key_stays : {X : Type 0} (m : ForHash X) (k : Hash) (x : X) (h : Hash) → Contains (keys_of m) h → Contains (keys_of (insert_in hash_cmp m k x)) h
+key_stays : {X : Type 0} (m : ForHash X) (k : Hash) (x : X) (h : Hash) → Contains (keys_of m) h → Contains (keys_of (insert_in hash_cmp m
+    k x)) h
 key_stays [] k x h c = absurd (no_key h c)
 key_stays {X} (e ∷ m) k x h c = at (hash_cmp k e.0) (key_stays m k x h)
   where
@@ -41,15 +43,18 @@ key_stays {X} (e ∷ m) k x h c = at (hash_cmp k e.0) (key_stays m k x h)
         → Contains (keys_of (match_ordering o ((k, x) ∷ e ∷ m) ((e.0, x) ∷ m) (e ∷ insert_in hash_cmp m k x))) h
     at Less rest = in_tail k h (keys_of (e ∷ m)) c
     at Equal rest = c
-    at Greater rest = ⊎_elim (λ same. subst (λ (q : Hash). Contains (q ∷ keys_of (insert_in hash_cmp m k x)) h) (sym same) (in_head h (keys_of (insert_in hash_cmp m k x))))
+    at Greater rest = ⊎_elim (λ same. subst (λ (q : Hash). Contains (q ∷ keys_of (insert_in hash_cmp m k x)) h) (sym same) (in_head h
+        (keys_of (insert_in hash_cmp m k x))))
         (λ more. in_tail e.0 h (keys_of (insert_in hash_cmp m k x)) (rest more)) (first_or e.0 h (keys_of m) c)
 
 -- one more hash of the list, and one more key
-pub keys_more : {X : Type 0} (m : ForHash X) (k : Hash) (x : X) (seen : List Hash) → HaveKeys m seen → HaveKeys (insert_in hash_cmp m k x) (seen ++ k ∷ [])
+pub keys_more : {X : Type 0} (m : ForHash X) (k : Hash) (x : X) (seen : List Hash) → HaveKeys m seen → HaveKeys (insert_in hash_cmp m k x)
+    (seen ++ k ∷ [])
 keys_more m k x seen has h = (
   λ c. ⊎_elim (λ same. Contains-append_right seen (k ∷ []) h (subst (λ (q : Hash). Contains (k ∷ []) q) (sym same) (in_head k [])))
       (λ old. Contains-append_left seen (k ∷ []) h ((has h).0 old)) (key_inserted m k x h c),
-  λ c. ⊎_elim (λ old. key_stays m k x h ((has h).1 old)) (λ same. subst (λ (q : Hash). Contains (keys_of (insert_in hash_cmp m k x)) q) same (key_in m k x))
+  λ c. ⊎_elim (λ old. key_stays m k x h ((has h).1 old)) (λ same. subst (λ (q : Hash). Contains (keys_of (insert_in hash_cmp m k x)) q)
+      same (key_in m k x))
       (Contains-push_cases seen k h c),
 )
 
@@ -70,15 +75,19 @@ of_some (Some seq) is = omega arith
 
 pub listed_roots : (b : Retention) (hashes : List Hash) → b.pins ≡ [] → AreRootsFrom b 0 hashes → HaveKeys b.listed hashes
 listed_roots b hashes none are h = (
-  λ c. (are.all h).1 (inr (of_some (get_in hash_cmp b.listed h) (IsSome-lookup_from_Contains (eq_by_cmp_equiv nat_list_cmp_total) h b.listed c))),
+  λ c. (are.all h).1 (inr (of_some (get_in hash_cmp b.listed h) (IsSome-lookup_from_Contains (eq_by_cmp_equiv nat_list_cmp_total) h
+      b.listed c))),
   λ c. ⊎_elim (λ pinned. absurd (not_pinned b h none pinned))
-      (λ some. Contains-keys_from_lookup (tells_apart exact_bytes) h b.listed (some_of (get_in hash_cmp b.listed h) some)) ((are.all h).0 c),
+      (λ some. Contains-keys_from_lookup (tells_apart exact_bytes) h b.listed (some_of (get_in hash_cmp b.listed h) some)) ((are.all h).0
+      c),
 )
 
 -- behind the same hashes in another order stand the same ones
-pub same_front : (a b more : List Hash) → ((h : Hash) → Contains a h ↔ Contains b h) → (h : Hash) → Contains (a ++ more) h → Contains (b ++ more) h
+pub same_front : (a b more : List Hash) → ((h : Hash) → Contains a h ↔ Contains b h) → (h : Hash) → Contains (a ++ more) h → Contains (b
+    ++ more) h
 same_front a b more same h c =
-    ⊎_elim (λ front. Contains-append_left b more h ((same h).0 front)) (λ rest. Contains-append_right b more h rest) (Contains-append_cases a more h c)
+    ⊎_elim (λ front. Contains-append_left b more h ((same h).0 front)) (λ rest. Contains-append_right b more h rest)
+    (Contains-append_cases a more h c)
 
 -- what has the keys of a table, of which each is a hash of the list and the other way, has these hashes, rising
 pub are_rising : {X V E : Type 0} (m : ForHash X) (hashes : List Hash) (r : Result V E) (items : V → List Hash) → HaveKeys m hashes
@@ -107,8 +116,10 @@ retained_as half tells s drafts listed hashes bs (Ok v) items has is edited risi
     (λ k. (same_front keys listed views has k, same_front listed keys views (λ q. ((has q).1, (has q).0)) k)) in
     record {
       all = λ h. (
-        λ c. subst (λ (hs : List Hash). Contains hs h) (sym all) (to h (subst (λ (hs : List Hash). Contains hs h) here ((rising.all h).0 c))),
-        λ c. (rising.all h).1 (subst (λ (hs : List Hash). Contains hs h) (sym here) (from h (subst (λ (hs : List Hash). Contains hs h) all c))),
+        λ c. subst (λ (hs : List Hash). Contains hs h) (sym all) (to h (subst (λ (hs : List Hash). Contains hs h) here ((rising.all h).0
+            c))),
+        λ c. (rising.all h).1 (subst (λ (hs : List Hash). Contains hs h) (sym here) (from h (subst (λ (hs : List Hash). Contains hs h) all
+            c))),
       );
       rise = rising.rise;
     }

@@ -1,5 +1,6 @@
 -- A section of a command: a slice first, where a swap does one, and then the step.
-use Rattle.std.proofs.Common.{◌≡◌, ◌≢◌, ◌⊎◌, inl, inr, ⊎_elim, ◌+◌, ◌<◌, ◌≤◌, ◌==◌, ◌&&◌, if◌then◌else◌, ℕ, Bool, true, false, IsTrue, [], Result, Ok, Err}
+use Rattle.std.proofs.Common.{◌≡◌, ◌≢◌, ◌⊎◌, inl, inr, ⊎_elim, ◌+◌, ◌<◌, ◌≤◌, ◌==◌, ◌&&◌, if◌then◌else◌, ℕ, Bool, true, false, IsTrue, []}
+use Rattle.std.proofs.Common.{Result, Ok, Err}
 use Rattle.std.proofs.Common.{IfOk, OnErr, Option, None, Some, is_some, length, refl, sym, ap, ◌∙◌, subst, arith}
 use Rattle.std.specs.FinMap as finite
 use Rattle.std.specs.Option.{option_or}
@@ -30,7 +31,7 @@ use Rattle.ledger_machine.specs.State.{State}
 use Rattle.store_core.specs.Journal.{CoreView}
 use Rattle.store_core.specs.Journal as journal
 use Rattle.store_core.specs.Machines.{with_open}
-use Rattle.store_core.specs.Desks.{Desk, Grows, KeepsRest, backs, behind, desk_of}
+use Rattle.store_core.specs.Desks.{Desk, Grows, KeepsRest, KeepsState, OnlyReads, backs, behind, desk_of}
 use Rattle.store_core.specs.Telling.{CountsFrom, CountsSlice, CopiesBy, CopiesFew, most_copied, most_slices, slice_told}
 use Rattle.std.specs.Prelude.{List, slice_set}
 use Rattle.full_below.specs.declared.marks.Marks.{Marks}
@@ -48,6 +49,15 @@ use Rattle.store_core.specs.declared.rotating.Part.TheVariants as parts
 -- what keeps the rest, one after another
 pub rest_then : (s t u : State) → KeepsRest s t → KeepsRest t u → KeepsRest s u
 rest_then s t u a b = b ∙ ap (λ (x : State). record x { nodes = u.nodes; born = u.born; shaded = u.shaded }) a
+
+-- what only reads keeps the state
+pub reads_keep : (told : Bool) (d d' : Desk) → OnlyReads told d d' → KeepsState told d d'
+reads_keep told d d' reads = record {
+  same = reads.state;
+  rest = reads.tables
+      ∙ sym (ap (λ (x : State). record d.state { nodes = d'.state.nodes; born = d'.state.born; shaded = x.shaded }) reads.tables);
+  later = reads.later;
+}
 
 -- beside open sessions too, where a store that tells what it holds leaves the state
 pub open_rest : (half : Half) (tells : Bool) (s s' : State) (drafts : ForActor Draft) → (IsTrue tells → s' ≡ s) → KeepsRest s s'
@@ -84,7 +94,7 @@ counts_fewer command.Begin (says.Begin (begins.Begun seq floor)) n n' counts = o
 counts_fewer c reply n n' counts = omega (arith, counts)
 
 -- what grows behind a slice
-module _ (d m e : Desk) (rest : KeepsRest d.state m.state) (later : d.faults ≤ m.faults) where
+module _ (d m : Desk) (rest : KeepsRest d.state m.state) (later : d.faults ≤ m.faults) where
   pub grows_here : Grows d m
   grows_here = record {
     later = later;
@@ -92,8 +102,8 @@ module _ (d m e : Desk) (rest : KeepsRest d.state m.state) (later : d.faults ≤
     ages = omega (arith, ap (λ (x : State). x.epoch) rest);
   }
 
-  pub grows_on : Grows m e → Grows d e
-  grows_on g = record {
+  pub grows_on : (e : Desk) → Grows m e → Grows d e
+  grows_on e g = record {
     later = omega (arith, later, g.later);
     few = omega (arith, g.few, ap (λ (x : State). length x.listed) rest);
     ages = omega (arith, g.ages, ap (λ (x : State). x.epoch) rest);
@@ -199,7 +209,8 @@ asks_same (command.Check t) o now gets gets' same = inr (omega (arith, same))
 asks_same c o now gets gets' same = tt
 
 pub asked_none : (a : ℕ) (c c' : CoreView) → c' ≡ c → journal.ChecksFew c a c'
-asked_none a c c' same line next = asks_same line.command (hunt_of c.hunts a) c.marks.generation c.gets c'.gets (ap (λ (x : CoreView). x.gets) same)
+asked_none a c c' same line next = asks_same line.command (hunt_of c.hunts a) c.marks.generation c.gets c'.gets (ap (λ (x : CoreView).
+    x.gets) same)
 
 some_line : (l m : Line) → Some l ≡ Some m → l ≡ m
 some_line l m e = cc

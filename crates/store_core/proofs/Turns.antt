@@ -1,6 +1,7 @@
 -- What the machine keeps of its book, its rotator and its store, as these change.
 use Rattle.std.proofs.Common.{◌≡◌, ◌≢◌, ◌⊎◌, ◌↔◌, inl, inr, ⊎_elim, ℕ, Bool, true, false, not, ◌&&◌, if◌then◌else◌, IsTrue, IsSome, is_some}
-use Rattle.std.proofs.Common.{List, [], ◌∷◌, Option, None, Some, Contains, Result, Ok, Err, OnOk, OnErr, IfOk, IfErr, IfSome, length, ◌≤◌, refl}
+use Rattle.std.proofs.Common.{List, [], ◌∷◌, Option, None, Some, Contains, Result, Ok, Err, OnOk, OnErr, IfOk, IfErr, IfSome, length, ◌≤◌}
+use Rattle.std.proofs.Common.{refl}
 use Rattle.std.proofs.Common.{sym, ap, ◌∙◌, subst, arith}
 use Rattle.std.specs.Option.{option_or}
 use Rattle.std.specs.FinMap as finite
@@ -273,7 +274,8 @@ module _ (tells : Bool) (b : Retention) (r : Turning) (st : Store) (k : KeepsTur
 
   -- the store was only read
   pub keeps_counted : (st' : Store) → (IsTrue tells → Counted st st') → KeepsTurning tells b r st'
-  keeps_counted st' same = with_fit st' (λ told. walking_counted r.shaded r.walk st st' (same told) (k.walks told)) (λ told. fit_counted r.shaded st st' (same told) (k.fit told))
+  keeps_counted st' same = with_fit st' (λ told. walking_counted r.shaded r.walk st st' (same told) (k.walks told)) (λ told. fit_counted
+      r.shaded st st' (same told) (k.fit told))
 
   pub keeps_was_read : (half : Half) (st' : Store) → WasRead tells half st st' → KeepsTurning tells b r st'
   keeps_was_read half st' read = keeps_counted st' read.same
@@ -405,7 +407,8 @@ module _ (tells : Bool) (b : Retention) (r : Turning) (st : Store) (k : KeepsTur
         fit = fit;
       }))
 
-  pub finish_keeps : r.turning ≡ true → (result : Result ℕ StoreFault) (b' : Retention) (r' : Turning) (st' : Store) → AfterFinish r b st result r' b' st'
+  pub finish_keeps : r.turning ≡ true → (result : Result ℕ StoreFault) (b' : Retention) (r' : Turning) (st' : Store) → AfterFinish r b st
+      result r' b' st'
       → (IsTrue tells → AfterRotation r.shaded st result st') → (IsTrue tells → AfterFit r.shaded st result st')
       → (IsTrue tells → OnErr result (IsWalking r.shaded r'.walk st')) → KeepsTurning tells b' r' st'
   finish_keeps turning (Ok epoch) b' r' st' after nodes fit walks = keeps_ended epoch b' r' st' after.0 (λ t. (nodes t).0.fresh)

@@ -107,7 +107,22 @@ abbrev pub IsSliced : Half → Bool → ℕ → Command → Part → Desk → Se
 IsSliced half told a command.Swap part d x d' x' = IsSlice command.Swap part d d' × (x' ≡ x)
 IsSliced half told a (command.Check t) part d x d' x' = (part ≡ parts.Slice) × (d'.slices ≡ d.slices)
     × (IsTrue told → SlicesSearch half d.state t (hunt_of x.hunts.items a) x.marks (hunt_of x'.hunts.items a))
-IsSliced half told a _ part d x d' x' = ⊥
+IsSliced half told a (command.Want t seq) part d x d' x' = ⊥
+IsSliced half told a (command.Peer p t) part d x d' x' = ⊥
+IsSliced half told a (command.Base p t head state tx) part d x d' x' = ⊥
+IsSliced half told a (command.Node p t kind path blob) part d x d' x' = ⊥
+IsSliced half told a (command.Tick t) part d x d' x' = ⊥
+IsSliced half told a (command.View v t) part d x d' x' = ⊥
+IsSliced half told a (command.Unview v) part d x d' x' = ⊥
+IsSliced half told a (command.Get v kind key) part d x d' x' = ⊥
+IsSliced half told a (command.Page v kind key n) part d x d' x' = ⊥
+IsSliced half told a (command.Edit session t) part d x d' x' = ⊥
+IsSliced half told a (command.Put session item) part d x d' x' = ⊥
+IsSliced half told a (command.Del session key) part d x d' x' = ⊥
+IsSliced half told a (command.Tx session item) part d x d' x' = ⊥
+IsSliced half told a (command.Close session fields) part d x d' x' = ⊥
+IsSliced half told a (command.Abandon session) part d x d' x' = ⊥
+IsSliced half told a command.Begin part d x d' x' = ⊥
 
 -- behind an entry no search of its actor is kept; behind a swap, which may have lost what is marked, the next generation begins too
 pub record ForgetsAndTurns (a : ℕ) (x x' : Searches) : Type 0 where

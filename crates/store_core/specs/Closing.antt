@@ -1,7 +1,8 @@
 -- What a close does to the store.
 use Rattle.std.specs.Prelude.{◌≡◌, ◌≢◌, ◌⊎◌, ◌==◌, ◌++◌, ℕ, Bool, false, nat_lt, IsTrue, List, map, length, None, Some, Result, Ok, Err}
+use Rattle.std.specs.Prelude.{IfErr}
 use Rattle.std.specs.List.{Contains, find}
-use Rattle.ledger_spec.specs.Bytes.{Bytes, Half, is_zero}
+use Rattle.ledger_spec.specs.Bytes.{Bytes, Hash, Half, is_zero}
 use Rattle.ledger_spec.specs.Forms.{header_prefix}
 use Rattle.ledger_spec.specs.Header.{seq_of}
 use Rattle.ledger_spec.specs.Maps.{numbered_cmp, get_in}
@@ -21,6 +22,9 @@ use Rattle.rotating_store.specs.declared.store.StoreFault.TheVariants as causes
 use Rattle.ledger_machine.specs.Closing.{clash_under, first_clash, new_header, closing_forms, close_reply}
 use Rattle.ledger_machine.specs.State.{State, Session, form_in, with_form, with_forms}
 use Rattle.ledger_machine.specs.Steps.{IsAfter}
+use Rattle.run_io.specs.Bytes.{Rose}
+use Rattle.store_core.specs.Desks.{Desk, KeepsRest, Stays}
+use Rattle.store_core.specs.Telling.{Hears}
 
 -- But for what a rotation was told: the form is stored, unless another one is there, which is named; after a fault, or for want of memory,
 -- it may be stored.
@@ -45,6 +49,15 @@ MayKeepAll half s forms (Err (faults.Clash h old new)) s' =
     (first_clash half s forms ≡ Some (record { hash = h; old = old; new = new })) × KeptSome half s forms s'
 MayKeepAll half s forms (Err faults.Fault) s' = KeptSome half s forms s'
 MayKeepAll half s forms (Err faults.Memory) s' = KeptSome half s forms s'
+
+-- Forms are stored where a rotation under way was told these hashes: all of them, or some. Nothing else changes.
+pub record KeepsForms {X : Type 0} (half : Half) (tells : Bool) (d : Desk) (named : List Hash) (forms : List Bytes)
+    (result : Result X OfferFault) (d' : Desk) : Type 0 where
+  pub keeps : IsTrue tells → MayKeepAll half d.state forms result d'.state
+  pub hears : Hears d.state.shaded named d'.state.shaded
+  pub rest : KeepsRest d.state d'.state
+  pub stays : Stays tells d d'
+  pub fault : IfErr result (λ e. e ≡ faults.Fault → Rose d.faults d'.faults)
 
 -- why a form isn't stored that was put under its own hash
 abbrev pub unkept_by : StoreFault → OfferFault

@@ -1,5 +1,5 @@
 -- What the commands act on: the state over a store, the store's count of faults, and where its forms lie.
-use Rattle.std.specs.Prelude.{◌≡◌, ◌≤◌, ◌&&◌, ◌==◌, if◌then◌else◌, ℕ, suc, Bool, IsTrue, List, [], length, is_some}
+use Rattle.std.specs.Prelude.{◌≡◌, ◌≤◌, ◌&&◌, ◌==◌, if◌then◌else◌, ℕ, suc, Bool, IsTrue, List, [], Result, IfErr, OnErr, length, is_some}
 use Rattle.std.specs.FinMap as finite
 use Rattle.ledger_spec.specs.Bytes.{Hash, Half, Lookup, Nodes}
 use Rattle.ledger_spec.specs.Maps.{ForHash, ForActor}
@@ -7,6 +7,9 @@ use Rattle.ledger_spec.specs.Acquiring.{Acquiring}
 use Rattle.ledger_spec.specs.Retaining.{Retention}
 use Rattle.ledger_spec.specs.Own.{AreStored}
 use Rattle.ledger_machine.specs.State.{State, form_in}
+use Rattle.run_io.specs.Bytes.{Rose}
+use Rattle.node_backend.specs.declared.back.BackFault.{BackFault}
+use Rattle.node_backend.specs.declared.back.BackFault.TheVariants as back
 use Rattle.rotating_store.specs.Stores.{Store, nodes_of, born_of}
 use Rattle.online_rotate.specs.Rotators.{Turning}
 
@@ -75,6 +78,14 @@ pub record Stays (tells : Bool) (d d' : Desk) : Type 0 where
   pub slices : d'.slices ≡ d.slices
   pub copies : IsTrue tells → backs d' ≡ backs d
 
+-- one that doesn't ask the store, nor a rotation for a slice
+pub record AsksNoStore (tells : Bool) (d d' : Desk) : Type 0 where
+  pub faults : d'.faults ≡ d.faults
+  pub gets : d'.gets ≡ d.gets
+  pub epoch : d'.state.epoch ≡ d.state.epoch
+  pub slices : d'.slices ≡ d.slices
+  pub copies : IsTrue tells → backs d' ≡ backs d
+
 -- and one that lists a ledger at most, and ends an epoch at most
 pub record Grows (d d' : Desk) : Type 0 where
   pub later : d.faults ≤ d'.faults
@@ -85,6 +96,12 @@ pub record Grows (d d' : Desk) : Type 0 where
 abbrev pub KeepsRest : State → State → Type 0
 KeepsRest s s' = s' ≡ record s { nodes = s'.nodes; born = s'.born; shaded = s'.shaded }
 
+-- one that keeps the state, but that a store that doesn't tell what it holds may hold anything
+pub record KeepsState (tells : Bool) (d d' : Desk) : Type 0 where
+  pub same : IsTrue tells → d'.state ≡ d.state
+  pub rest : KeepsRest d.state d'.state
+  pub later : d.faults ≤ d'.faults
+
 -- one that only reads: the state is as before, but that a store that doesn't tell what it holds may hold anything
 pub record OnlyReads (told : Bool) (d d' : Desk) : Type 0 where
   pub state : IsTrue told → d'.state ≡ d.state
@@ -92,3 +109,11 @@ pub record OnlyReads (told : Bool) (d d' : Desk) : Type 0 where
   pub slices : d'.slices ≡ d.slices
   pub tables : d'.state ≡ record d.state { nodes = d'.state.nodes; born = d'.state.born }
   pub later : d.faults ≤ d'.faults
+
+-- a call that looks something up in the store: nothing is listed, told or copied, and where it is refused the state is as before
+pub record LooksUp {X : Type 0} (tells : Bool) (d : Desk) (result : Result X BackFault) (d' : Desk) : Type 0 where
+  pub err : IsTrue tells → OnErr result (d'.state ≡ d.state)
+  pub kept : OnErr result (KeepsRest d.state d'.state)
+  pub told : d'.state.shaded ≡ d.state.shaded
+  pub stays : Stays tells d d'
+  pub fault : IfErr result (λ e. e ≡ back.Fault → Rose d.faults d'.faults)

@@ -1,5 +1,6 @@
 -- What is stored, as records.
 use Rattle.std.specs.Prelude.{◌≡◌, ◌≤◌, ℕ, Result, Err, ◌+◌, ◌-◌, ◌*◌, Bool, true, IsTrue, List, [], ◌∷◌, length, map, Option, None, Some}
+use Rattle.std.specs.Prelude.{IfOk, IfErr, IfSome}
 use Rattle.std.specs.List.{filter, Contains}
 use Rattle.std.specs.Ordering.{is_lt}
 use Rattle.std.specs.FinMap as finite
@@ -10,6 +11,10 @@ use Rattle.ledger_machine.specs.declared.commands.Record.{Record}
 use Rattle.node_backend.specs.Counts.{held_sum}
 use Rattle.store_core.specs.declared.core_calls.OpenFault.{OpenFault}
 use Rattle.store_core.specs.declared.core_calls.OpenFault.TheVariants as faults
+use Rattle.node_backend.specs.declared.back.BackFault.{BackFault}
+use Rattle.node_backend.specs.declared.back.BackFault.TheVariants as back
+use Rattle.run_io.specs.Bytes.{Rose}
+use Rattle.store_core.specs.Desks.{Desk, OnlyReads}
 use Rattle.store_core.specs.Journal.{CoreView, CopiesAFew}
 
 -- a hash comes after another one, where there is one
@@ -39,6 +44,13 @@ pub record Follows (after : Option Hash) (h : Hash) : Type 0 where
   pub later : IsAfter after h
   pub size : length h ≡ 32
   pub bytes : IsTrue (are_bytes h)
+
+-- the next stored record after a hash, as a store gives it that is only read
+pub record GivesNext (tells : Bool) (d : Desk) (after : Option Hash) (result : Result (Option Record) BackFault) (d' : Desk) : Type 0 where
+  pub next : IsTrue tells → IfOk result (IsNextRecord d.state.nodes after)
+  pub follows : IfOk result (λ o. IfSome o (λ r. Follows after r.hash))
+  pub reads : OnlyReads tells d d'
+  pub fault : IfErr result (λ e. e ≡ back.Fault → Rose d.faults d'.faults)
 
 -- the number whose digits are n and then the bytes
 unfoldable pub number_from : ℕ → Bytes → ℕ

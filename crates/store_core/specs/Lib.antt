@@ -12,6 +12,7 @@ pub mod Closing
 pub mod Telling
 pub mod Failing
 pub mod Halls
+pub mod Serving
 pub mod Jobs
 pub mod Committing
 pub mod Retaining

@@ -30,7 +30,17 @@ IsOfSessions (command.Del x key) = Unit {0}
 IsOfSessions (command.Tx x item) = Unit {0}
 IsOfSessions (command.Close x fields) = Unit {0}
 IsOfSessions (command.Abandon x) = Unit {0}
-IsOfSessions _ = ⊥
+IsOfSessions (command.Want t seq) = ⊥
+IsOfSessions (command.Peer p t) = ⊥
+IsOfSessions (command.Base p t head state tx) = ⊥
+IsOfSessions (command.Node p t kind path blob) = ⊥
+IsOfSessions (command.Check t) = ⊥
+IsOfSessions (command.Tick t) = ⊥
+IsOfSessions (command.Unview v) = ⊥
+IsOfSessions (command.Get v kind key) = ⊥
+IsOfSessions (command.Page v kind key n) = ⊥
+IsOfSessions command.Begin = ⊥
+IsOfSessions command.Swap = ⊥
 
 -- what a store tells that it holds; one that doesn't tell may hold anything, so nothing is said of it
 abbrev pub told_forms : Bool → State → Lookup

@@ -1,10 +1,17 @@
 -- What the core says of reads.
-use Rattle.std.specs.Prelude.{◌≡◌, ◌⊎◌, ℕ, List, [], Option, None, Some, Result, Ok, Err, IfOk}
+use Rattle.std.specs.Prelude.{◌≡◌, ◌⊎◌, ℕ, Bool, IsTrue, List, [], Option, None, Some, Result, Ok, Err, IfOk, IfErr, IfSome}
 use Rattle.std.specs.declared.sync.Arc.{Arc}
 use Rattle.std.specs.declared.alloc.Global.{Global}
 use Rattle.shamap_node.specs.declared.Node.{Node}
 use Rattle.ledger_spec.specs.declared.Kind.{Kind}
-use Rattle.ledger_spec.specs.Bytes.{Hash, Half}
+use Rattle.ledger_spec.specs.Bytes.{Bytes, Hash, Half}
+use Rattle.ledger_spec.specs.Forms.{hash_of}
+use Rattle.run_io.specs.Bytes.{Rose}
+use Rattle.shamap_node.specs.Nodes.{held}
+use Rattle.path_proof.specs.Sources.{Gives}
+use Rattle.path_proof.specs.declared.source.FetchFault.{FetchFault}
+use Rattle.path_proof.specs.declared.source.FetchFault.TheVariants as faults
+use Rattle.store_core.specs.Desks.{Desk, OnlyReads}
 use Rattle.ledger_spec.specs.Reads.{follow}
 use Rattle.path_proof.specs.declared.answer.Answer.{Answer}
 use Rattle.path_proof.specs.declared.answer.ReadFault.{ReadFault}
@@ -16,7 +23,7 @@ use Rattle.ledger_machine.specs.declared.replies.GetReply.{GetReply}
 use Rattle.ledger_machine.specs.declared.replies.Reply.{Reply}
 use Rattle.ledger_machine.specs.declared.replies.Reply.TheVariants as says
 use Rattle.ledger_machine.specs.Reading.{IsLast, IsRead, outcome_of}
-use Rattle.ledger_machine.specs.State.{State}
+use Rattle.ledger_machine.specs.State.{State, form_in}
 use Rattle.ledger_machine.specs.Steps.{Gets, Pages, UsesNodes}
 use Rattle.store_core.specs.declared.views.Got.{Got}
 use Rattle.store_core.specs.declared.pages.Paged.{Paged}
@@ -25,7 +32,22 @@ use Rattle.store_core.specs.declared.pages.Paged.{Paged}
 abbrev pub ReadsNothing : Command → Type 0
 ReadsNothing (command.Get v kind key) = ⊥
 ReadsNothing (command.Page v kind key n) = ⊥
-ReadsNothing _ = Unit {0}
+ReadsNothing (command.Want t seq) = Unit {0}
+ReadsNothing (command.Peer p t) = Unit {0}
+ReadsNothing (command.Base p t head state tx) = Unit {0}
+ReadsNothing (command.Node p t kind path blob) = Unit {0}
+ReadsNothing (command.Check t) = Unit {0}
+ReadsNothing (command.Tick t) = Unit {0}
+ReadsNothing (command.View v t) = Unit {0}
+ReadsNothing (command.Unview v) = Unit {0}
+ReadsNothing (command.Edit x t) = Unit {0}
+ReadsNothing (command.Put x item) = Unit {0}
+ReadsNothing (command.Del x key) = Unit {0}
+ReadsNothing (command.Tx x item) = Unit {0}
+ReadsNothing (command.Close x fields) = Unit {0}
+ReadsNothing (command.Abandon x) = Unit {0}
+ReadsNothing command.Begin = Unit {0}
+ReadsNothing command.Swap = Unit {0}
 
 -- the nodes of an answer's path say its outcome of the key
 abbrev pub IsFollowed : Half → Kind → Hash → Hash → Answer → Type 0
@@ -67,3 +89,19 @@ pub record IsListed (half : Half) (s : State) (kind : Kind) (key : Hash) (n : �
     : Type 0 where
   pub pages : Pages half s kind key n root (says.Page paged.reply) (held_nodes paged.used.items) s'
   pub uses : UsesNodes (says.Page paged.reply) (held_nodes paged.used.items)
+
+-- the node of a hash, as a store gives it that is only read
+pub record GivesNode (half : Half) (tells : Bool) (d : Desk) (h : Hash) (result : Result (Option (Arc Node Global)) FetchFault) (d' : Desk)
+    : Type 0 where
+  pub hash : IfOk result (λ o. IfSome o (λ node. hash_of half (held node.value) ≡ h))
+  pub exact : IsTrue tells → Gives half (form_in d.state h) result
+  pub reads : OnlyReads tells d d'
+  pub fault : IfErr result (λ e. e ≡ faults.Fault → Rose d.faults d'.faults)
+
+-- the bytes of a hash, which have it where the store tells what it holds
+pub record GivesForm (half : Half) (tells : Bool) (d : Desk) (h : Hash) (result : Result (Option Bytes) FetchFault) (d' : Desk)
+    : Type 0 where
+  pub exact : IsTrue tells → IfOk result (λ form. form ≡ form_in d.state h)
+  pub own : IfOk result (λ o. IfSome o (λ form. IsTrue tells → half form ≡ h))
+  pub reads : OnlyReads tells d d'
+  pub fault : IfErr result (λ e. e ≡ faults.Fault → Rose d.faults d'.faults)

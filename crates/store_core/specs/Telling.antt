@@ -1,6 +1,6 @@
 -- What the machine keeps of a rotation, and what its commands tell one.
 use Rattle.std.specs.Prelude.{◌≡◌, ◌≢◌, ◌⊎◌, ◌↔◌, ◌+◌, ◌≤◌, ◌<◌, ◌++◌, Bool, false, IsTrue, IsSome, IsSomeAnd, IfSome, List, [], None}
-use Rattle.std.specs.Prelude.{Some, Result, Ok, Err, ℕ}
+use Rattle.std.specs.Prelude.{Some, Result, Ok, Err, IfErr, IfOk, OnErr, ℕ}
 use Rattle.std.specs.List.{Contains}
 use Rattle.std.specs.Map.{keys_of, values_of}
 use Rattle.std.specs.FinSet as set
@@ -11,6 +11,8 @@ use Rattle.rotating_store.specs.Stores.{Store}
 use Rattle.online_rotate.specs.Rotators.{Turning, no_walk, InStep, slices_after}
 use Rattle.online_rotate.specs.Copying.{IsFit, IsWalking}
 use Rattle.copy_walk.specs.declared.walk.Left.{Left}
+use Rattle.copy_walk.specs.declared.walk.Left.TheVariants as left
+use Rattle.run_io.specs.Bytes.{Rose}
 use Rattle.online_rotate.specs.declared.rotator.Begun.{Begun}
 use Rattle.online_rotate.specs.declared.rotator.Begun.TheVariants as begun
 use Rattle.node_backend.specs.declared.back.BackFault.{BackFault}
@@ -31,7 +33,7 @@ use Rattle.store_core.specs.declared.rotating.Part.{Part}
 use Rattle.store_core.specs.declared.rotating.Part.TheVariants as parts
 use Rattle.copy_walk.specs.Counts.{CopiesAtMost}
 use Rattle.std.specs.FinMap as finite
-use Rattle.store_core.specs.Desks.{Desk, backs, behind}
+use Rattle.store_core.specs.Desks.{Desk, Grows, KeepsRest, KeepsState, backs, behind}
 use Rattle.ledger_machine.specs.State.{State, form_in, Kept}
 use Rattle.ledger_machine.specs.Rotation.{WhileTurning}
 use Rattle.ledger_machine.specs.Rotation.{AreShaded}
@@ -53,13 +55,22 @@ pub record KeepsTurning (tells : Bool) (b : Retention) (r : Turning) (st : Store
 abbrev pub IsSteady : Command → Type 0
 IsSteady command.Begin = ⊥
 IsSteady command.Swap = ⊥
-IsSteady _ = Unit {0}
-
--- those that do
-abbrev pub IsRotating : Command → Type 0
-IsRotating command.Begin = Unit {0}
-IsRotating command.Swap = Unit {0}
-IsRotating _ = ⊥
+IsSteady (command.Want t seq) = Unit {0}
+IsSteady (command.Peer p t) = Unit {0}
+IsSteady (command.Base p t head state tx) = Unit {0}
+IsSteady (command.Node p t kind path blob) = Unit {0}
+IsSteady (command.Check t) = Unit {0}
+IsSteady (command.Tick t) = Unit {0}
+IsSteady (command.View v t) = Unit {0}
+IsSteady (command.Unview v) = Unit {0}
+IsSteady (command.Get v kind key) = Unit {0}
+IsSteady (command.Page v kind key n) = Unit {0}
+IsSteady (command.Edit x t) = Unit {0}
+IsSteady (command.Put x item) = Unit {0}
+IsSteady (command.Del x key) = Unit {0}
+IsSteady (command.Tx x item) = Unit {0}
+IsSteady (command.Close x fields) = Unit {0}
+IsSteady (command.Abandon x) = Unit {0}
 
 -- while a rotation is under way each root was told to it
 abbrev pub AreTold : State → Type 0
@@ -77,8 +88,25 @@ pub record Hears (told : List Hash) (more : List Hash) (told' : List Hash) : Typ
 -- the ledger that a command opens or lists was told to the rotation under way
 abbrev pub TellsRoot : State → Command → Reply → State → Type 0
 TellsRoot s (command.Want t seq) (says.Want want.Opened) s' = IsSome s.turning → Contains s'.shaded t
+TellsRoot s (command.Want t seq) reply s' = Unit {0}
 TellsRoot s (command.Close x fields) (says.Close (close.Closed h)) s' = IsSome s.turning → Contains s'.shaded h
-TellsRoot s c reply s' = Unit {0}
+TellsRoot s (command.Close x fields) reply s' = Unit {0}
+TellsRoot s (command.Peer p t) reply s' = Unit {0}
+TellsRoot s (command.Base p t head state tx) reply s' = Unit {0}
+TellsRoot s (command.Node p t kind path blob) reply s' = Unit {0}
+TellsRoot s (command.Check t) reply s' = Unit {0}
+TellsRoot s (command.Tick t) reply s' = Unit {0}
+TellsRoot s (command.View v t) reply s' = Unit {0}
+TellsRoot s (command.Unview v) reply s' = Unit {0}
+TellsRoot s (command.Get v kind key) reply s' = Unit {0}
+TellsRoot s (command.Page v kind key n) reply s' = Unit {0}
+TellsRoot s (command.Edit x t) reply s' = Unit {0}
+TellsRoot s (command.Put x item) reply s' = Unit {0}
+TellsRoot s (command.Del x key) reply s' = Unit {0}
+TellsRoot s (command.Tx x item) reply s' = Unit {0}
+TellsRoot s (command.Abandon x) reply s' = Unit {0}
+TellsRoot s command.Begin reply s' = Unit {0}
+TellsRoot s command.Swap reply s' = Unit {0}
 
 -- what a step carries of a rotation that is under way before and after it
 abbrev pub Carried : Half → State → ℕ → Command → Reply → State → Type 0
@@ -113,7 +141,23 @@ most_copied = 256
 -- nothing is copied, also where a swap is refused, but by a swap whose walk has something to take still
 abbrev pub CopiesBy : Command → Desk → Desk → Type 0
 CopiesBy command.Swap d d' = d.grey ≡ [] → behind d d' ≡ finite.get d.written
-CopiesBy _ d d' = backs d' ≡ backs d
+CopiesBy (command.Want t seq) d d' = backs d' ≡ backs d
+CopiesBy (command.Peer p t) d d' = backs d' ≡ backs d
+CopiesBy (command.Base p t head state tx) d d' = backs d' ≡ backs d
+CopiesBy (command.Node p t kind path blob) d d' = backs d' ≡ backs d
+CopiesBy (command.Check t) d d' = backs d' ≡ backs d
+CopiesBy (command.Tick t) d d' = backs d' ≡ backs d
+CopiesBy (command.View v t) d d' = backs d' ≡ backs d
+CopiesBy (command.Unview v) d d' = backs d' ≡ backs d
+CopiesBy (command.Get v kind key) d d' = backs d' ≡ backs d
+CopiesBy (command.Page v kind key n) d d' = backs d' ≡ backs d
+CopiesBy (command.Edit x t) d d' = backs d' ≡ backs d
+CopiesBy (command.Put x item) d d' = backs d' ≡ backs d
+CopiesBy (command.Del x key) d d' = backs d' ≡ backs d
+CopiesBy (command.Tx x item) d d' = backs d' ≡ backs d
+CopiesBy (command.Close x fields) d d' = backs d' ≡ backs d
+CopiesBy (command.Abandon x) d d' = backs d' ≡ backs d
+CopiesBy command.Begin d d' = backs d' ≡ backs d
 
 -- at most 256 hashes are copied, but by a swap whose rotation has done its slices
 abbrev pub CopiesFew : Command → Desk → Desk → Type 0
@@ -131,12 +175,31 @@ abbrev pub CountsSlice : Result Left BackFault → Desk → Desk → Type 0
 CountsSlice (Ok l) d d' = d'.slices ≡ slices_after l d.slices
 CountsSlice (Err _) d d' = d'.slices ≡ d.slices
 
+-- a slice of the rotation under way of at most n hashes: only where forms lie changes
+pub record SlicesOn (tells : Bool) (n : ℕ) (d : Desk) (result : Result Left BackFault) (d' : Desk) : Type 0 where
+  pub keeps : KeepsState tells d d'
+  pub counts : CountsSlice result d d'
+  pub few : IsTrue tells → CopiesAtMost n (finite.get d.state.nodes) (finite.get d.written) (finite.get d'.written)
+  pub done : result ≡ Ok left.Done → d'.grey ≡ []
+  pub fault : IfErr result (λ e. e ≡ back.Fault → Rose d.faults d'.faults)
+
 -- a slice of a swap that left something: it is counted, and there were fewer than the most of them
 pub record IsSlice (c : Command) (part : Part) (d d' : Desk) : Type 0 where
   pub swap : c ≡ command.Swap
   pub cut : part ≡ parts.Slice
   pub few : d.slices < most_slices
   pub counted : d'.slices ≡ d.slices + 1
+
+-- What a section of a command that is no check begins with: a slice, of a swap that is done in slices whose rotation may do one more, or
+-- nothing.
+pub record SlicesFirst (tells : Bool) (c : Command) (part : Part) (d : Desk) (result : Result Left BackFault) (d' : Desk) : Type 0 where
+  pub keeps : KeepsState tells d d'
+  pub more : result ≡ Ok left.More → IsSlice c part d d'
+  pub slices : (result ≡ Ok left.More → ⊥) → d'.slices ≡ d.slices
+  pub few : IsTrue tells → CopiesAtMost most_copied (finite.get d.state.nodes) (finite.get d.written) (finite.get d'.written)
+  pub none : (c ≡ command.Swap → ⊥) → d' ≡ d
+  pub done : result ≡ Ok left.Done → c ≡ command.Swap → part ≡ parts.Slice → (d'.grey ≡ []) ⊎ (most_slices ≤ d.slices)
+  pub err : IfErr result (λ e. (c ≡ command.Swap) × (e ≡ back.Fault → Rose d.faults d'.faults))
 
 -- a rotation that begins was told the ledgers that stay listed, those of views, the open targets and these, and nothing else
 abbrev pub BeginsBy : State → List Hash → BeginReply → State → Type 0
@@ -156,3 +219,13 @@ pub record SwapsTold (s s' : State) : Type 0 where
 abbrev pub AfterSwap : State → SwapReply → State → Type 0
 AfterSwap s swaps.Idle s' = (s.turning ≡ None) × (s' ≡ s)
 AfterSwap s (swaps.Swapped epoch) s' = IsSome s.turning × (epoch ≡ s.epoch + 1) × SwapsTold s s'
+
+-- The end of the rotation under way, where there is one. Nothing is copied where nothing is grey; where it is refused the rotation goes on.
+pub record Finishes (tells : Bool) (d : Desk) (result : Result SwapReply BackFault) (d' : Desk) : Type 0 where
+  pub swaps : IsTrue tells → IfOk result (λ r. AfterSwap d.state r d'.state)
+  pub err : IsTrue tells → OnErr result (d'.state ≡ d.state)
+  pub kept : OnErr result (KeepsRest d.state d'.state)
+  pub grows : Grows d d'
+  pub slices : d'.slices ≡ d.slices
+  pub still : IsTrue tells → d.grey ≡ [] → behind d d' ≡ finite.get d.written
+  pub fault : IfErr result (λ e. e ≡ back.Fault → Rose d.faults d'.faults)

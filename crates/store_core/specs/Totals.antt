@@ -1,5 +1,5 @@
 -- The numbers of a run's summary.
-use Rattle.std.specs.Prelude.{Bool, true, false, List, length, count_by}
+use Rattle.std.specs.Prelude.{ℕ, Bool, true, false, List, length, count_by}
 use Rattle.ledger_machine.specs.declared.journal.Entry.{Entry}
 use Rattle.ledger_machine.specs.declared.journal.Totals.{Totals}
 use Rattle.ledger_machine.specs.declared.replies.Reply.{Reply}
@@ -23,12 +23,15 @@ abbrev pub is_closed : Entry → Bool
 is_closed e = closes e.reply
 
 -- how many replies are `complete`, how many `closed`, and the listed ledgers, the floor, `last` and the epoch at the end
-abbrev pub totals_of : List Entry → State → Totals
-totals_of journal s = record {
-  complete = count_by is_complete journal;
-  closed = count_by is_closed journal;
+abbrev pub totals_by : ℕ → ℕ → State → Totals
+totals_by complete closed s = record {
+  complete = complete;
+  closed = closed;
   listed = length s.listed;
   floor = s.floor;
   last = s.last;
   epoch = s.epoch;
 }
+
+abbrev pub totals_of : List Entry → State → Totals
+totals_of journal s = totals_by (count_by is_complete journal) (count_by is_closed journal) s

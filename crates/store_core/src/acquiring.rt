@@ -1,5 +1,5 @@
 //! The commands that acquire a ledger from peers. Each is answered by the acquisition that is open under the target.
-ghost use Rattle.std.specs.Prelude.{◌≡◌, ◌+◌, ◌<◌, ◌≤◌, ◌∷◌, [], ℕ, IsTrue, IsSome, OnOk, OnErr, IfOk, IfErr};
+ghost use Rattle.std.specs.Prelude.{◌≡◌, ◌<◌, ◌∷◌, [], ℕ, None, IsTrue, IsSome, OnOk, OnErr, IfOk};
 ghost use Rattle.std.specs.List.{Contains};
 ghost use Rattle.run_io.specs.Bytes.{Rose};
 ghost use Rattle.std.specs.Option.{option_copied};
@@ -8,12 +8,10 @@ ghost use Rattle.ledger_spec.specs.Maps.{hash_cmp, get_in};
 ghost use Rattle.ledger_spec.specs.Acquiring.{after_verdict};
 ghost use Rattle.acquire_core.specs.Replies.{found_verdict};
 ghost use Rattle.missing_walk.specs.Founds.{IsFound};
-ghost use Rattle.store_core.specs.Checking.{AreKept, HasFound, IsSought, LeavesSearch, Shares, sought_by};
-ghost use Rattle.ledger_searches.specs.Hunting.{IsUnbegun, hunt_of};
-ghost use Rattle.missing_walk.specs.Passes.{HasMarkedRoots};
+ghost use Rattle.store_core.specs.Checking.{AreKept, HasFound, sought_by};
+ghost use Rattle.store_core.specs.Serving.{MayAct, Seeks};
 ghost use Rattle.ledger_machine.specs.Limits.{actors};
-ghost use Rattle.ledger_machine.specs.Scripts.{AreBytes, AreOffered};
-ghost use Rattle.ledger_machine.specs.State.{form_in, stored_seq, with_wanted, ended};
+ghost use Rattle.ledger_machine.specs.State.{stored_seq, with_wanted, ended};
 ghost use Rattle.ledger_machine.specs.Want.{want_reply, after_want};
 ghost use Rattle.ledger_machine.specs.Peer.{peer_reply, after_peer};
 ghost use Rattle.ledger_machine.specs.Check.{check_reply, after_check};
@@ -21,9 +19,9 @@ ghost use Rattle.ledger_machine.specs.Ticks.{tick_reply, after_tick};
 ghost use Rattle.ledger_machine.specs.Rotation.{Tells};
 ghost use Rattle.ledger_machine.specs.Steps.{IsAfter};
 ghost use Rattle.ledger_machine.specs.Steps.{Does};
-ghost use Rattle.store_core.specs.Desks.{backs, IsFiled, Stays, Grows, KeepsRest, OnlyReads};
+ghost use Rattle.store_core.specs.Desks.{AsksNoStore, IsFiled, Stays, Grows, KeepsRest};
 ghost use Rattle.store_core.specs.Refusals.{IsRefusal};
-ghost use Rattle.store_core.specs.Telling.{Hears, TellsRoot, AreWantedTold};
+ghost use Rattle.store_core.specs.Telling.{Hears, TellsRoot};
 ghost use Rattle.store_core.specs.Wanting.{judged_by, found_seq as seq_found, settled, told_at};
 
 use crate::heeding::{take_base, take_node};
@@ -61,8 +59,8 @@ impl<H: NodeHash, Sh: Shelf> Tables<H, Sh> {
         seq: u32,
     ) -> Result<WantReply, Memory>
         requires { IsTrue (is_nonzero target.now) }
-        ensures reply { IfOk result (λ r. r ≡ want_reply self.old.state target.now seq) }
-        ensures after { IfOk result (λ r. IsAfter (after_want self.old.state target.now seq r) self.new.state) }
+        ensures row { IfOk result (λ r.
+            (r ≡ want_reply self.old.state target.now seq) × IsAfter (after_want self.old.state target.now seq r) self.new.state) }
         ensures err { OnErr result (IsAfter self.old.state self.new.state) }
         ensures tells { IfOk result (λ r. Tells self.old.state self.new.state []) }
         ensures may_tell { OnErr result (Tells self.old.state self.new.state (target.now ∷ [])) }
@@ -138,9 +136,7 @@ impl<H: NodeHash, Sh: Shelf> Tables<H, Sh> {
         state: &Option<Blob>,
         tx: &Option<Blob>,
     ) -> Reply
-        requires filed { IsFiled H.half Sh.B.tells self.old.state }
-        requires told { IsTrue Sh.B.tells → AreWantedTold self.old.state }
-        requires offered { AreOffered target.now header.now state.now tx.now }
+        requires may { MayAct H.half Sh.B.tells self.old (Command.Base peer target.now header.now state.now tx.now) None }
         ensures does { IsTrue Sh.B.tells → (actor : ℕ)
             → Does H.half self.old.state actor (Command.Base peer target.now header.now state.now tx.now) result [] self.new.state }
         ensures refused { IsRefusal result → KeepsRest self.old.state self.new.state }
@@ -178,9 +174,7 @@ impl<H: NodeHash, Sh: Shelf> Tables<H, Sh> {
         id: &NodeId,
         blob: &Blob,
     ) -> Reply
-        requires filed { IsFiled H.half Sh.B.tells self.old.state }
-        requires told { IsTrue Sh.B.tells → AreWantedTold self.old.state }
-        requires bytes { AreBytes blob.now }
+        requires may { MayAct H.half Sh.B.tells self.old (Command.Node peer target.now kind id.now blob.now) None }
         ensures does { IsTrue Sh.B.tells → (actor : ℕ)
             → Does H.half self.old.state actor (Command.Node peer target.now kind id.now blob.now) result [] self.new.state }
         ensures refused { IsRefusal result → KeepsRest self.old.state self.new.state }
@@ -218,15 +212,7 @@ impl<H: NodeHash, Sh: Shelf> Tables<H, Sh> {
         requires filed { IsFiled H.half Sh.B.tells self.old.state }
         requires searches { AreKept H.half Sh.B.tells self.old.state searches.old }
         requires known { actor < actors }
-        ensures found { IfOk result (IsSought H.half Sh.B.tells self.new.state target.now part) }
-        ensures leaves { IsTrue Sh.B.tells → IfOk result (LeavesSearch H.half self.old.state target.now
-            (hunt_of searches.old.hunts.items actor) searches.old.marks (hunt_of searches.new.hunts.items actor) searches.new.marks) }
-        ensures first { IsTrue Sh.B.tells → IsUnbegun (hunt_of searches.old.hunts.items actor) target.now
-            → HasMarkedRoots (form_in self.old.state) target.now searches.old.marks → self.new.gets ≤ self.old.gets + 2 }
-        ensures shares { Shares H.half Sh.B.tells self.old.state actor (Command.Check target.now) part searches.old self.old.gets
-            searches.new self.new.gets }
-        ensures reads { OnlyReads Sh.B.tells self.old self.new }
-        ensures fault { IfErr result (λ e. e ≡ SearchFault.Fault → Rose self.old.faults self.new.faults) }
+        ensures { Seeks H.half Sh.B.tells self.old actor target.now part searches.old result searches.new self.new }
     {
         if !self.wanted.contains_key(target) {
             return Ok(Sought::Ended(None));
@@ -258,9 +244,7 @@ impl<H: NodeHash, Sh: Shelf> Tables<H, Sh> {
         ensures tells { Tells self.old.state self.new.state [] }
         ensures kept { OnErr result (KeepsRest self.old.state self.new.state) }
         ensures grows { Grows self.old self.new }
-        ensures slices { self.new.slices ≡ self.old.slices }
-        ensures copies { IsTrue Sh.B.tells → backs self.new ≡ backs self.old }
-        ensures asks { self.new.gets ≡ self.old.gets }
+        ensures store { AsksNoStore Sh.B.tells self.old self.new }
     {
         if !self.wanted.contains_key(target) {
             return Ok(CheckReply::NotOpen);
@@ -282,7 +266,7 @@ impl<H: NodeHash, Sh: Shelf> Tables<H, Sh> {
         ensures err { OnErr result (self.new ≡ self.old) }
         ensures told { self.new.state.shaded ≡ self.old.state.shaded }
         ensures stays { Stays Sh.B.tells self.old self.new }
-        ensures gets { self.new.gets ≡ self.old.gets }
+        ensures store { AsksNoStore Sh.B.tells self.old self.new }
     {
         let floor = self.book.floor();
         let Some(acquire) = self.wanted.get_mut(target) else {
@@ -294,15 +278,10 @@ impl<H: NodeHash, Sh: Shelf> Tables<H, Sh> {
     // Ends what the answer ends: a complete ledger is listed, and one that isn't acceptable is wanted no more.
     fn settle(&mut self, target: &Hash32, seq: u32, reply: &CheckReply) -> Result<(), Memory>
         ensures ok { OnOk result (IsAfter (settled self.old.state target.now seq reply.now) self.new.state) }
-
         // only to list a ledger takes memory
         ensures err { OnErr result ((reply.now ≡ CheckReply.Complete) × IsAfter self.old.state self.new.state) }
         ensures hears { Hears self.old.state.shaded (told_at target.now reply.now) self.new.state.shaded }
-        ensures faults { self.new.faults ≡ self.old.faults }
-        ensures gets { self.new.gets ≡ self.old.gets }
-        ensures epoch { self.new.state.epoch ≡ self.old.state.epoch }
-        ensures slices { self.new.slices ≡ self.old.slices }
-        ensures copies { IsTrue Sh.B.tells → backs self.new ≡ backs self.old }
+        ensures store { AsksNoStore Sh.B.tells self.old self.new }
     {
         match reply {
             CheckReply::Complete => self.list(target, seq)?,
@@ -319,11 +298,7 @@ impl<H: NodeHash, Sh: Shelf> Tables<H, Sh> {
     fn end(&mut self, target: &Hash32)
         ensures after { self.new.state ≡ ended self.old.state target.now }
         ensures told { self.new.state.shaded ≡ self.old.state.shaded }
-        ensures faults { self.new.faults ≡ self.old.faults }
-        ensures gets { self.new.gets ≡ self.old.gets }
-        ensures epoch { self.new.state.epoch ≡ self.old.state.epoch }
-        ensures slices { self.new.slices ≡ self.old.slices }
-        ensures copies { IsTrue Sh.B.tells → backs self.new ≡ backs self.old }
+        ensures store { AsksNoStore Sh.B.tells self.old self.new }
     {
         self.wanted.remove(target);
     }

@@ -1,14 +1,13 @@
 //! How a session is closed: the forms of its ledger are stored under their hashes, and the ledger is listed.
-ghost use Rattle.std.specs.Prelude.{◌≡◌, [], ℕ, IsTrue, IfErr, IfOk, List};
+ghost use Rattle.std.specs.Prelude.{◌≡◌, [], IsTrue, IfErr, IfOk};
 ghost use Rattle.cow_map.specs.Sealing.{AreNamed};
-ghost use Rattle.run_io.specs.Bytes.{Rose};
 ghost use Rattle.ledger_machine.specs.Rotation.{Tells};
 ghost use Rattle.ledger_machine.specs.Scripts.{AreFields};
 ghost use Rattle.ledger_machine.specs.Sound.{Sound};
-ghost use Rattle.ledger_machine.specs.Steps.{Does, own_hashes};
+ghost use Rattle.ledger_machine.specs.Steps.{own_hashes};
 ghost use Rattle.store_core.specs.Closing.{IsMade, IsUnmade, fields_of};
-ghost use Rattle.store_core.specs.Desks.{backs, IsFiled, Grows, KeepsRest};
-ghost use Rattle.store_core.specs.Refusals.{IsRefusal};
+ghost use Rattle.store_core.specs.Desks.{IsFiled};
+ghost use Rattle.store_core.specs.Serving.{Acts, MayServe};
 ghost use Rattle.store_core.specs.Telling.{TellsRoot};
 
 use crate::machine::Machine;
@@ -22,20 +21,14 @@ use std::alloc::Global;
 impl<H: NodeHash, Sh: Shelf> Machine<H, Sh> {
     /// Closes a session into a new ledger, which is stored and listed.
     pub(crate) fn close(&mut self, alloc: Global, id: (u8, u16), given: &[u64; 4]) -> Reply
-        requires in_range { AreFields given.now }
-        requires sound { IsTrue Sh.B.tells → Sound H.half self.old.state }
-        ensures does { IsTrue Sh.B.tells → Does H.half self.old.state id.0 (Command.Close id.1 given.now) result [] self.new.state }
+        requires may { MayServe H.half Sh.B.tells self.old (Command.Close id.1 given.now) }
+        ensures acts { Acts H.half Sh.B.tells self.old id.0 (Command.Close id.1 given.now) result [] self.new }
         ensures tells { IsTrue Sh.B.tells
             → Tells self.old.state self.new.state (own_hashes H.half self.old.state id.0 (Command.Close id.1 given.now) result) }
         ensures names { IsTrue Sh.B.tells → TellsRoot self.old.state (Command.Close id.1 given.now) result self.new.state }
-        ensures refused { IsRefusal result → KeepsRest self.old.state self.new.state }
-        ensures grows { Grows self.old self.new }
-        ensures slices { self.new.slices ≡ self.old.slices }
-        ensures copies { IsTrue Sh.B.tells → backs self.new ≡ backs self.old }
-        ensures fault { result ≡ Reply.Fault → Rose self.old.faults self.new.faults }
     {
         match self.seal(alloc, id, given) {
-            Ok(made) => self.publish(alloc, id, &made),
+            Ok(made) => self.publish(alloc, id, given, &made),
             Err(reply) => reply,
         }
     }
@@ -66,19 +59,14 @@ impl<H: NodeHash, Sh: Shelf> Machine<H, Sh> {
     }
 
     // Stores and lists the ledger that a session closes into, and ends the session. The rotation under way is told of it first.
-    fn publish(&mut self, alloc: Global, id: (u8, u16), made: &Closed) -> Reply
+    fn publish(&mut self, alloc: Global, id: (u8, u16), given: &[u64; 4], made: &Closed) -> Reply
         requires named { AreNamed H.half made.now.forms.items }
         requires filed { IsFiled H.half Sh.B.tells self.old.state }
-        ensures does { IsTrue Sh.B.tells → (given : List ℕ) → IsMade H.half self.old.state id given made.now
-            → Does H.half self.old.state id.0 (Command.Close id.1 given) result [] self.new.state }
-        ensures tells { IsTrue Sh.B.tells → (given : List ℕ) → IsMade H.half self.old.state id given made.now
-            → Tells self.old.state self.new.state (own_hashes H.half self.old.state id.0 (Command.Close id.1 given) result) }
-        ensures names { (given : List ℕ) → TellsRoot self.old.state (Command.Close id.1 given) result self.new.state }
-        ensures refused { IsRefusal result → KeepsRest self.old.state self.new.state }
-        ensures grows { Grows self.old self.new }
-        ensures slices { self.new.slices ≡ self.old.slices }
-        ensures copies { IsTrue Sh.B.tells → backs self.new ≡ backs self.old }
-        ensures fault { result ≡ Reply.Fault → Rose self.old.faults self.new.faults }
+        requires made { IsTrue Sh.B.tells → IsMade H.half self.old.state id given.now made.now }
+        ensures acts { Acts H.half Sh.B.tells self.old id.0 (Command.Close id.1 given.now) result [] self.new }
+        ensures tells { IsTrue Sh.B.tells
+            → Tells self.old.state self.new.state (own_hashes H.half self.old.state id.0 (Command.Close id.1 given.now) result) }
+        ensures names { TellsRoot self.old.state (Command.Close id.1 given.now) result self.new.state }
     {
         if self.tables.is_listed(&made.hash) {
             return Reply::Close(CloseReply::Listed);

@@ -482,16 +482,9 @@ impl<H: NodeHash, Sh: Shelf> Core<H, Sh> {
     pub fn totals(&self) -> Totals
         ensures { result ≡ totals_of self.now.journal self.now.state }
     {
-        let listed = self.hall.listed() as u32;
         let journal = self.journal();
-        Totals {
-            complete: complete_in(journal) as u32,
-            closed: closed_in(journal) as u32,
-            listed,
-            floor: self.hall.floor(),
-            last: self.hall.last(),
-            epoch: self.hall.epoch(),
-        }
+        self.hall
+            .totals(complete_in(journal) as u32, closed_in(journal) as u32)
     }
 }
 

@@ -9,7 +9,7 @@ ghost use Rattle.ledger_machine.specs.State.{form_in};
 ghost use Rattle.open_sessions.specs.Changed.{Changed};
 ghost use Rattle.open_sessions.specs.Rows.{del_said};
 ghost use Rattle.store_core.specs.Machines.{IsHeaderOf, IsFit, edit_by};
-ghost use Rattle.store_core.specs.Desks.{IsFiled, Stays, KeepsRest, OnlyReads};
+ghost use Rattle.store_core.specs.Desks.{IsFiled, LooksUp, Stays, OnlyReads};
 
 use crate::limits::{LAST_SEQ, MOST_SESSIONS};
 use crate::machine::Machine;
@@ -38,11 +38,7 @@ impl<H: NodeHash, Sh: Shelf> Machine<H, Sh> {
         ensures reply { IsTrue Sh.B.tells → IfOk result (λ r. r ≡ edit_reply self.old.state (actor, session) target.now) }
         ensures after { IsTrue Sh.B.tells
             → IfOk result (λ r. self.new.state ≡ after_edit H.half self.old.state (actor, session) target.now r) }
-        ensures err { IsTrue Sh.B.tells → OnErr result (self.new.state ≡ self.old.state) }
-        ensures told { self.new.state.shaded ≡ self.old.state.shaded }
-        ensures kept { OnErr result (KeepsRest self.old.state self.new.state) }
-        ensures stays { Stays Sh.B.tells self.old self.new }
-        ensures fault { IfErr result (λ e. e ≡ BackFault.Fault → Rose self.old.faults self.new.faults) }
+        ensures looks { LooksUp Sh.B.tells self.old result self.new }
     {
         let id = (actor, session);
         if self.sessions.has(id) {
@@ -111,11 +107,7 @@ impl<H: NodeHash, Sh: Shelf> Machine<H, Sh> {
         ensures reply { IsTrue Sh.B.tells → IfOk result (λ r. r ≡ has_session self.old.state (actor, session)) }
         ensures after { IsTrue Sh.B.tells
             → IfOk result (λ _. self.new.state ≡ after_put self.old.state (actor, session) item.now.key item.now.value) }
-        ensures err { IsTrue Sh.B.tells → OnErr result (self.new.state ≡ self.old.state) }
-        ensures told { self.new.state.shaded ≡ self.old.state.shaded }
-        ensures kept { OnErr result (KeepsRest self.old.state self.new.state) }
-        ensures stays { Stays Sh.B.tells self.old self.new }
-        ensures fault { IfErr result (λ e. e ≡ BackFault.Fault → Rose self.old.faults self.new.faults) }
+        ensures looks { LooksUp Sh.B.tells self.old result self.new }
     {
         self.tables
             .put(alloc, &mut self.sessions, (actor, session), item)
@@ -133,11 +125,7 @@ impl<H: NodeHash, Sh: Shelf> Machine<H, Sh> {
         ensures reply { IsTrue Sh.B.tells → IfOk result (λ r. r ≡ del_reply self.old.state (actor, session) key.now) }
         ensures after { IsTrue Sh.B.tells
             → IfOk result (λ _. self.new.state ≡ after_del self.old.state (actor, session) key.now) }
-        ensures err { IsTrue Sh.B.tells → OnErr result (self.new.state ≡ self.old.state) }
-        ensures told { self.new.state.shaded ≡ self.old.state.shaded }
-        ensures kept { OnErr result (KeepsRest self.old.state self.new.state) }
-        ensures stays { Stays Sh.B.tells self.old self.new }
-        ensures fault { IfErr result (λ e. e ≡ BackFault.Fault → Rose self.old.faults self.new.faults) }
+        ensures looks { LooksUp Sh.B.tells self.old result self.new }
     {
         let there = self
             .tables

@@ -1,29 +1,27 @@
 //! The bench, and beside it the open views with the headers of their ledgers, so that the root of a view's map is known without the store.
-ghost use Rattle.std.specs.Prelude.{◌≡◌, ◌≢◌, ◌⊎◌, ◌<◌, ◌-◌, ◌^◌, [], None, Some, true, false, IsTrue, IfOk, IfErr};
+ghost use Rattle.std.specs.Prelude.{◌≡◌, ◌≢◌, ◌⊎◌, ◌<◌, ◌^◌, [], None, Some, true, false, IsTrue, IfOk};
 ghost use Rattle.std.specs.Prelude.{IfSome, IsNone, IsSome, IsSomeAnd, MatchBool, MatchOption, length, map};
 ghost use Rattle.std.specs.FinMap as finite;
 ghost use Rattle.std.specs.Option.{option_copied};
 ghost use Rattle.ledger_spec.specs.Bytes.{Hash, Half};
-ghost use Rattle.ledger_spec.specs.Forms.{hash_of};
 ghost use Rattle.ledger_spec.specs.Maps.{numbered_cmp, get_in, has_in};
 ghost use Rattle.ledger_spec.specs.declared.Kind.{Kind as the_kind};
 ghost use Rattle.ledger_machine.specs.Limits.{actors};
-ghost use Rattle.ledger_machine.specs.Commands.{IsInRange};
-ghost use Rattle.ledger_machine.specs.Sound.{Sound};
-ghost use Rattle.ledger_machine.specs.State.{form_in, opening};
+ghost use Rattle.ledger_machine.specs.State.{opening};
 ghost use Rattle.ledger_machine.specs.Views.{is_retained as state_retains};
-ghost use Rattle.path_proof.specs.Sources.{Gives};
 ghost use Rattle.rotating_store.specs.Stores.{merged};
 ghost use Rattle.run_io.specs.Bytes.{Rose};
 ghost use Rattle.shamap_node.specs.Nodes.{held};
 ghost use Rattle.store_core.specs.Machines.{IsHeaderOf};
 ghost use Rattle.store_core.specs.Checking.{AreKept};
-ghost use Rattle.store_core.specs.Desks.{IsFiled, OnlyReads, backs, over};
-ghost use Rattle.store_core.specs.Dumping.{IsNextRecord, Follows};
-ghost use Rattle.store_core.specs.Halls.{Answers, AreViews, IsQuiet, LeavesMore, Serves, root_by, root_of};
+ghost use Rattle.store_core.specs.Desks.{IsFiled, over};
+ghost use Rattle.store_core.specs.Dumping.{GivesNext};
+ghost use Rattle.store_core.specs.Halls.{AreViews, IsQuiet, root_by, root_of};
+ghost use Rattle.store_core.specs.Serving.{Answers, LeavesMore, MayServe, Serves, Steps};
 ghost use Rattle.store_core.specs.Jobs.{HandsFault, IfSays, IsTaken, job_for};
-ghost use Rattle.store_core.specs.Reads.{IsFollowed, IsReplied};
+ghost use Rattle.store_core.specs.Reads.{GivesForm, GivesNode, IsFollowed, IsReplied};
 ghost use Rattle.store_core.specs.Retaining.{AreRetained, IsStoreOf};
+ghost use Rattle.store_core.specs.Totals.{totals_by};
 ghost use Rattle.store_core.specs.Telling.{AreTold};
 
 use crate::jobs::{Followed, Handed, ReadJob, View};
@@ -33,7 +31,7 @@ use crate::rotating::Part;
 use crate::views::answered;
 use half_hash::{Blob, Hash32, Memory, NodeHash};
 use ledger_header::Header;
-use ledger_machine::{Command, Line, Record, Reply, ViewReply};
+use ledger_machine::{Command, Line, Record, Reply, Totals, ViewReply};
 use ledger_searches::Searches;
 use node_backend::{BackFault, Shelf};
 use path_proof::{Answer, FetchFault, ReadFault};
@@ -100,29 +98,12 @@ impl<H: NodeHash, Sh: Shelf> Hall<H, Sh> {
         self.machine.retained(alloc)
     }
 
-    /// How many ledgers are listed.
-    pub(crate) fn listed(&self) -> usize
-        ensures { result ≡ length self.now.desk.state.listed }
+    /// The numbers of a run's summary, by how many entries are `complete` and how many `closed`.
+    pub(crate) fn totals(&self, complete: u32, closed: u32) -> Totals
+        requires { length self.now.desk.state.listed < 2 ^ 32 }
+        ensures { result ≡ totals_by complete closed self.now.desk.state }
     {
-        self.machine.listed()
-    }
-
-    pub(crate) fn floor(&self) -> u32
-        ensures { result ≡ self.now.desk.state.floor }
-    {
-        self.machine.floor()
-    }
-
-    pub(crate) fn last(&self) -> Option<u32>
-        ensures { result ≡ self.now.desk.state.last }
-    {
-        self.machine.last()
-    }
-
-    pub(crate) fn epoch(&self) -> u64
-        ensures { result ≡ self.now.desk.state.epoch }
-    {
-        self.machine.epoch()
+        self.machine.totals(complete, closed)
     }
 
     /// For proofs: the views are the state's, with the headers that are stored, and what is stored lies in the two backends.
@@ -141,11 +122,8 @@ impl<H: NodeHash, Sh: Shelf> Hall<H, Sh> {
         after: Option<&Hash32>,
     ) -> Result<Option<Record>, BackFault>
         requires { IsFiled H.half Sh.B.tells self.old.desk.state }
-        ensures next { IsTrue Sh.B.tells → IfOk result (IsNextRecord self.old.desk.state.nodes (option_copied after.entry)) }
-        ensures follows { IfOk result (λ r. IfSome r (λ r. Follows (option_copied after.entry) r.hash)) }
-        ensures reads { OnlyReads Sh.B.tells self.old.desk self.new.desk }
+        ensures next { GivesNext Sh.B.tells self.old.desk (option_copied after.entry) result self.new.desk }
         ensures views { self.new.views ≡ self.old.views }
-        ensures fault { IfErr result (λ e. e ≡ BackFault.Fault → Rose self.old.desk.faults self.new.desk.faults) }
     {
         let next = self.machine.next_stored(alloc, after)?;
         Ok(next)
@@ -158,11 +136,8 @@ impl<H: NodeHash, Sh: Shelf> Hall<H, Sh> {
         h: &Hash32,
     ) -> Result<Option<Arc<Node>>, FetchFault>
         requires { IsFiled H.half Sh.B.tells self.old.desk.state }
-        ensures hash { IfOk result (λ o. IfSome o (λ node. hash_of H.half (held node.value) ≡ h.now)) }
-        ensures exact { IsTrue Sh.B.tells → Gives H.half (form_in self.old.desk.state h.now) result }
-        ensures reads { OnlyReads Sh.B.tells self.old.desk self.new.desk }
+        ensures node { GivesNode H.half Sh.B.tells self.old.desk h.now result self.new.desk }
         ensures views { self.new.views ≡ self.old.views }
-        ensures fault { IfErr result (λ e. e ≡ FetchFault.Fault → Rose self.old.desk.faults self.new.desk.faults) }
     {
         self.machine.node_at(alloc, h)
     }
@@ -170,11 +145,8 @@ impl<H: NodeHash, Sh: Shelf> Hall<H, Sh> {
     /// The bytes of a hash, as the store gives them: nothing of them is hashed.
     pub(crate) fn form_at(&mut self, alloc: Global, h: &Hash32) -> Result<Option<Blob>, FetchFault>
         requires { IsFiled H.half Sh.B.tells self.old.desk.state }
-        ensures exact { IsTrue Sh.B.tells → IfOk result (λ b. b ≡ form_in self.old.desk.state h.now) }
-        ensures own { IfOk result (λ o. IfSome o (λ form. IsTrue Sh.B.tells → H.half form ≡ h.now)) }
-        ensures reads { OnlyReads Sh.B.tells self.old.desk self.new.desk }
+        ensures form { GivesForm H.half Sh.B.tells self.old.desk h.now result self.new.desk }
         ensures views { self.new.views ≡ self.old.views }
-        ensures fault { IfErr result (λ e. e ≡ FetchFault.Fault → Rose self.old.desk.faults self.new.desk.faults) }
     {
         self.machine.form_at(alloc, h)
     }
@@ -220,10 +192,7 @@ impl<H: NodeHash, Sh: Shelf> Hall<H, Sh> {
         failed: bool,
         part: Part,
     ) -> Option<(Reply, Vec<Arc<Node>>)>
-        requires in_range { IsInRange line.now.command }
-        requires sound { IsTrue Sh.B.tells → Sound H.half self.old.desk.state }
-        requires told { IsTrue Sh.B.tells → AreTold self.old.desk.state }
-        requires room { self.old.desk.state.epoch < 2 ^ 64 - 1 }
+        requires may { MayServe H.half Sh.B.tells self.old.desk line.now.command }
         requires searches { AreKept H.half Sh.B.tells self.old.desk.state searches.old }
         requires known { actor < actors }
         ensures does { MatchOption result
@@ -294,10 +263,7 @@ impl<H: NodeHash, Sh: Shelf> Hall<H, Sh> {
         command: &Command,
         part: Part,
     ) -> Option<(Reply, Vec<Arc<Node>>)>
-        requires in_range { IsInRange command.now }
-        requires sound { IsTrue Sh.B.tells → Sound H.half self.old.desk.state }
-        requires told { IsTrue Sh.B.tells → AreTold self.old.desk.state }
-        requires room { self.old.desk.state.epoch < 2 ^ 64 - 1 }
+        requires may { MayServe H.half Sh.B.tells self.old.desk command.now }
         requires searches { AreKept H.half Sh.B.tells self.old.desk.state searches.old }
         requires known { actor < actors }
         ensures does { MatchOption result
@@ -325,13 +291,8 @@ impl<H: NodeHash, Sh: Shelf> Hall<H, Sh> {
         view: u16,
     ) -> (Reply, Vec<Arc<Node>>)
         requires is { command.now ≡ Command.Unview view }
-        requires in_range { IsInRange command.now }
-        requires sound { IsTrue Sh.B.tells → Sound H.half self.old.desk.state }
-        requires told { IsTrue Sh.B.tells → AreTold self.old.desk.state }
-        requires room { self.old.desk.state.epoch < 2 ^ 64 - 1 }
-        ensures serves { Serves H.half Sh.B.tells (Rose self.old.desk.faults self.new.desk.faults) self.old.desk actor command.now result.0
-            (map (λ a. held a.value) result.1.items) self.new.desk }
-        ensures copies { IsTrue Sh.B.tells → backs self.new.desk ≡ backs self.old.desk }
+        requires may { MayServe H.half Sh.B.tells self.old.desk command.now }
+        ensures { Steps H.half Sh.B.tells self.old.desk actor command.now result.0 (map (λ a. held a.value) result.1.items) self.new.desk }
     {
         let answered = self.machine.answer(alloc, actor, command, &None);
         self.views.remove(&(actor, view));
@@ -348,13 +309,8 @@ impl<H: NodeHash, Sh: Shelf> Hall<H, Sh> {
         target: &Hash32,
     ) -> (Reply, Vec<Arc<Node>>)
         requires is { command.now ≡ Command.View view target.now }
-        requires in_range { IsInRange command.now }
-        requires sound { IsTrue Sh.B.tells → Sound H.half self.old.desk.state }
-        requires told { IsTrue Sh.B.tells → AreTold self.old.desk.state }
-        requires room { self.old.desk.state.epoch < 2 ^ 64 - 1 }
-        ensures serves { Serves H.half Sh.B.tells (Rose self.old.desk.faults self.new.desk.faults) self.old.desk actor command.now result.0
-            (map (λ a. held a.value) result.1.items) self.new.desk }
-        ensures copies { IsTrue Sh.B.tells → backs self.new.desk ≡ backs self.old.desk }
+        requires may { MayServe H.half Sh.B.tells self.old.desk command.now }
+        ensures { Steps H.half Sh.B.tells self.old.desk actor command.now result.0 (map (λ a. held a.value) result.1.items) self.new.desk }
     {
         if !self.is_openable((actor, view), target) {
             return self.machine.answer(alloc, actor, command, &None);
@@ -396,13 +352,8 @@ impl<H: NodeHash, Sh: Shelf> Hall<H, Sh> {
         requires is { command.now ≡ Command.View view opened.target }
         requires closed { get_in numbered_cmp self.old.views (actor, view) ≡ None }
         requires header { IsTrue Sh.B.tells → IsHeaderOf self.old.desk.state opened.target opened.header }
-        requires in_range { IsInRange command.now }
-        requires sound { IsTrue Sh.B.tells → Sound H.half self.old.desk.state }
-        requires told { IsTrue Sh.B.tells → AreTold self.old.desk.state }
-        requires room { self.old.desk.state.epoch < 2 ^ 64 - 1 }
-        ensures serves { Serves H.half Sh.B.tells (Rose self.old.desk.faults self.new.desk.faults) self.old.desk actor command.now result.0
-            (map (λ a. held a.value) result.1.items) self.new.desk }
-        ensures copies { IsTrue Sh.B.tells → backs self.new.desk ≡ backs self.old.desk }
+        requires may { MayServe H.half Sh.B.tells self.old.desk command.now }
+        ensures { Steps H.half Sh.B.tells self.old.desk actor command.now result.0 (map (λ a. held a.value) result.1.items) self.new.desk }
     {
         let id = (actor, view);
         let Ok(_) = self.views.insert(id, opened) else {

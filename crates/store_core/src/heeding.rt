@@ -1,8 +1,7 @@
 //! What an offer may write is shaded before it is judged, so that the walk of the rotation under way takes it once it is written. A hash
 //! that is stored already needs no shade.
-ghost use Rattle.std.specs.Prelude.{◌≡◌, ◌≤◌, true, false, IsTrue, IfErr, OnOk, Ok};
+ghost use Rattle.std.specs.Prelude.{◌≡◌, true, false, IsTrue, IfErr, OnOk, Ok};
 ghost use Rattle.std.specs.List.{Contains};
-ghost use Rattle.std.specs.FinMap as finite;
 ghost use Rattle.run_io.specs.Bytes.{Rose};
 ghost use Rattle.ledger_spec.specs.Forms.{Held, hash_of as half_of};
 ghost use Rattle.ledger_spec.specs.Own.{AreStored};
@@ -11,10 +10,9 @@ ghost use Rattle.rotating_store.specs.Reading.{IsLater};
 ghost use Rattle.acquire_core.specs.Answers.{forms_in, Answers};
 ghost use Rattle.ledger_spec.specs.Replies.{base_given, base_stored, node_given, node_stored};
 ghost use Rattle.acquire_core.specs.Replies.{TakesBase, TakesNode};
-ghost use Rattle.rotating_store.specs.Stores.{nodes_of, Counted};
 ghost use Rattle.online_rotate.specs.Copying.{IsWalking};
 ghost use Rattle.std.specs.Option.{option_copied};
-ghost use Rattle.store_core.specs.Heeds.{Heeds, IsHeeded, AreHeeded};
+ghost use Rattle.store_core.specs.Heeds.{HeedsFirst, IsHeeded, AreHeeded};
 
 use acquire_core::Acquire;
 use half_hash::{Hash32, NodeHash};
@@ -41,7 +39,8 @@ pub(crate) fn take_node<H: NodeHash, Sh: Shelf>(
 ) -> Result<NodeReply, OfferFault>
     ensures answer { IsTrue Sh.B.tells → AreStored H.half (forms_in store.old) → Answers H.half
         (node_given H.half (forms_in store.old) acquire.old.target acquire.old.peers peer kind id.now blob.now)
-        (node_stored H.half (forms_in store.old) acquire.old.target acquire.old.peers peer kind id.now blob.now) store.old result store.new }
+        (node_stored H.half (forms_in store.old) acquire.old.target acquire.old.peers peer kind id.now blob.now) store.old result
+        store.new }
     ensures after { TakesNode acquire.old peer result acquire.new }
     ensures walks { IsTrue Sh.B.tells → AreStored H.half (forms_in store.old) → rotator.old.turning ≡ true
         → Contains rotator.old.shaded acquire.old.target → IsWalking rotator.old.shaded rotator.old.walk store.old
@@ -102,18 +101,13 @@ fn heed_base<H: NodeHash, Sh: Shelf>(
     state: Option<&[u8]>,
     tx: Option<&[u8]>,
 ) -> Result<(), BackFault>
-    ensures heeds { IsTrue Sh.B.tells → Heeds (forms_in store.old) rotator.old rotator.new }
+    ensures walk { HeedsFirst Sh.B.tells store.old rotator.old result store.new rotator.new }
     ensures target { IsTrue Sh.B.tells
         → OnOk result (rotator.old.turning ≡ true → IsHeeded (forms_in store.old) rotator.new target.now) }
     ensures state { IsTrue Sh.B.tells → OnOk result (rotator.old.turning ≡ true
         → AreHeeded H.half (forms_in store.old) rotator.new (option_copied state.entry)) }
     ensures tx { IsTrue Sh.B.tells → OnOk result (rotator.old.turning ≡ true
         → AreHeeded H.half (forms_in store.old) rotator.new (option_copied tx.entry)) }
-    ensures rest { rotator.new ≡ record rotator.old { walk = rotator.new.walk } }
-    ensures idle { rotator.old.turning ≡ false → rotator.new ≡ rotator.old }
-    ensures store { IsTrue Sh.B.tells → Counted store.old store.new }
-    ensures later { IsLater store.old store.new }
-    ensures fault { IfErr result (λ e. e ≡ BackFault.Fault → Rose store.old.faults store.new.faults) }
 {
     if !rotator.busy() {
         return Ok(());
@@ -130,14 +124,9 @@ fn heed_root<H: NodeHash, Sh: Shelf>(
     store: &mut RotStore<Sh>,
     blob: Option<&[u8]>,
 ) -> Result<(), BackFault>
-    ensures heeds { IsTrue Sh.B.tells → Heeds (forms_in store.old) rotator.old rotator.new }
+    ensures walk { HeedsFirst Sh.B.tells store.old rotator.old result store.new rotator.new }
     ensures heeded { IsTrue Sh.B.tells → OnOk result (rotator.old.turning ≡ true
         → AreHeeded H.half (forms_in store.old) rotator.new (option_copied blob.entry)) }
-    ensures rest { rotator.new ≡ record rotator.old { walk = rotator.new.walk } }
-    ensures idle { rotator.old.turning ≡ false → rotator.new ≡ rotator.old }
-    ensures store { IsTrue Sh.B.tells → Counted store.old store.new }
-    ensures later { IsLater store.old store.new }
-    ensures fault { IfErr result (λ e. e ≡ BackFault.Fault → Rose store.old.faults store.new.faults) }
 {
     match blob {
         Some(blob) => heed_node::<H, Sh>(alloc, rotator, store, blob),
@@ -152,14 +141,9 @@ fn heed_node<H: NodeHash, Sh: Shelf>(
     store: &mut RotStore<Sh>,
     blob: &[u8],
 ) -> Result<(), BackFault>
-    ensures heeds { IsTrue Sh.B.tells → Heeds (forms_in store.old) rotator.old rotator.new }
+    ensures walk { HeedsFirst Sh.B.tells store.old rotator.old result store.new rotator.new }
     ensures heeded { IsTrue Sh.B.tells → OnOk result (rotator.old.turning ≡ true → (n : Held) → read_wire H.half blob.now ≡ Ok n
         → IsHeeded (forms_in store.old) rotator.new (half_of H.half n)) }
-    ensures rest { rotator.new ≡ record rotator.old { walk = rotator.new.walk } }
-    ensures idle { rotator.old.turning ≡ false → rotator.new ≡ rotator.old }
-    ensures store { IsTrue Sh.B.tells → Counted store.old store.new }
-    ensures later { IsLater store.old store.new }
-    ensures fault { IfErr result (λ e. e ≡ BackFault.Fault → Rose store.old.faults store.new.faults) }
 {
     if !rotator.busy() {
         return Ok(());
@@ -180,14 +164,9 @@ fn heed_hash<Sh: Shelf>(
     store: &mut RotStore<Sh>,
     h: &Hash32,
 ) -> Result<(), BackFault>
-    ensures heeds { IsTrue Sh.B.tells → Heeds (forms_in store.old) rotator.old rotator.new }
+    ensures walk { HeedsFirst Sh.B.tells store.old rotator.old result store.new rotator.new }
     ensures heeded { IsTrue Sh.B.tells
         → OnOk result (rotator.old.turning ≡ true → IsHeeded (forms_in store.old) rotator.new h.now) }
-    ensures rest { rotator.new ≡ record rotator.old { walk = rotator.new.walk } }
-    ensures idle { rotator.old.turning ≡ false → rotator.new ≡ rotator.old }
-    ensures store { IsTrue Sh.B.tells → Counted store.old store.new }
-    ensures later { IsLater store.old store.new }
-    ensures fault { IfErr result (λ e. e ≡ BackFault.Fault → Rose store.old.faults store.new.faults) }
 {
     match store.has(alloc, h) {
         Ok(true) => Ok(()),

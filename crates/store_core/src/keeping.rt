@@ -4,8 +4,8 @@ ghost use Rattle.std.specs.List.{Contains};
 ghost use Rattle.cow_map.specs.Sealing.{AreNamed};
 ghost use Rattle.run_io.specs.Bytes.{Rose};
 ghost use Rattle.ledger_machine.specs.Steps.{IsAfter};
-ghost use Rattle.store_core.specs.Closing.{MayKeep, MayKeepAll};
-ghost use Rattle.store_core.specs.Desks.{IsFiled, Stays, KeepsRest};
+ghost use Rattle.store_core.specs.Closing.{KeepsForms, MayKeep};
+ghost use Rattle.store_core.specs.Desks.{AsksNoStore, IsFiled, Stays, KeepsRest};
 ghost use Rattle.store_core.specs.Telling.{Hears};
 
 use crate::machine::Machine;
@@ -26,8 +26,7 @@ impl<H: NodeHash, Sh: Shelf> Tables<H, Sh> {
         ensures hears { Hears self.old.state.shaded (h.now ∷ []) self.new.state.shaded }
         ensures told { OnOk result (IsSome self.old.state.turning → Contains self.new.state.shaded h.now) }
         ensures stays { Stays Sh.B.tells self.old self.new }
-        ensures faults { self.new.faults ≡ self.old.faults }
-        ensures gets { self.new.gets ≡ self.old.gets }
+        ensures store { AsksNoStore Sh.B.tells self.old self.new }
     {
         self.rotator.shade(h)?;
         Ok(())
@@ -57,11 +56,7 @@ impl<H: NodeHash, Sh: Shelf> Tables<H, Sh> {
     /// Stores forms under their hashes, one after another, until another one is there or the store fails.
     pub(crate) fn keep_all(&mut self, alloc: Global, forms: &[FormOf]) -> Result<(), OfferFault>
         requires { AreNamed H.half forms.now }
-        ensures keeps { IsTrue Sh.B.tells → MayKeepAll H.half self.old.state (map (λ f. f.form) forms.now) result self.new.state }
-        ensures hears { Hears self.old.state.shaded (map (λ f. f.hash) forms.now) self.new.state.shaded }
-        ensures rest { KeepsRest self.old.state self.new.state }
-        ensures stays { Stays Sh.B.tells self.old self.new }
-        ensures fault { IfErr result (λ e. e ≡ OfferFault.Fault → Rose self.old.faults self.new.faults) }
+        ensures { KeepsForms H.half Sh.B.tells self.old (map (λ f. f.hash) forms.now) (map (λ f. f.form) forms.now) result self.new }
     {
         for form in forms {
             match self.keep(alloc, form) {
@@ -80,12 +75,9 @@ impl<H: NodeHash, Sh: Shelf> Tables<H, Sh> {
         forms: &[FormOf],
     ) -> Result<(), OfferFault>
         requires { AreNamed H.half forms.now }
-        ensures keeps { IsTrue Sh.B.tells → MayKeepAll H.half self.old.state (map (λ f. f.form) forms.now) result self.new.state }
-        ensures hears { Hears self.old.state.shaded (target.now ∷ map (λ f. f.hash) forms.now) self.new.state.shaded }
+        ensures forms { KeepsForms H.half Sh.B.tells self.old (target.now ∷ map (λ f. f.hash) forms.now) (map (λ f. f.form) forms.now)
+            result self.new }
         ensures told { OnOk result (IsSome self.old.state.turning → Contains self.new.state.shaded target.now) }
-        ensures rest { KeepsRest self.old.state self.new.state }
-        ensures stays { Stays Sh.B.tells self.old self.new }
-        ensures fault { IfErr result (λ e. e ≡ OfferFault.Fault → Rose self.old.faults self.new.faults) }
     {
         if self.shade(target).is_err() {
             return Err(OfferFault::Memory);
@@ -104,12 +96,9 @@ impl<H: NodeHash, Sh: Shelf> Machine<H, Sh> {
     ) -> Result<(), OfferFault>
         requires named { AreNamed H.half forms.now }
         requires filed { IsFiled H.half Sh.B.tells self.old.state }
-        ensures keeps { IsTrue Sh.B.tells → MayKeepAll H.half self.old.state (map (λ f. f.form) forms.now) result self.new.state }
-        ensures hears { Hears self.old.state.shaded (target.now ∷ map (λ f. f.hash) forms.now) self.new.state.shaded }
+        ensures forms { KeepsForms H.half Sh.B.tells self.old (target.now ∷ map (λ f. f.hash) forms.now) (map (λ f. f.form) forms.now)
+            result self.new }
         ensures told { OnOk result (IsSome self.old.state.turning → Contains self.new.state.shaded target.now) }
-        ensures rest { KeepsRest self.old.state self.new.state }
-        ensures stays { Stays Sh.B.tells self.old self.new }
-        ensures fault { IfErr result (λ e. e ≡ OfferFault.Fault → Rose self.old.faults self.new.faults) }
     {
         a_session_stays_over_its_ledger();
         self.tables.keep_ledger(alloc, target, forms)

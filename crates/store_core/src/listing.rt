@@ -1,11 +1,11 @@
 //! The ledgers that are listed: one whose acquisition is complete, and one that a session closes into.
-ghost use Rattle.std.specs.Prelude.{◌≡◌, ◌≤◌, ◌∷◌, [], IsTrue, OnErr, OnOk};
+ghost use Rattle.std.specs.Prelude.{◌≡◌, ◌≤◌, ◌∷◌, [], OnErr, OnOk};
 ghost use Rattle.ledger_spec.specs.Maps.{hash_cmp, has_in};
 ghost use Rattle.ledger_machine.specs.Check.{after_check};
 ghost use Rattle.ledger_machine.specs.Sessions.{without_session};
 ghost use Rattle.ledger_machine.specs.State.{listed_with};
 ghost use Rattle.ledger_machine.specs.Steps.{IsAfter};
-ghost use Rattle.store_core.specs.Desks.{backs};
+ghost use Rattle.store_core.specs.Desks.{AsksNoStore};
 ghost use Rattle.store_core.specs.Telling.{Hears};
 
 use crate::machine::Machine;
@@ -27,10 +27,7 @@ impl<H: NodeHash, Sh: Shelf> Tables<H, Sh> {
         ensures ok { OnOk result (self.new.state ≡ listed_with self.old.state target.now seq) }
         ensures err { OnErr result (self.new ≡ self.old) }
         ensures told { self.new.state.shaded ≡ self.old.state.shaded }
-        ensures faults { self.new.faults ≡ self.old.faults }
-        ensures epoch { self.new.state.epoch ≡ self.old.state.epoch }
-        ensures slices { self.new.slices ≡ self.old.slices }
-        ensures copies { IsTrue Sh.B.tells → backs self.new ≡ backs self.old }
+        ensures store { AsksNoStore Sh.B.tells self.old self.new }
     {
         if seq < self.book.floor() {
             return Err(Memory);
@@ -44,11 +41,7 @@ impl<H: NodeHash, Sh: Shelf> Tables<H, Sh> {
         ensures ok { OnOk result (IsAfter (after_check self.old.state target.now seq CheckReply.Complete) self.new.state) }
         ensures err { OnErr result (IsAfter self.old.state self.new.state) }
         ensures hears { Hears self.old.state.shaded (target.now ∷ []) self.new.state.shaded }
-        ensures faults { self.new.faults ≡ self.old.faults }
-        ensures gets { self.new.gets ≡ self.old.gets }
-        ensures epoch { self.new.state.epoch ≡ self.old.state.epoch }
-        ensures slices { self.new.slices ≡ self.old.slices }
-        ensures copies { IsTrue Sh.B.tells → backs self.new ≡ backs self.old }
+        ensures store { AsksNoStore Sh.B.tells self.old self.new }
     {
         // a complete ledger isn't below the floor; only a backend that doesn't tell what it holds may show one without a header
         if seq < self.floor() {
@@ -64,11 +57,7 @@ impl<H: NodeHash, Sh: Shelf> Tables<H, Sh> {
         ensures ok { OnOk result (self.new.state ≡ after_check self.old.state target.now seq CheckReply.Complete) }
         ensures err { OnErr result (self.new ≡ self.old) }
         ensures told { self.new.state.shaded ≡ self.old.state.shaded }
-        ensures faults { self.new.faults ≡ self.old.faults }
-        ensures gets { self.new.gets ≡ self.old.gets }
-        ensures epoch { self.new.state.epoch ≡ self.old.state.epoch }
-        ensures slices { self.new.slices ≡ self.old.slices }
-        ensures copies { IsTrue Sh.B.tells → backs self.new ≡ backs self.old }
+        ensures store { AsksNoStore Sh.B.tells self.old self.new }
     {
         self.book.list(target, seq)?;
         self.wanted.remove(target);
@@ -87,10 +76,7 @@ impl<H: NodeHash, Sh: Shelf> Machine<H, Sh> {
         ensures ok { OnOk result (self.new.state ≡ without_session (listed_with self.old.state target.now seq) id) }
         ensures err { OnErr result (self.new ≡ self.old) }
         ensures told { self.new.state.shaded ≡ self.old.state.shaded }
-        ensures faults { self.new.faults ≡ self.old.faults }
-        ensures epoch { self.new.state.epoch ≡ self.old.state.epoch }
-        ensures slices { self.new.slices ≡ self.old.slices }
-        ensures copies { IsTrue Sh.B.tells → backs self.new ≡ backs self.old }
+        ensures store { AsksNoStore Sh.B.tells self.old self.new }
     {
         self.tables.list_closed(target, seq)?;
         self.sessions.end(id);

@@ -1,30 +1,24 @@
 //! The machine with the open edit sessions beside it: each command is the machine's, the sessions', or one of both.
-ghost use Rattle.std.specs.Prelude.{◌≤◌, ◌≡◌, ◌<◌, ◌+◌, ◌-◌, ◌^◌, [], IsTrue, IfOk, IfErr, IfSome, IsNone, IsSome, OnErr, length, map};
+ghost use Rattle.std.specs.Prelude.{◌≡◌, ◌<◌, ◌^◌, [], IsTrue, IfOk, MatchOption, OnErr, length, map};
 ghost use Rattle.std.specs.FinMap as finite;
 ghost use Rattle.std.specs.Option.{option_copied};
 ghost use Rattle.rotating_store.specs.Stores.{merged};
 ghost use Rattle.run_io.specs.Bytes.{Rose};
 ghost use Rattle.shamap_node.specs.Nodes.{held};
-ghost use Rattle.ledger_spec.specs.Forms.{hash_of};
-ghost use Rattle.ledger_machine.specs.State.{form_in};
-ghost use Rattle.path_proof.specs.Sources.{Gives};
-ghost use Rattle.ledger_machine.specs.Commands.{IsBeside, IsInRange};
+ghost use Rattle.ledger_machine.specs.Limits.{actors};
+ghost use Rattle.ledger_machine.specs.Commands.{IsBeside};
 ghost use Rattle.ledger_machine.specs.Rotation.{Tells};
-ghost use Rattle.ledger_machine.specs.Sound.{Sound};
-ghost use Rattle.ledger_machine.specs.State.{form_in, opening};
-ghost use Rattle.ledger_machine.specs.Steps.{Step, own_hashes};
-ghost use Rattle.ledger_machine.specs.Steps.{Does};
+ghost use Rattle.ledger_machine.specs.State.{opening};
+ghost use Rattle.ledger_machine.specs.Steps.{own_hashes};
 ghost use Rattle.ledger_machine.specs.Views.{is_retained as state_retains, view_reply, after_view};
 ghost use Rattle.store_core.specs.Machines.{IsOfSessions};
-ghost use Rattle.store_core.specs.Checking.{AreKept, AsksNothing, ChecksByMarks, HasFound, IsNoCheck, IsSliced, IsSought};
-ghost use Rattle.store_core.specs.Checking.{LeavesSearch, SearchesBy, Shares};
-ghost use Rattle.ledger_searches.specs.Hunting.{IsUnbegun, hunt_of};
-ghost use Rattle.missing_walk.specs.Passes.{HasMarkedRoots};
-ghost use Rattle.ledger_machine.specs.Limits.{actors};
-ghost use Rattle.store_core.specs.Desks.{backs, IsFiled, Stays, Grows, KeepsRest, OnlyReads, over};
-ghost use Rattle.store_core.specs.Dumping.{IsNextRecord, Follows};
-ghost use Rattle.store_core.specs.Refusals.{IsRefusal};
-ghost use Rattle.store_core.specs.Telling.{TellsRoot, AreTold, Carried, CountsFrom, IsSlice, CopiesBy, CopiesFew};
+ghost use Rattle.store_core.specs.Checking.{AreKept, HasFound, IsNoCheck};
+ghost use Rattle.store_core.specs.Desks.{IsFiled, Stays, over};
+ghost use Rattle.store_core.specs.Dumping.{GivesNext};
+ghost use Rattle.store_core.specs.Reads.{GivesForm, GivesNode};
+ghost use Rattle.store_core.specs.Serving.{Acts, Answers, LeavesMore, MayServe, Seeks, Steps};
+ghost use Rattle.store_core.specs.Totals.{totals_by};
+ghost use Rattle.store_core.specs.Telling.{TellsRoot};
 
 use crate::acquiring::Sought;
 use crate::refusals::{unread, unsearched};
@@ -32,8 +26,8 @@ use crate::rotating::Part;
 use crate::tables::Tables;
 use edit_session::a_session_stays_over_its_ledger;
 use half_hash::{Blob, Hash32, Memory, NodeHash};
-use ledger_laws::{a_row_is_one_beside_any_sessions, a_step_carries_what_was_told};
-use ledger_machine::{Command, Record, Reply, ViewReply};
+use ledger_laws::a_row_is_one_beside_any_sessions;
+use ledger_machine::{Command, Record, Reply, Totals, ViewReply};
 use ledger_searches::Searches;
 use missing_walk::{Found, SearchFault};
 use node_backend::{BackFault, Shelf};
@@ -89,36 +83,12 @@ impl<H: NodeHash, Sh: Shelf> Machine<H, Sh> {
         self.tables.known();
     }
 
-    /// How many ledgers are listed.
-    pub(crate) fn listed(&self) -> usize
-        ensures { result ≡ length self.now.state.listed }
+    /// The numbers of a run's summary, by how many entries are `complete` and how many `closed`.
+    pub(crate) fn totals(&self, complete: u32, closed: u32) -> Totals
+        requires { length self.now.state.listed < 2 ^ 32 }
+        ensures { result ≡ totals_by complete closed self.now.state }
     {
-        self.tables.listed()
-    }
-
-    pub(crate) fn floor(&self) -> u32
-        ensures { result ≡ self.now.state.floor }
-    {
-        self.tables.floor()
-    }
-
-    pub(crate) fn last(&self) -> Option<u32>
-        ensures { result ≡ self.now.state.last }
-    {
-        self.tables.last()
-    }
-
-    pub(crate) fn epoch(&self) -> u64
-        ensures { result ≡ self.now.state.epoch }
-    {
-        self.tables.epoch()
-    }
-
-    /// How often the devices of the store failed.
-    pub(crate) fn faults(&self) -> u64
-        ensures { result ≡ self.now.faults }
-    {
-        self.tables.faults()
+        self.tables.totals(complete, closed)
     }
 
     /// The next stored record after a hash, or the first one.
@@ -128,10 +98,7 @@ impl<H: NodeHash, Sh: Shelf> Machine<H, Sh> {
         after: Option<&Hash32>,
     ) -> Result<Option<Record>, BackFault>
         requires { IsFiled H.half Sh.B.tells self.old.state }
-        ensures next { IsTrue Sh.B.tells → IfOk result (IsNextRecord self.old.state.nodes (option_copied after.entry)) }
-        ensures follows { IfOk result (λ r. IfSome r (λ r. Follows (option_copied after.entry) r.hash)) }
-        ensures reads { OnlyReads Sh.B.tells self.old self.new }
-        ensures fault { IfErr result (λ e. e ≡ BackFault.Fault → Rose self.old.faults self.new.faults) }
+        ensures { GivesNext Sh.B.tells self.old (option_copied after.entry) result self.new }
     {
         let next = self.tables.next_stored(alloc, after)?;
         Ok(next)
@@ -144,10 +111,7 @@ impl<H: NodeHash, Sh: Shelf> Machine<H, Sh> {
         h: &Hash32,
     ) -> Result<Option<Arc<Node>>, FetchFault>
         requires { IsFiled H.half Sh.B.tells self.old.state }
-        ensures hash { IfOk result (λ o. IfSome o (λ node. hash_of H.half (held node.value) ≡ h.now)) }
-        ensures exact { IsTrue Sh.B.tells → Gives H.half (form_in self.old.state h.now) result }
-        ensures reads { OnlyReads Sh.B.tells self.old self.new }
-        ensures fault { IfErr result (λ e. e ≡ FetchFault.Fault → Rose self.old.faults self.new.faults) }
+        ensures { GivesNode H.half Sh.B.tells self.old h.now result self.new }
     {
         self.tables.node_at(alloc, h)
     }
@@ -155,15 +119,12 @@ impl<H: NodeHash, Sh: Shelf> Machine<H, Sh> {
     /// The bytes of a hash, as the store gives them: nothing of them is hashed.
     pub(crate) fn form_at(&mut self, alloc: Global, h: &Hash32) -> Result<Option<Blob>, FetchFault>
         requires { IsFiled H.half Sh.B.tells self.old.state }
-        ensures exact { IsTrue Sh.B.tells → IfOk result (λ b. b ≡ form_in self.old.state h.now) }
-        ensures own { IfOk result (λ o. IfSome o (λ form. IsTrue Sh.B.tells → H.half form ≡ h.now)) }
-        ensures reads { OnlyReads Sh.B.tells self.old self.new }
-        ensures fault { IfErr result (λ e. e ≡ FetchFault.Fault → Rose self.old.faults self.new.faults) }
+        ensures { GivesForm H.half Sh.B.tells self.old h.now result self.new }
     {
         self.tables.form_at(alloc, h)
     }
 
-    /// One step of the tables: the reply, and the nodes that it used.
+    /// What a command does in one go: the reply, and the nodes that it used.
     pub(crate) fn answer(
         &mut self,
         alloc: Global,
@@ -171,23 +132,30 @@ impl<H: NodeHash, Sh: Shelf> Machine<H, Sh> {
         command: &Command,
         found: &Option<Found>,
     ) -> (Reply, Vec<Arc<Node>>)
-        requires in_range { IsInRange command.now }
-        requires sound { IsTrue Sh.B.tells → Sound H.half self.old.state }
-        requires told { IsTrue Sh.B.tells → AreTold self.old.state }
-        requires room { self.old.state.epoch < 2 ^ 64 - 1 }
+        requires may { MayServe H.half Sh.B.tells self.old command.now }
         requires found { HasFound H.half Sh.B.tells self.old.state command.now found.now }
-        ensures step { IsTrue Sh.B.tells
-            → Step H.half self.old.state actor command.now result.0 (map (λ a. held a.value) result.1.items) self.new.state }
-        ensures asks { AsksNothing command.now self.old.gets self.new.gets }
-        ensures told { IsTrue Sh.B.tells → AreTold self.new.state }
-        ensures refused { IsRefusal result.0 → KeepsRest self.old.state self.new.state }
-        ensures grows { Grows self.old self.new }
-        ensures slices { CountsFrom command.now result.0 self.old.slices self.new.slices }
-        ensures copies { IsTrue Sh.B.tells → CopiesBy command.now self.old self.new }
-        ensures fault { result.0 ≡ Reply.Fault → Rose self.old.faults self.new.faults }
+        ensures { Steps H.half Sh.B.tells self.old actor command.now result.0 (map (λ a. held a.value) result.1.items) self.new }
     {
-        a_step_carries_what_was_told();
-        self.serve(alloc, actor, command, found)
+        match command {
+            Command::View { .. }
+            | Command::Edit { .. }
+            | Command::Put { .. }
+            | Command::Del { .. }
+            | Command::Tx { .. }
+            | Command::Close { .. }
+            | Command::Abandon { .. } => (self.change(alloc, actor, command), Vec::new(alloc)),
+            Command::Begin => (self.answer_begin(alloc, actor), Vec::new(alloc)),
+            Command::Swap => (self.answer_swap(alloc, actor), Vec::new(alloc)),
+            Command::Want { .. }
+            | Command::Peer { .. }
+            | Command::Base { .. }
+            | Command::Node { .. }
+            | Command::Check { .. }
+            | Command::Tick { .. }
+            | Command::Unview { .. }
+            | Command::Get { .. }
+            | Command::Page { .. } => self.beside(alloc, actor, command, found),
+        }
     }
 
     /// One section of a command: the reply, and the nodes that it used; or none where a slice of a swap or of a check left something.
@@ -199,30 +167,14 @@ impl<H: NodeHash, Sh: Shelf> Machine<H, Sh> {
         command: &Command,
         part: Part,
     ) -> Option<(Reply, Vec<Arc<Node>>)>
-        requires in_range { IsInRange command.now }
-        requires sound { IsTrue Sh.B.tells → Sound H.half self.old.state }
-        requires told { IsTrue Sh.B.tells → AreTold self.old.state }
-        requires room { self.old.state.epoch < 2 ^ 64 - 1 }
+        requires may { MayServe H.half Sh.B.tells self.old command.now }
         requires searches { AreKept H.half Sh.B.tells self.old.state searches.old }
         requires known { actor < actors }
-        ensures step { IsTrue Sh.B.tells → IfSome result (λ r.
-            Step H.half self.old.state actor command.now r.0 (map (λ a. held a.value) r.1.items) self.new.state) }
-        ensures shares { Shares H.half Sh.B.tells self.old.state actor command.now part searches.old self.old.gets
-            searches.new self.new.gets }
-        ensures search { IsTrue Sh.B.tells → IfSome result (λ r. SearchesBy H.half self.old.state command.now r.0
-            (hunt_of searches.old.hunts.items actor) searches.old.marks self.old.gets searches.new.marks self.new.gets) }
-        ensures told { IsTrue Sh.B.tells → AreTold self.new.state }
-        ensures refused { IfSome result (λ r. IsRefusal r.0 → KeepsRest self.old.state self.new.state) }
-        ensures grows { Grows self.old self.new }
-        ensures fault { IfSome result (λ r. r.0 ≡ Reply.Fault → Rose self.old.faults self.new.faults) }
-        ensures more { IsNone result → IsSliced H.half Sh.B.tells actor command.now part self.old searches.old self.new searches.new }
-        ensures slices { IfSome result (λ r. CountsFrom command.now r.0 self.old.slices self.new.slices) }
-        ensures few { IsTrue Sh.B.tells → part ≡ Part.Slice → CopiesFew command.now self.old self.new }
-        ensures still { IsNone result → KeepsRest self.old.state self.new.state }
-        ensures same { IsTrue Sh.B.tells → IsNone result → self.new.state ≡ self.old.state }
-        ensures idle { IsNoCheck command.now → searches.new ≡ searches.old }
+        ensures { MatchOption result
+            (LeavesMore H.half Sh.B.tells self.old actor command.now part searches.old searches.new self.new)
+            (λ r. Answers H.half Sh.B.tells (Rose self.old.faults self.new.faults) self.old actor command.now part searches.old r.0
+            (map (λ a. held a.value) r.1.items) searches.new self.new) }
     {
-        self.tables.known();
         match command {
             Command::Check { target } => {
                 self.search_section(alloc, searches, actor, command, target, part)
@@ -242,30 +194,15 @@ impl<H: NodeHash, Sh: Shelf> Machine<H, Sh> {
         part: Part,
     ) -> Option<(Reply, Vec<Arc<Node>>)>
         requires check { command.now ≡ Command.Check target.now }
-        requires in_range { IsInRange command.now }
-        requires sound { IsTrue Sh.B.tells → Sound H.half self.old.state }
-        requires told { IsTrue Sh.B.tells → AreTold self.old.state }
-        requires room { self.old.state.epoch < 2 ^ 64 - 1 }
+        requires may { MayServe H.half Sh.B.tells self.old command.now }
         requires searches { AreKept H.half Sh.B.tells self.old.state searches.old }
         requires known { actor < actors }
-        ensures step { IsTrue Sh.B.tells → IfSome result (λ r.
-            Step H.half self.old.state actor command.now r.0 (map (λ a. held a.value) r.1.items) self.new.state) }
-        ensures shares { Shares H.half Sh.B.tells self.old.state actor (Command.Check target.now) part searches.old self.old.gets
-            searches.new self.new.gets }
-        ensures search { IsTrue Sh.B.tells → IfSome result (λ r. ChecksByMarks H.half self.old.state target.now r.0
-            (hunt_of searches.old.hunts.items actor) searches.old.marks self.old.gets searches.new.marks self.new.gets) }
-        ensures told { IsTrue Sh.B.tells → AreTold self.new.state }
-        ensures refused { IfSome result (λ r. IsRefusal r.0 → KeepsRest self.old.state self.new.state) }
-        ensures grows { Grows self.old self.new }
-        ensures fault { IfSome result (λ r. r.0 ≡ Reply.Fault → Rose self.old.faults self.new.faults) }
-        ensures more { IsNone result
-            → IsSliced H.half Sh.B.tells actor (Command.Check target.now) part self.old searches.old self.new searches.new }
-        ensures slices { self.new.slices ≡ self.old.slices }
-        ensures copies { IsTrue Sh.B.tells → backs self.new ≡ backs self.old }
-        ensures still { IsNone result → KeepsRest self.old.state self.new.state }
-        ensures same { IsTrue Sh.B.tells → IsNone result → self.new.state ≡ self.old.state }
+        ensures { MatchOption result
+            (LeavesMore H.half Sh.B.tells self.old actor command.now part searches.old searches.new self.new)
+            (λ r. Answers H.half Sh.B.tells (Rose self.old.faults self.new.faults) self.old actor command.now part searches.old r.0
+            (map (λ a. held a.value) r.1.items) searches.new self.new) }
     {
-        a_step_carries_what_was_told();
+        self.tables.known();
         match self.seek(alloc, searches, actor, target, part) {
             Ok(Sought::More) => None,
             Ok(Sought::Ended(found)) => Some(self.answer(alloc, actor, command, &found)),
@@ -285,20 +222,12 @@ impl<H: NodeHash, Sh: Shelf> Machine<H, Sh> {
         requires filed { IsFiled H.half Sh.B.tells self.old.state }
         requires searches { AreKept H.half Sh.B.tells self.old.state searches.old }
         requires known { actor < actors }
-        ensures found { IfOk result (IsSought H.half Sh.B.tells self.new.state target.now part) }
-        ensures leaves { IsTrue Sh.B.tells → IfOk result (LeavesSearch H.half self.old.state target.now
-            (hunt_of searches.old.hunts.items actor) searches.old.marks (hunt_of searches.new.hunts.items actor) searches.new.marks) }
-        ensures first { IsTrue Sh.B.tells → IsUnbegun (hunt_of searches.old.hunts.items actor) target.now
-            → HasMarkedRoots (form_in self.old.state) target.now searches.old.marks → self.new.gets ≤ self.old.gets + 2 }
-        ensures shares { Shares H.half Sh.B.tells self.old.state actor (Command.Check target.now) part searches.old self.old.gets
-            searches.new self.new.gets }
-        ensures reads { OnlyReads Sh.B.tells self.old self.new }
-        ensures fault { IfErr result (λ e. e ≡ SearchFault.Fault → Rose self.old.faults self.new.faults) }
+        ensures { Seeks H.half Sh.B.tells self.old actor target.now part searches.old result searches.new self.new }
     {
         self.tables.seek(alloc, searches, actor, target, part)
     }
 
-    // One section of a command that is no check: a slice of a swap, or the step.
+    // One section of a command that is no check: a slice of a swap, or the step. Whatever searches share, it leaves that.
     fn turn_section(
         &mut self,
         alloc: Global,
@@ -307,23 +236,12 @@ impl<H: NodeHash, Sh: Shelf> Machine<H, Sh> {
         part: Part,
     ) -> Option<(Reply, Vec<Arc<Node>>)>
         requires no_check { IsNoCheck command.now }
-        requires in_range { IsInRange command.now }
-        requires sound { IsTrue Sh.B.tells → Sound H.half self.old.state }
-        requires told { IsTrue Sh.B.tells → AreTold self.old.state }
-        requires room { self.old.state.epoch < 2 ^ 64 - 1 }
-        ensures step { IsTrue Sh.B.tells → IfSome result (λ r.
-            Step H.half self.old.state actor command.now r.0 (map (λ a. held a.value) r.1.items) self.new.state) }
-        ensures told { IsTrue Sh.B.tells → AreTold self.new.state }
-        ensures refused { IfSome result (λ r. IsRefusal r.0 → KeepsRest self.old.state self.new.state) }
-        ensures grows { Grows self.old self.new }
-        ensures fault { IfSome result (λ r. r.0 ≡ Reply.Fault → Rose self.old.faults self.new.faults) }
-        ensures more { IsNone result → IsSlice command.now part self.old self.new }
-        ensures slices { IfSome result (λ r. CountsFrom command.now r.0 self.old.slices self.new.slices) }
-        ensures few { IsTrue Sh.B.tells → part ≡ Part.Slice → CopiesFew command.now self.old self.new }
-        ensures still { IsNone result → KeepsRest self.old.state self.new.state }
-        ensures same { IsTrue Sh.B.tells → IsNone result → self.new.state ≡ self.old.state }
+        requires may { MayServe H.half Sh.B.tells self.old command.now }
+        ensures { (x : Searches) → AreKept H.half Sh.B.tells self.old.state x → MatchOption result
+            (LeavesMore H.half Sh.B.tells self.old actor command.now part x x self.new)
+            (λ r. Answers H.half Sh.B.tells (Rose self.old.faults self.new.faults) self.old actor command.now part x r.0
+            (map (λ a. held a.value) r.1.items) x self.new) }
     {
-        a_step_carries_what_was_told();
         self.tables.known();
         match self.slice_first(alloc, command, part) {
             Ok(Left::More) => None,
@@ -332,78 +250,15 @@ impl<H: NodeHash, Sh: Shelf> Machine<H, Sh> {
         }
     }
 
-    // What a command does, and what it carries of the rotation under way.
-    fn serve(
-        &mut self,
-        alloc: Global,
-        actor: u8,
-        command: &Command,
-        found: &Option<Found>,
-    ) -> (Reply, Vec<Arc<Node>>)
-        requires in_range { IsInRange command.now }
-        requires sound { IsTrue Sh.B.tells → Sound H.half self.old.state }
-        requires told { IsTrue Sh.B.tells → AreTold self.old.state }
-        requires room { self.old.state.epoch < 2 ^ 64 - 1 }
-        requires found { HasFound H.half Sh.B.tells self.old.state command.now found.now }
-        ensures does { IsTrue Sh.B.tells
-            → Does H.half self.old.state actor command.now result.0 (map (λ a. held a.value) result.1.items) self.new.state }
-        ensures asks { AsksNothing command.now self.old.gets self.new.gets }
-        ensures carries { IsTrue Sh.B.tells
-            → AreTold self.new.state × Carried H.half self.old.state actor command.now result.0 self.new.state }
-        ensures refused { IsRefusal result.0 → KeepsRest self.old.state self.new.state }
-        ensures grows { Grows self.old self.new }
-        ensures slices { CountsFrom command.now result.0 self.old.slices self.new.slices }
-        ensures copies { IsTrue Sh.B.tells → CopiesBy command.now self.old self.new }
-        ensures fault { result.0 ≡ Reply.Fault → Rose self.old.faults self.new.faults }
-    {
-        match command {
-            Command::View { .. }
-            | Command::Edit { .. }
-            | Command::Put { .. }
-            | Command::Del { .. }
-            | Command::Tx { .. }
-            | Command::Close { .. }
-            | Command::Abandon { .. } => (self.work(alloc, actor, command), Vec::new(alloc)),
-            Command::Begin | Command::Swap => {
-                (self.rotate(alloc, actor, command), Vec::new(alloc))
-            }
-            _ => self.beside(alloc, actor, command, found),
-        }
-    }
-
-    // What a command does that names a session or sees which are open, and what it carries of the rotation under way.
-    fn work(&mut self, alloc: Global, actor: u8, command: &Command) -> Reply
-        requires open { IsOfSessions command.now }
-        requires in_range { IsInRange command.now }
-        requires sound { IsTrue Sh.B.tells → Sound H.half self.old.state }
-        requires told { IsTrue Sh.B.tells → AreTold self.old.state }
-        ensures does { IsTrue Sh.B.tells → Does H.half self.old.state actor command.now result [] self.new.state }
-        ensures carries { IsTrue Sh.B.tells
-            → AreTold self.new.state × Carried H.half self.old.state actor command.now result self.new.state }
-        ensures refused { IsRefusal result → KeepsRest self.old.state self.new.state }
-        ensures grows { Grows self.old self.new }
-        ensures slices { self.new.slices ≡ self.old.slices }
-        ensures copies { IsTrue Sh.B.tells → backs self.new ≡ backs self.old }
-        ensures fault { result ≡ Reply.Fault → Rose self.old.faults self.new.faults }
-    {
-        self.change(alloc, actor, command)
-    }
-
-    // The same by the commands. It reads no nodes.
-    #[tactic(auto, using(crate::proofs::Turns::quiet))]
+    // What a command does that names a session or sees which are open. It reads no nodes.
+    #[tactic(auto, using(crate::proofs::Turns::quiet, crate::proofs::Checks::asks_as))]
     fn change(&mut self, alloc: Global, actor: u8, command: &Command) -> Reply
         requires open { IsOfSessions command.now }
-        requires in_range { IsInRange command.now }
-        requires sound { IsTrue Sh.B.tells → Sound H.half self.old.state }
-        ensures does { IsTrue Sh.B.tells → Does H.half self.old.state actor command.now result [] self.new.state }
+        requires may { MayServe H.half Sh.B.tells self.old command.now }
+        ensures acts { Acts H.half Sh.B.tells self.old actor command.now result [] self.new }
         ensures tells { IsTrue Sh.B.tells
             → Tells self.old.state self.new.state (own_hashes H.half self.old.state actor command.now result) }
         ensures names { IsTrue Sh.B.tells → TellsRoot self.old.state command.now result self.new.state }
-        ensures refused { IsRefusal result → KeepsRest self.old.state self.new.state }
-        ensures grows { Grows self.old self.new }
-        ensures slices { self.new.slices ≡ self.old.slices }
-        ensures copies { IsTrue Sh.B.tells → backs self.new ≡ backs self.old }
-        ensures fault { result ≡ Reply.Fault → Rose self.old.faults self.new.faults }
     {
         match command {
             Command::View { view, target } => match self.view(actor, *view, target) {
@@ -432,7 +287,7 @@ impl<H: NodeHash, Sh: Shelf> Machine<H, Sh> {
         }
     }
 
-    // What a command does that names no session and sees none, and what it carries of the rotation under way.
+    // What a command does that names no session and sees none.
     fn beside(
         &mut self,
         alloc: Global,
@@ -441,20 +296,12 @@ impl<H: NodeHash, Sh: Shelf> Machine<H, Sh> {
         found: &Option<Found>,
     ) -> (Reply, Vec<Arc<Node>>)
         requires beside { IsBeside command.now }
-        requires in_range { IsInRange command.now }
-        requires filed { IsFiled H.half Sh.B.tells self.old.state }
-        requires told { IsTrue Sh.B.tells → AreTold self.old.state }
+        requires may { MayServe H.half Sh.B.tells self.old command.now }
         requires found { HasFound H.half Sh.B.tells self.old.state command.now found.now }
-        ensures does { IsTrue Sh.B.tells
-            → Does H.half self.old.state actor command.now result.0 (map (λ a. held a.value) result.1.items) self.new.state }
-        ensures asks { AsksNothing command.now self.old.gets self.new.gets }
-        ensures carries { IsTrue Sh.B.tells
-            → AreTold self.new.state × Carried H.half self.old.state actor command.now result.0 self.new.state }
-        ensures refused { IsRefusal result.0 → KeepsRest self.old.state self.new.state }
-        ensures grows { Grows self.old self.new }
-        ensures slices { self.new.slices ≡ self.old.slices }
-        ensures copies { IsTrue Sh.B.tells → backs self.new ≡ backs self.old }
-        ensures fault { result.0 ≡ Reply.Fault → Rose self.old.faults self.new.faults }
+        ensures acts { Acts H.half Sh.B.tells self.old actor command.now result.0 (map (λ a. held a.value) result.1.items) self.new }
+        ensures tells { IsTrue Sh.B.tells
+            → Tells self.old.state self.new.state (own_hashes H.half self.old.state actor command.now result.0) }
+        ensures names { IsTrue Sh.B.tells → TellsRoot self.old.state command.now result.0 self.new.state }
     {
         a_session_stays_over_its_ledger();
         a_row_is_one_beside_any_sessions();

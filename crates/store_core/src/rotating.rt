@@ -1,18 +1,13 @@
 //! The commands that begin and end a rotation, and what one is told meanwhile.
-ghost use Rattle.std.specs.Prelude.{◌≡◌, ◌⊎◌, false, ◌<◌, ◌≤◌, ◌-◌, ◌^◌, ◌++◌, [], IsTrue, IsSome, IfErr, IfOk, OnErr, Ok};
-ghost use Rattle.std.specs.FinMap as finite;
-ghost use Rattle.copy_walk.specs.Counts.{CopiesAtMost};
+ghost use Rattle.std.specs.Prelude.{◌≡◌, ◌⊎◌, false, ◌<◌, ◌≤◌, ◌-◌, ◌^◌, ◌++◌, [], IsTrue, IsSome, IfOk, OnErr};
 ghost use Rattle.std.specs.Map.{keys_of, values_of};
-ghost use Rattle.run_io.specs.Bytes.{Rose};
 ghost use Rattle.ledger_machine.specs.Rotation.{begin_reply, after_begin};
-ghost use Rattle.ledger_machine.specs.Sound.{Sound};
 ghost use Rattle.ledger_machine.specs.Steps.{IsAfter};
-ghost use Rattle.ledger_machine.specs.Steps.{Does};
 ghost use Rattle.ledger_machine.specs.State.{bases as edited};
-ghost use Rattle.store_core.specs.Desks.{backs, behind, IsFiled, Grows, KeepsRest};
-ghost use Rattle.store_core.specs.Refusals.{IsRefusal};
-ghost use Rattle.store_core.specs.Telling.{most_slices, most_copied, CopiesBy, CountsSlice, IsSlice, BeginsBy, AfterSwap};
-ghost use Rattle.store_core.specs.Telling.{IsRotating, AreTold, Carried, CountsFrom};
+ghost use Rattle.store_core.specs.Desks.{backs, IsFiled, Grows};
+ghost use Rattle.store_core.specs.Serving.{Acts, MayServe};
+ghost use Rattle.store_core.specs.Telling.{most_slices, most_copied, BeginsBy, Finishes, SlicesFirst, SlicesOn};
+ghost use Rattle.store_core.specs.Telling.{AreTold, Carried, CountsFrom};
 
 use crate::limits::{MOST_COPIED, MOST_SLICES};
 use crate::machine::Machine;
@@ -76,15 +71,8 @@ impl<H: NodeHash, Sh: Shelf> Tables<H, Sh> {
     pub(crate) fn slice(&mut self, alloc: Global, n: usize) -> Result<Left, BackFault>
         requires turning { IsSome self.old.state.turning }
         requires some { 0 < n }
-        ensures same { IsTrue Sh.B.tells → self.new.state ≡ self.old.state }
-        ensures rest { KeepsRest self.old.state self.new.state }
+        ensures slices { SlicesOn Sh.B.tells n self.old result self.new }
         ensures told { self.new.state.shaded ≡ self.old.state.shaded }
-        ensures counts { CountsSlice result self.old self.new }
-        ensures few { IsTrue Sh.B.tells → CopiesAtMost n (finite.get self.old.state.nodes) (finite.get self.old.written)
-            (finite.get self.new.written) }
-        ensures done { result ≡ Ok Left.Done → self.new.grey ≡ [] }
-        ensures later { self.old.faults ≤ self.new.faults }
-        ensures fault { IfErr result (λ e. e ≡ BackFault.Fault → Rose self.old.faults self.new.faults) }
     {
         let sliced = self.rotator.slice(alloc, &mut self.store, n);
         slice_told(sliced)
@@ -93,13 +81,7 @@ impl<H: NodeHash, Sh: Shelf> Tables<H, Sh> {
     /// Ends the rotation under way: what it was told to keep is copied, and the rest goes. Where that is refused it goes on.
     pub(crate) fn swap(&mut self, alloc: Global) -> Result<SwapReply, BackFault>
         requires { self.old.state.epoch < 2 ^ 64 - 1 }
-        ensures swaps { IsTrue Sh.B.tells → IfOk result (λ r. AfterSwap self.old.state r self.new.state) }
-        ensures err { IsTrue Sh.B.tells → OnErr result (self.new.state ≡ self.old.state) }
-        ensures kept { OnErr result (KeepsRest self.old.state self.new.state) }
-        ensures grows { Grows self.old self.new }
-        ensures slices { self.new.slices ≡ self.old.slices }
-        ensures still { IsTrue Sh.B.tells → self.old.grey ≡ [] → behind self.old self.new ≡ finite.get self.old.written }
-        ensures fault { IfErr result (λ e. e ≡ BackFault.Fault → Rose self.old.faults self.new.faults) }
+        ensures { Finishes Sh.B.tells self.old result self.new }
     {
         if !self.rotator.busy() {
             return Ok(SwapReply::Idle);
@@ -117,17 +99,7 @@ impl<H: NodeHash, Sh: Shelf> Machine<H, Sh> {
         command: &Command,
         part: Part,
     ) -> Result<Left, BackFault>
-        ensures same { IsTrue Sh.B.tells → self.new.state ≡ self.old.state }
-        ensures rest { KeepsRest self.old.state self.new.state }
-        ensures later { self.old.faults ≤ self.new.faults }
-        ensures more { result ≡ Ok Left.More → IsSlice command.now part self.old self.new }
-        ensures slices { (result ≡ Ok Left.More → ⊥) → self.new.slices ≡ self.old.slices }
-        ensures few { IsTrue Sh.B.tells → CopiesAtMost most_copied (finite.get self.old.state.nodes) (finite.get self.old.written)
-            (finite.get self.new.written) }
-        ensures none { (command.now ≡ Command.Swap → ⊥) → self.new ≡ self.old }
-        ensures done { result ≡ Ok Left.Done → command.now ≡ Command.Swap → part ≡ Part.Slice
-            → (self.new.grey ≡ []) ⊎ (most_slices ≤ self.old.slices) }
-        ensures err { IfErr result (λ e. (command.now ≡ Command.Swap) × (e ≡ BackFault.Fault → Rose self.old.faults self.new.faults)) }
+        ensures { SlicesFirst Sh.B.tells command.now part self.old result self.new }
     {
         let Command::Swap = command else {
             return Ok(Left::Done);
@@ -140,53 +112,18 @@ impl<H: NodeHash, Sh: Shelf> Machine<H, Sh> {
 
     // A slice of the rotation under way. What a session leaves to the store stays as it is.
     fn slice(&mut self, alloc: Global) -> Result<Left, BackFault>
-        requires turning { IsSome self.old.state.turning }
-        ensures same { IsTrue Sh.B.tells → self.new.state ≡ self.old.state }
-        ensures rest { KeepsRest self.old.state self.new.state }
-        ensures counts { CountsSlice result self.old self.new }
-        ensures few { IsTrue Sh.B.tells → CopiesAtMost most_copied (finite.get self.old.state.nodes) (finite.get self.old.written)
-            (finite.get self.new.written) }
-        ensures done { result ≡ Ok Left.Done → self.new.grey ≡ [] }
-        ensures later { self.old.faults ≤ self.new.faults }
-        ensures fault { IfErr result (λ e. e ≡ BackFault.Fault → Rose self.old.faults self.new.faults) }
+        requires { IsSome self.old.state.turning }
+        ensures { SlicesOn Sh.B.tells most_copied self.old result self.new }
     {
         self.tables.slice(alloc, MOST_COPIED)
     }
 
-    /// One step of a command that begins or ends a rotation. It reads no nodes.
-    pub(crate) fn rotate(&mut self, alloc: Global, actor: u8, command: &Command) -> Reply
-        requires turns { IsRotating command.now }
-        requires sound { IsTrue Sh.B.tells → Sound H.half self.old.state }
-        requires told { IsTrue Sh.B.tells → AreTold self.old.state }
-        requires room { self.old.state.epoch < 2 ^ 64 - 1 }
-        ensures does { IsTrue Sh.B.tells → Does H.half self.old.state actor command.now result [] self.new.state }
-        ensures carries { IsTrue Sh.B.tells
-            → AreTold self.new.state × Carried H.half self.old.state actor command.now result self.new.state }
-        ensures refused { IsRefusal result → KeepsRest self.old.state self.new.state }
-        ensures grows { Grows self.old self.new }
-        ensures slices { CountsFrom command.now result self.old.slices self.new.slices }
-        ensures copies { IsTrue Sh.B.tells → CopiesBy command.now self.old self.new }
-        ensures fault { result ≡ Reply.Fault → Rose self.old.faults self.new.faults }
-    {
-        match command {
-            Command::Begin => self.answer_begin(alloc, actor),
-            Command::Swap => self.answer_swap(alloc, actor),
-            _ => unreachable!(),
-        }
-    }
-
-    // What `begin` answers.
-    fn answer_begin(&mut self, alloc: Global, actor: u8) -> Reply
-        requires sound { IsTrue Sh.B.tells → Sound H.half self.old.state }
-        requires told { IsTrue Sh.B.tells → AreTold self.old.state }
-        ensures does { IsTrue Sh.B.tells → Does H.half self.old.state actor Command.Begin result [] self.new.state }
+    /// What `begin` does.
+    pub(crate) fn answer_begin(&mut self, alloc: Global, actor: u8) -> Reply
+        requires may { MayServe H.half Sh.B.tells self.old Command.Begin }
+        ensures acts { Acts H.half Sh.B.tells self.old actor Command.Begin result [] self.new }
         ensures carries { IsTrue Sh.B.tells
             → AreTold self.new.state × Carried H.half self.old.state actor Command.Begin result self.new.state }
-        ensures refused { IsRefusal result → KeepsRest self.old.state self.new.state }
-        ensures grows { Grows self.old self.new }
-        ensures slices { CountsFrom Command.Begin result self.old.slices self.new.slices }
-        ensures copies { IsTrue Sh.B.tells → backs self.new ≡ backs self.old }
-        ensures fault { result ≡ Reply.Fault → Rose self.old.faults self.new.faults }
     {
         match self.begin(alloc) {
             Ok(reply) => Reply::Begin(reply),
@@ -194,19 +131,12 @@ impl<H: NodeHash, Sh: Shelf> Machine<H, Sh> {
         }
     }
 
-    // What `swap` answers.
-    fn answer_swap(&mut self, alloc: Global, actor: u8) -> Reply
-        requires sound { IsTrue Sh.B.tells → Sound H.half self.old.state }
-        requires told { IsTrue Sh.B.tells → AreTold self.old.state }
-        requires room { self.old.state.epoch < 2 ^ 64 - 1 }
-        ensures does { IsTrue Sh.B.tells → Does H.half self.old.state actor Command.Swap result [] self.new.state }
+    /// What `swap` does.
+    pub(crate) fn answer_swap(&mut self, alloc: Global, actor: u8) -> Reply
+        requires may { MayServe H.half Sh.B.tells self.old Command.Swap }
+        ensures acts { Acts H.half Sh.B.tells self.old actor Command.Swap result [] self.new }
         ensures carries { IsTrue Sh.B.tells
             → AreTold self.new.state × Carried H.half self.old.state actor Command.Swap result self.new.state }
-        ensures refused { IsRefusal result → KeepsRest self.old.state self.new.state }
-        ensures grows { Grows self.old self.new }
-        ensures slices { self.new.slices ≡ self.old.slices }
-        ensures still { IsTrue Sh.B.tells → self.old.grey ≡ [] → behind self.old self.new ≡ finite.get self.old.written }
-        ensures fault { result ≡ Reply.Fault → Rose self.old.faults self.new.faults }
     {
         match self.swap(alloc) {
             Ok(reply) => Reply::Swap(reply),
@@ -233,13 +163,7 @@ impl<H: NodeHash, Sh: Shelf> Machine<H, Sh> {
         requires filed { IsFiled H.half Sh.B.tells self.old.state }
         requires told { IsTrue Sh.B.tells → AreTold self.old.state }
         requires room { self.old.state.epoch < 2 ^ 64 - 1 }
-        ensures swaps { IsTrue Sh.B.tells → IfOk result (λ r. AfterSwap self.old.state r self.new.state) }
-        ensures err { IsTrue Sh.B.tells → OnErr result (self.new.state ≡ self.old.state) }
-        ensures kept { OnErr result (KeepsRest self.old.state self.new.state) }
-        ensures grows { Grows self.old self.new }
-        ensures slices { self.new.slices ≡ self.old.slices }
-        ensures still { IsTrue Sh.B.tells → self.old.grey ≡ [] → behind self.old self.new ≡ finite.get self.old.written }
-        ensures fault { IfErr result (λ e. e ≡ BackFault.Fault → Rose self.old.faults self.new.faults) }
+        ensures { Finishes Sh.B.tells self.old result self.new }
     {
         a_session_stays_over_its_ledger();
         self.tables.swap(alloc)

@@ -1,27 +1,25 @@
 //! The state that the commands act on, over tables in memory.
-ghost use Rattle.std.specs.Prelude.{◌≡◌, ◌<◌, [], IsTrue, IfOk, IfErr, IfSome, length, map};
+ghost use Rattle.std.specs.Prelude.{◌≡◌, ◌<◌, ◌^◌, [], IsTrue, length, map};
 ghost use Rattle.std.specs.FinMap as finite;
 ghost use Rattle.std.specs.Option.{option_copied};
-ghost use Rattle.run_io.specs.Bytes.{Rose};
 ghost use Rattle.shamap_node.specs.Nodes.{held};
-ghost use Rattle.ledger_machine.specs.Commands.{IsBeside, IsInRange};
+ghost use Rattle.ledger_machine.specs.Commands.{IsBeside};
 ghost use Rattle.ledger_machine.specs.Rotation.{Tells};
 ghost use Rattle.ledger_machine.specs.State.{opening};
 ghost use Rattle.ledger_machine.specs.Steps.{own_hashes};
-ghost use Rattle.ledger_machine.specs.Steps.{Does};
 ghost use Rattle.rotating_store.specs.Stores.{merged};
-ghost use Rattle.store_core.specs.Checking.{AsksNothing, HasFound};
-ghost use Rattle.store_core.specs.Desks.{backs, IsFiled, Grows, KeepsRest, OnlyReads, over};
-ghost use Rattle.store_core.specs.Dumping.{IsNextRecord, Follows};
+ghost use Rattle.store_core.specs.Desks.{IsFiled, over};
+ghost use Rattle.store_core.specs.Dumping.{GivesNext};
 ghost use Rattle.store_core.specs.Reads.{ReadsNothing};
-ghost use Rattle.store_core.specs.Refusals.{IsRefusal};
-ghost use Rattle.store_core.specs.Telling.{TellsRoot, AreWantedTold};
+ghost use Rattle.store_core.specs.Serving.{Acts, MayAct};
+ghost use Rattle.store_core.specs.Telling.{TellsRoot};
+ghost use Rattle.store_core.specs.Totals.{totals_by};
 
 use crate::records::next_record;
 use crate::refusals::unread;
 use acquire_core::Acquire;
 use half_hash::{Hash32, NodeHash};
-use ledger_machine::{Command, Record, Reply};
+use ledger_machine::{Command, Record, Reply, Totals};
 use missing_walk::Found;
 use node_backend::{BackFault, Shelf};
 use online_rotate::Rotator;
@@ -86,36 +84,25 @@ impl<H: NodeHash, Sh: Shelf> Tables<H, Sh> {
         let _ = &self.rotator;
     }
 
-    /// How many ledgers are listed.
-    pub(crate) fn listed(&self) -> usize
-        ensures { result ≡ length self.now.state.listed }
-    {
-        self.book.count()
-    }
-
     pub(crate) fn floor(&self) -> u32
         ensures { result ≡ self.now.state.floor }
     {
         self.book.floor()
     }
 
-    pub(crate) fn last(&self) -> Option<u32>
-        ensures { result ≡ self.now.state.last }
+    /// The numbers of a run's summary, by how many entries are `complete` and how many `closed`.
+    pub(crate) fn totals(&self, complete: u32, closed: u32) -> Totals
+        requires { length self.now.state.listed < 2 ^ 32 }
+        ensures { result ≡ totals_by complete closed self.now.state }
     {
-        self.book.last()
-    }
-
-    pub(crate) fn epoch(&self) -> u64
-        ensures { result ≡ self.now.state.epoch }
-    {
-        self.store.epoch()
-    }
-
-    /// How often the devices of the store failed.
-    pub(crate) fn faults(&self) -> u64
-        ensures { result ≡ self.now.faults }
-    {
-        self.store.faults()
+        Totals {
+            complete,
+            closed,
+            listed: self.book.count() as u32,
+            floor: self.book.floor(),
+            last: self.book.last(),
+            epoch: self.store.epoch(),
+        }
     }
 
     /// The next stored record after a hash, or the first one.
@@ -125,10 +112,7 @@ impl<H: NodeHash, Sh: Shelf> Tables<H, Sh> {
         after: Option<&Hash32>,
     ) -> Result<Option<Record>, BackFault>
         requires { IsFiled H.half Sh.B.tells self.old.state }
-        ensures next { IsTrue Sh.B.tells → IfOk result (IsNextRecord self.old.state.nodes (option_copied after.entry)) }
-        ensures follows { IfOk result (λ r. IfSome r (λ r. Follows (option_copied after.entry) r.hash)) }
-        ensures reads { OnlyReads Sh.B.tells self.old self.new }
-        ensures fault { IfErr result (λ e. e ≡ BackFault.Fault → Rose self.old.faults self.new.faults) }
+        ensures { GivesNext Sh.B.tells self.old (option_copied after.entry) result self.new }
     {
         let next = next_record::<H, Sh>(alloc, &mut self.store, after)?;
         Ok(next)
@@ -144,20 +128,10 @@ impl<H: NodeHash, Sh: Shelf> Tables<H, Sh> {
         found: &Option<Found>,
     ) -> (Reply, Vec<Arc<Node>>)
         requires beside { IsBeside command.now }
-        requires in_range { IsInRange command.now }
-        requires filed { IsFiled H.half Sh.B.tells self.old.state }
-        requires told { IsTrue Sh.B.tells → AreWantedTold self.old.state }
-        requires found { HasFound H.half Sh.B.tells self.old.state command.now found.now }
-        ensures does { IsTrue Sh.B.tells
-            → Does H.half self.old.state actor command.now result.0 (map (λ a. held a.value) result.1.items) self.new.state }
-        ensures asks { AsksNothing command.now self.old.gets self.new.gets }
+        requires may { MayAct H.half Sh.B.tells self.old command.now found.now }
+        ensures acts { Acts H.half Sh.B.tells self.old actor command.now result.0 (map (λ a. held a.value) result.1.items) self.new }
         ensures tells { Tells self.old.state self.new.state (own_hashes H.half self.old.state actor command.now result.0) }
         ensures names { TellsRoot self.old.state command.now result.0 self.new.state }
-        ensures refused { IsRefusal result.0 → KeepsRest self.old.state self.new.state }
-        ensures grows { Grows self.old self.new }
-        ensures slices { self.new.slices ≡ self.old.slices }
-        ensures copies { IsTrue Sh.B.tells → backs self.new ≡ backs self.old }
-        ensures fault { result.0 ≡ Reply.Fault → Rose self.old.faults self.new.faults }
     {
         match command {
             Command::Get { view, kind, key } => match self.get(alloc, actor, *view, *kind, key) {
@@ -182,19 +156,10 @@ impl<H: NodeHash, Sh: Shelf> Tables<H, Sh> {
     fn act(&mut self, alloc: Global, actor: u8, command: &Command, found: &Option<Found>) -> Reply
         requires beside { IsBeside command.now }
         requires reads_nothing { ReadsNothing command.now }
-        requires in_range { IsInRange command.now }
-        requires filed { IsFiled H.half Sh.B.tells self.old.state }
-        requires told { IsTrue Sh.B.tells → AreWantedTold self.old.state }
-        requires found { HasFound H.half Sh.B.tells self.old.state command.now found.now }
-        ensures does { IsTrue Sh.B.tells → Does H.half self.old.state actor command.now result [] self.new.state }
-        ensures asks { AsksNothing command.now self.old.gets self.new.gets }
+        requires may { MayAct H.half Sh.B.tells self.old command.now found.now }
+        ensures acts { Acts H.half Sh.B.tells self.old actor command.now result [] self.new }
         ensures tells { Tells self.old.state self.new.state (own_hashes H.half self.old.state actor command.now result) }
         ensures names { TellsRoot self.old.state command.now result self.new.state }
-        ensures refused { IsRefusal result → KeepsRest self.old.state self.new.state }
-        ensures grows { Grows self.old self.new }
-        ensures slices { self.new.slices ≡ self.old.slices }
-        ensures copies { IsTrue Sh.B.tells → backs self.new ≡ backs self.old }
-        ensures fault { result ≡ Reply.Fault → Rose self.old.faults self.new.faults }
     {
         match command {
             Command::Want { target, seq } => match self.want(alloc, target, *seq) {

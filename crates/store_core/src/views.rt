@@ -2,7 +2,6 @@
 ghost use Rattle.std.specs.Prelude.{◌≡◌, ◌≤◌, IsTrue, OnErr, IfErr, IfOk, IfSome};
 ghost use Rattle.std.specs.FinMap as map;
 ghost use Rattle.ledger_spec.specs.Forms.{hash_of};
-ghost use Rattle.ledger_machine.specs.State.{form_in};
 ghost use Rattle.rotating_store.specs.Reading.{WasRead};
 ghost use Rattle.path_proof.specs.Sources.{Gives};
 ghost use Rattle.rotating_store.specs.Stores.{nodes_of};
@@ -17,7 +16,7 @@ ghost use Rattle.ledger_machine.specs.Reading.{IsRead, view_root};
 ghost use Rattle.store_core.specs.Machines.{view_by};
 ghost use Rattle.store_core.specs.Desks.{IsFiled, Stays, OnlyReads};
 ghost use Rattle.path_proof.specs.Paths.{held_nodes};
-ghost use Rattle.store_core.specs.Reads.{IsFollowed, IsGot, Says};
+ghost use Rattle.store_core.specs.Reads.{GivesForm, GivesNode, IsFollowed, IsGot, Says};
 
 use crate::limits::MOST_VIEWS;
 use crate::tables::Tables;
@@ -135,10 +134,7 @@ impl<H: NodeHash, Sh: Shelf> Tables<H, Sh> {
         h: &Hash32,
     ) -> Result<Option<Arc<Node>>, FetchFault>
         requires { IsFiled H.half Sh.B.tells self.old.state }
-        ensures hash { IfOk result (λ o. IfSome o (λ node. hash_of H.half (held node.value) ≡ h.now)) }
-        ensures exact { IsTrue Sh.B.tells → Gives H.half (form_in self.old.state h.now) result }
-        ensures reads { OnlyReads Sh.B.tells self.old self.new }
-        ensures fault { IfErr result (λ e. e ≡ FetchFault.Fault → Rose self.old.faults self.new.faults) }
+        ensures { GivesNode H.half Sh.B.tells self.old h.now result self.new }
     {
         let mut filed = Filed::<'_, H, Sh>::new(&mut self.store);
         fetched::<H, Filed<'_, H, Sh>>(alloc, &mut filed, h)
@@ -147,10 +143,7 @@ impl<H: NodeHash, Sh: Shelf> Tables<H, Sh> {
     /// The bytes of a hash, as the store gives them: nothing of them is hashed.
     pub(crate) fn form_at(&mut self, alloc: Global, h: &Hash32) -> Result<Option<Blob>, FetchFault>
         requires { IsFiled H.half Sh.B.tells self.old.state }
-        ensures exact { IsTrue Sh.B.tells → IfOk result (λ b. b ≡ form_in self.old.state h.now) }
-        ensures own { IfOk result (λ o. IfSome o (λ form. IsTrue Sh.B.tells → H.half form ≡ h.now)) }
-        ensures reads { OnlyReads Sh.B.tells self.old self.new }
-        ensures fault { IfErr result (λ e. e ≡ FetchFault.Fault → Rose self.old.faults self.new.faults) }
+        ensures { GivesForm H.half Sh.B.tells self.old h.now result self.new }
     {
         bytes_at::<H, Sh>(alloc, &mut self.store, h)
     }

@@ -19,27 +19,7 @@ use Rattle.top_call.specs.Top.{IsOneOf, HasStatus, HasSaid, CountsFrom, IsCalm, 
 
 no_fault_here : (r : Reply) → fault_count r ≡ 0 → is_fault r ≡ false
 no_fault_here says.Fault e = absurd (omega arith)
-no_fault_here says.Memory e = refl
-no_fault_here (says.Clash h o n) e = refl
-no_fault_here (says.ZeroHash f) e = refl
-no_fault_here (says.Want r) e = refl
-no_fault_here (says.Peer r) e = refl
-no_fault_here (says.Base r) e = refl
-no_fault_here (says.Node r) e = refl
-no_fault_here (says.Check r) e = refl
-no_fault_here (says.Tick r) e = refl
-no_fault_here (says.View r) e = refl
-no_fault_here (says.Unview r) e = refl
-no_fault_here (says.Get r) e = refl
-no_fault_here (says.Page r) e = refl
-no_fault_here (says.Edit r) e = refl
-no_fault_here (says.Put r) e = refl
-no_fault_here (says.Tx r) e = refl
-no_fault_here (says.Abandon r) e = refl
-no_fault_here (says.Del r) e = refl
-no_fault_here (says.Close r) e = refl
-no_fault_here (says.Begin r) e = refl
-no_fault_here (says.Swap r) e = refl
+no_fault_here _ e = refl
 
 no_fault_met : (journal : List Entry) → faults_in journal ≡ 0 → list_any met_fault journal ≡ false
 no_fault_met [] e = refl

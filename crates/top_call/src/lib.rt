@@ -3,6 +3,8 @@
 
 mod asking;
 mod dump;
+mod ends;
+mod printing;
 mod run;
 mod status;
 mod stop;

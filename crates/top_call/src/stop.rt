@@ -7,7 +7,8 @@ ghost use Rattle.stop_run.specs.Ending.{MatchEnd, HasFailed, IsExplained, wanted
 ghost use Rattle.stop_run.specs.Leaving.{AreLeft};
 ghost use Rattle.top_call.specs.Stopping.{stopped_text, HasStopped, HasNotRun, IsRunOf, PrintsStop};
 
-use crate::run::{own_status, print};
+use crate::ends::own_status;
+use crate::printing::print;
 use crate::status::{NO_MEMORY, SINK_FAILED, STORE_FAILED};
 use actor_pool::{Gate, run_actors};
 use half_hash::NodeHash;

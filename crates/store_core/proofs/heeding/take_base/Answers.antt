@@ -15,22 +15,24 @@ use Rattle.store_core.proofs.heeding.take_base.Goals as goal
 pub returns-in_err-heed_base-clause-walks : goal.returns-in_err-heed_base-clause-walks
 returns-in_err-heed_base-clause-walks g c told stored turning is among k =
     walking_counted c.args.rotator.now.shaded c.heed_base.new.rotator.walk c.args.store.now c.heed_base.new.store
-    (c.heed_base.ensures.store told)
+    (c.heed_base.ensures.walk.store told)
     (walking_heeded c.args.rotator.now.shaded c.args.rotator.now c.heed_base.new.rotator c.args.store.now
-    (c.heed_base.ensures.heeds told) k)
+    (c.heed_base.ensures.walk.heeds told) k)
 
 -- the answer is that over the store before
 pub returns-clause-answer : goal.returns-clause-answer
 returns-clause-answer g c told stored =
     let half = g.H.NodeHash.half in
     let same : forms_in c.heed_base.new.store ≡ forms_in c.args.store.now =
-    counted_nodes c.args.store.now c.heed_base.new.store (c.heed_base.ensures.store told) in
+    counted_nodes c.args.store.now c.heed_base.new.store (c.heed_base.ensures.walk.store told) in
     answers_counted half
-    (base_given half (forms_in c.args.store.now) c.args.acquire.now.target c.args.acquire.now.peers c.args.peer c.args.header.now (option_copied c.args.state)
+    (base_given half (forms_in c.args.store.now) c.args.acquire.now.target c.args.acquire.now.peers c.args.peer c.args.header.now
+    (option_copied c.args.state)
     (option_copied c.args.tx))
-    (base_stored half (forms_in c.args.store.now) c.args.acquire.now.target c.args.acquire.now.peers c.args.peer c.args.header.now (option_copied c.args.state)
+    (base_stored half (forms_in c.args.store.now) c.args.acquire.now.target c.args.acquire.now.peers c.args.peer c.args.header.now
+    (option_copied c.args.state)
     (option_copied c.args.tx))
-    c.args.store.now c.heed_base.new.store c.base.result c.base.new.store (c.heed_base.ensures.store told)
+    c.args.store.now c.heed_base.new.store c.base.result c.base.new.store (c.heed_base.ensures.walk.store told)
     (subst (λ (m : Lookup). Answers half
     (base_given half m c.args.acquire.now.target c.args.acquire.now.peers c.args.peer c.args.header.now (option_copied c.args.state)
     (option_copied c.args.tx))
@@ -44,8 +46,9 @@ returns-clause-walks g c told stored turning is among k =
     let half = g.H.NodeHash.half in
     base_walks half c.args.rotator.now.shaded c.args.rotator.now c.heed_base.new.rotator c.args.store.now c.base.new.store
     c.args.acquire.now c.args.peer c.args.header.now (option_copied c.args.state) (option_copied c.args.tx)
-    (c.heed_base.ensures.heeds told) (subst (Contains c.args.rotator.now.shaded) (sym is) among)
-    (base_given half (forms_in c.args.store.now) c.args.acquire.now.target c.args.acquire.now.peers c.args.peer c.args.header.now (option_copied c.args.state)
+    (c.heed_base.ensures.walk.heeds told) (subst (Contains c.args.rotator.now.shaded) (sym is) among)
+    (base_given half (forms_in c.args.store.now) c.args.acquire.now.target c.args.acquire.now.peers c.args.peer c.args.header.now
+    (option_copied c.args.state)
     (option_copied c.args.tx)) c.base.result
     (subst (IsHeeded (forms_in c.args.store.now) c.heed_base.new.rotator) (sym is) (c.in_ok-heed_base.ensures.target told turning))
     (c.in_ok-heed_base.ensures.state told turning) (c.in_ok-heed_base.ensures.tx told turning) (returns-clause-answer g c told stored) k

@@ -37,29 +37,22 @@ pub returns-in_default-clause-blocked : goal.returns-in_default-clause-blocked
 returns-in_default-clause-blocked g c =
     ((λ e. cc), (λ blocked. absurd (done_free _ _ c.args.actor ((returns-in_default-clause-finished g c).0 refl) blocked)))
 
--- each line of the script is in range, so the one that was found is
-pub section-requires-clause-in_range : goal.section-requires-clause-in_range
-section-requires-clause-in_range g c _ _ =
-    let k = c.self.invariant.0 in
-    let next = moved c.self.inside.cursors.items c.deref.ensures.value c.index-from.ensures
-    c.self.inside.cursors.ok.0 c.len.ensures c.if-actor-len.false c.in-Some.ensures in
-    kept_in_range _ _ _ _ _ _ _ _ _ _ _ _ k _ next.within c.index-line.result.now c.index-line.ensures
-
-pub section-requires-clause-sound : goal.section-requires-clause-sound
-section-requires-clause-sound g c _ _ = c.self.invariant.0.sound
-
-pub section-requires-clause-told : goal.section-requires-clause-told
-section-requires-clause-told g c _ _ = c.self.invariant.0.roots
-
--- no more epochs have ended than there are entries, and there are fewer of those than lines
-pub section-requires-clause-room : goal.section-requires-clause-room
-section-requires-clause-room g c _ _ =
+-- each line of the script is in range, so the one that was found is; no more epochs have ended than there are entries, and there are
+-- fewer of
+-- those than lines
+pub section-requires-clause-may : goal.section-requires-clause-may
+section-requires-clause-may g c _ _ =
     let k = c.self.invariant.0 in
     let next = moved c.self.inside.cursors.items c.deref.ensures.value c.index-from.ensures
     c.self.inside.cursors.ok.0 c.len.ensures c.if-actor-len.false c.in-Some.ensures in
     let less = kept_less _ _ _ _ _ _ _ _ _ _ _ _ k c.args.actor _
     (omega (arith, k.cursor_count, c.len.ensures, c.if-actor-len.false)) next c.index-line.result.now c.index-line.ensures in
-    omega (arith, k.young, less, k.servable.few)
+    record {
+      in_range = kept_in_range _ _ _ _ _ _ _ _ _ _ _ _ k _ next.within c.index-line.result.now c.index-line.ensures;
+      sound = k.sound;
+      told = k.roots;
+      room = omega (arith, k.young, less, k.servable.few);
+    }
 
 -- room for an entry of each line was reserved, and this line has none yet, so the push succeeds
 pub unwrap-requires : goal.unwrap-requires
@@ -189,7 +182,8 @@ invariant_of-self-in_default-section g c =
           (kept_sliced _ _ _ _ _ _ _ _ _ _ _ _ k c.section.new.self.desk.state c.section.new.self.desk.faults
           (c.in_default-section.ensures.does.same) (c.in_default-section.ensures.does.still) c.in_default-section.ensures.does.grows.later)
           c.args.actor _ (omega (arith, k.cursor_count, c.len.ensures, c.if-actor-len.false)) (omega (arith, next.within)) next.none,
-      keeps_sliced g.H.NodeHash.half g.Sh.B.Backend.tells c.self.inside.hall.desk.state c.section.new.self.desk.state c.self.inside.journal.items
+      keeps_sliced g.H.NodeHash.half g.Sh.B.Backend.tells c.self.inside.hall.desk.state c.section.new.self.desk.state
+          c.self.inside.journal.items
           c.self.inside.searches c.section.new.searches shares.kept shares.generation
           (c.in_default-section.ensures.does.same) c.self.invariant.1.young,
     )
@@ -237,7 +231,8 @@ returns-in_default-section-clause-more g c _ =
       views = c.section.new.self.views;
     } in
     let sliced = slice_of g.H.NodeHash.half g.Sh.B.Backend.tells c.args.actor c.index-line.result.now.command c.args.part
-    c.self.inside.hall.desk c.self.inside.searches c.section.new.self.desk c.section.new.searches c.in_default-section.ensures.does.shares.others
+    c.self.inside.hall.desk c.self.inside.searches c.section.new.self.desk c.section.new.searches
+    c.in_default-section.ensures.does.shares.others
     c.in_default-section.ensures.does.shares.generation c.in_default-section.ensures.does.more in (
       sliced.cut,
       rw (← c.self.view_is) (record {
@@ -276,12 +271,17 @@ invariant_of-self-2 g c =
           (kept_step _ _ _ _ _ _ _ _ _ _ _ _ k c.args.actor _ (omega (arith, k.cursor_count, c.len.ensures, c.if-actor-len.false)) next
           c.index-line.result.now c.index-line.ensures _ _ _ _ _ refl refl free step
           (λ t. step_sound _ c.known_half.ensures _ _ _ _ _ _ range (k.sound t) (step t))
-          c.in-Some-section.ensures.does.serves.told c.in-Some-section.ensures.does.serves.grows.few c.in-Some-section.ensures.does.serves.grows.ages
-          c.push.ensures.capacity c.in-Some-section.ensures.does.serves.grows.later
+          c.in-Some-section.ensures.does.serves.told c.in-Some-section.ensures.does.serves.leaves.grows.few
+          c.in-Some-section.ensures.does.serves.leaves.grows.ages
+          c.push.ensures.capacity c.in-Some-section.ensures.does.serves.leaves.grows.later
           (rw c.forget.ensures (omega (arith, without_few c.args.actor c.self.inside.failed)))
           (λ e. ⊎_elim (λ rose. inl rose)
-          (λ by. inr (rw c.forget.ensures (omega (arith, without_fewer c.args.actor c.self.inside.failed (sym c.has-failed.ensures ∙ by.1)))))
-          (c.in-Some-section.ensures.does.serves.fault e))),
+          (λ by. inr (rw c.forget.ensures (omega (
+            arith,
+            without_fewer c.args.actor c.self.inside.failed (sym c.has-failed.ensures ∙
+                by.1),
+          ))))
+          (c.in-Some-section.ensures.does.serves.leaves.fault e))),
       keeps_on g.H.NodeHash.half g.Sh.B.Backend.tells c.self.inside.hall.desk.state c.section.new.self.desk.state c.args.actor
           c.index-line.result.now.command _ c.section.new.searches c.end_search.new.searches c.in-Some-section.reply
           c.self.inside.journal.items _ c.self.inside.searches c.end_search.ensures step shares.kept shares.generation
@@ -312,22 +312,23 @@ returns-clause-answered g c _ =
       missed = refl;
       journal = pushed c.push.result _ _ _ _ c.push.ensures.items c.unwrap.ensures;
       actor = refl;
-      later = c.in-Some-section.ensures.does.serves.grows.later;
+      later = c.in-Some-section.ensures.does.serves.leaves.grows.later;
       failed = c.forget.ensures;
       cause = λ e. ⊎_elim (λ rose. inl rose) (λ by. inr (by.0, sym c.has-failed.ensures ∙ by.1))
-          (c.in-Some-section.ensures.does.serves.fault e);
-      refused = c.in-Some-section.ensures.does.serves.refused;
+          (c.in-Some-section.ensures.does.serves.leaves.fault e);
+      refused = c.in-Some-section.ensures.does.serves.leaves.refused;
       step = λ t. answers g.H.NodeHash.half c.self.inside.script.lines.items c.self.inside.hall.desk.state c.section.new.self.desk.state
           c.index-line.result.now _ _ _ next c.index-line.ensures refl refl
           (c.in-Some-section.ensures.does.serves.step t);
       search = λ t. search_on g.H.NodeHash.half c.self.inside.hall.desk.state c.args.actor c.section.new.searches c.end_search.new.searches
           c.index-line.result.now.command c.in-Some-section.reply c.section.new.self.desk.state _
           (hunt_of c.self.inside.searches.hunts.items c.args.actor) c.self.inside.searches.marks c.self.inside.hall.desk.gets
-          c.section.new.self.desk.gets (c.in-Some-section.ensures.does.serves.step t) c.end_search.ensures (c.in-Some-section.ensures.does.search t);
+          c.section.new.self.desk.gets (c.in-Some-section.ensures.does.serves.step t) c.end_search.ensures
+          (c.in-Some-section.ensures.does.search t);
       hunts = hunts_on g.H.NodeHash.half g.Sh.B.Backend.tells c.self.inside.hall.desk.state c.section.new.self.desk.state c.args.actor
           c.index-line.result.now.command [] c.section.new.searches c.end_search.new.searches c.in-Some-section.reply c.self.inside.searches
           c.end_search.ensures c.in-Some-section.ensures.does.shares.others;
-      slices = c.in-Some-section.ensures.does.serves.slices;
+      slices = c.in-Some-section.ensures.does.serves.leaves.slices;
       marks = marks_left g.H.NodeHash.half g.Sh.B.Backend.tells c.self.inside.hall.desk.state c.section.new.self.desk.state c.args.actor
           c.index-line.result.now.command [] c.section.new.searches c.end_search.new.searches c.in-Some-section.reply c.self.inside.searches
           c.end_search.ensures c.in-Some-section.ensures.does.shares.generation c.in-Some-section.ensures.does.idle;
@@ -541,4 +542,5 @@ returns-then-not-is_answered-clause-takes g c h is asked =
 -- no entry raises the count of slices
 pub returns-clause-slices : goal.returns-clause-slices
 returns-clause-slices g c _ =
-    rw (← c.self.view_is) (counts_fewer c.index-line.result.now.command c.in-Some-section.reply _ _ c.in-Some-section.ensures.does.serves.slices)
+    rw (← c.self.view_is) (counts_fewer c.index-line.result.now.command c.in-Some-section.reply _ _
+    c.in-Some-section.ensures.does.serves.leaves.slices)

@@ -13,14 +13,15 @@ returns-in-Ok-clause-lists g c = rw (← c.self.view_is) (record {
   interval = refl;
   opened = refl;
   journal = refl;
-  later = c.form_at.ensures.reads.later;
-  state = c.form_at.ensures.reads.state;
-  tables = c.form_at.ensures.reads.tables;
+  later = c.form_at.ensures.form.reads.later;
+  state = c.form_at.ensures.form.reads.state;
+  tables = c.form_at.ensures.form.reads.tables;
   views = c.form_at.ensures.views;
   marks = refl;
   hunts = refl;
-  copies = λ told. none_copied c.self.inside.hall.desk c.form_at.new.self.desk c.known.ensures.nodes (c.form_at.ensures.reads.copies told);
-  slices = c.form_at.ensures.reads.slices;
+  copies = λ told. none_copied c.self.inside.hall.desk c.form_at.new.self.desk c.known.ensures.nodes (c.form_at.ensures.form.reads.copies
+      told);
+  slices = c.form_at.ensures.form.reads.slices;
 })
 
 pub returns-in-Err-clause-lists : goal.returns-in-Err-clause-lists
@@ -30,12 +31,13 @@ returns-in-Err-clause-lists g c = rw (← c.self.view_is) (record {
   interval = refl;
   opened = refl;
   journal = refl;
-  later = c.form_at.ensures.reads.later;
-  state = c.form_at.ensures.reads.state;
-  tables = c.form_at.ensures.reads.tables;
+  later = c.form_at.ensures.form.reads.later;
+  state = c.form_at.ensures.form.reads.state;
+  tables = c.form_at.ensures.form.reads.tables;
   views = c.form_at.ensures.views;
   marks = refl;
   hunts = refl;
-  copies = λ told. none_copied c.self.inside.hall.desk c.form_at.new.self.desk c.known.ensures.nodes (c.form_at.ensures.reads.copies told);
-  slices = c.form_at.ensures.reads.slices;
+  copies = λ told. none_copied c.self.inside.hall.desk c.form_at.new.self.desk c.known.ensures.nodes (c.form_at.ensures.form.reads.copies
+      told);
+  slices = c.form_at.ensures.form.reads.slices;
 })

@@ -13,14 +13,15 @@ returns-in-Ok-clause-lists g c = rw (← c.self.view_is) (record {
   interval = refl;
   opened = refl;
   journal = refl;
-  later = c.next_stored.ensures.reads.later;
-  state = c.next_stored.ensures.reads.state;
-  tables = c.next_stored.ensures.reads.tables;
+  later = c.next_stored.ensures.next.reads.later;
+  state = c.next_stored.ensures.next.reads.state;
+  tables = c.next_stored.ensures.next.reads.tables;
   views = c.next_stored.ensures.views;
   marks = refl;
   hunts = refl;
-  copies = λ told. none_copied c.self.inside.hall.desk c.next_stored.new.self.desk c.known.ensures.nodes (c.next_stored.ensures.reads.copies told);
-  slices = c.next_stored.ensures.reads.slices;
+  copies = λ told. none_copied c.self.inside.hall.desk c.next_stored.new.self.desk c.known.ensures.nodes
+      (c.next_stored.ensures.next.reads.copies told);
+  slices = c.next_stored.ensures.next.reads.slices;
 })
 
 pub returns-in-Err-Fault-clause-lists : goal.returns-in-Err-Fault-clause-lists
@@ -30,14 +31,15 @@ returns-in-Err-Fault-clause-lists g c = rw (← c.self.view_is) (record {
   interval = refl;
   opened = refl;
   journal = refl;
-  later = c.next_stored.ensures.reads.later;
-  state = c.next_stored.ensures.reads.state;
-  tables = c.next_stored.ensures.reads.tables;
+  later = c.next_stored.ensures.next.reads.later;
+  state = c.next_stored.ensures.next.reads.state;
+  tables = c.next_stored.ensures.next.reads.tables;
   views = c.next_stored.ensures.views;
   marks = refl;
   hunts = refl;
-  copies = λ told. none_copied c.self.inside.hall.desk c.next_stored.new.self.desk c.known.ensures.nodes (c.next_stored.ensures.reads.copies told);
-  slices = c.next_stored.ensures.reads.slices;
+  copies = λ told. none_copied c.self.inside.hall.desk c.next_stored.new.self.desk c.known.ensures.nodes
+      (c.next_stored.ensures.next.reads.copies told);
+  slices = c.next_stored.ensures.next.reads.slices;
 })
 
 pub returns-in-Err-Memory-clause-lists : goal.returns-in-Err-Memory-clause-lists
@@ -47,12 +49,13 @@ returns-in-Err-Memory-clause-lists g c = rw (← c.self.view_is) (record {
   interval = refl;
   opened = refl;
   journal = refl;
-  later = c.next_stored.ensures.reads.later;
-  state = c.next_stored.ensures.reads.state;
-  tables = c.next_stored.ensures.reads.tables;
+  later = c.next_stored.ensures.next.reads.later;
+  state = c.next_stored.ensures.next.reads.state;
+  tables = c.next_stored.ensures.next.reads.tables;
   views = c.next_stored.ensures.views;
   marks = refl;
   hunts = refl;
-  copies = λ told. none_copied c.self.inside.hall.desk c.next_stored.new.self.desk c.known.ensures.nodes (c.next_stored.ensures.reads.copies told);
-  slices = c.next_stored.ensures.reads.slices;
+  copies = λ told. none_copied c.self.inside.hall.desk c.next_stored.new.self.desk c.known.ensures.nodes
+      (c.next_stored.ensures.next.reads.copies told);
+  slices = c.next_stored.ensures.next.reads.slices;
 })

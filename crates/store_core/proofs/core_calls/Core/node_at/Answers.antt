@@ -13,14 +13,15 @@ returns-in-Ok-clause-lists g c = rw (← c.self.view_is) (record {
   interval = refl;
   opened = refl;
   journal = refl;
-  later = c.node_at.ensures.reads.later;
-  state = c.node_at.ensures.reads.state;
-  tables = c.node_at.ensures.reads.tables;
+  later = c.node_at.ensures.node.reads.later;
+  state = c.node_at.ensures.node.reads.state;
+  tables = c.node_at.ensures.node.reads.tables;
   views = c.node_at.ensures.views;
   marks = refl;
   hunts = refl;
-  copies = λ told. none_copied c.self.inside.hall.desk c.node_at.new.self.desk c.known.ensures.nodes (c.node_at.ensures.reads.copies told);
-  slices = c.node_at.ensures.reads.slices;
+  copies = λ told. none_copied c.self.inside.hall.desk c.node_at.new.self.desk c.known.ensures.nodes (c.node_at.ensures.node.reads.copies
+      told);
+  slices = c.node_at.ensures.node.reads.slices;
 })
 
 pub returns-in-Err-clause-lists : goal.returns-in-Err-clause-lists
@@ -30,12 +31,13 @@ returns-in-Err-clause-lists g c = rw (← c.self.view_is) (record {
   interval = refl;
   opened = refl;
   journal = refl;
-  later = c.node_at.ensures.reads.later;
-  state = c.node_at.ensures.reads.state;
-  tables = c.node_at.ensures.reads.tables;
+  later = c.node_at.ensures.node.reads.later;
+  state = c.node_at.ensures.node.reads.state;
+  tables = c.node_at.ensures.node.reads.tables;
   views = c.node_at.ensures.views;
   marks = refl;
   hunts = refl;
-  copies = λ told. none_copied c.self.inside.hall.desk c.node_at.new.self.desk c.known.ensures.nodes (c.node_at.ensures.reads.copies told);
-  slices = c.node_at.ensures.reads.slices;
+  copies = λ told. none_copied c.self.inside.hall.desk c.node_at.new.self.desk c.known.ensures.nodes (c.node_at.ensures.node.reads.copies
+      told);
+  slices = c.node_at.ensures.node.reads.slices;
 })

@@ -2,4 +2,4 @@
 use Rattle.store_core.proofs.machine.Machine.close.Goals as goal
 
 pub publish-requires-clause-filed : goal.publish-requires-clause-filed
-publish-requires-clause-filed g c κs within = λ told. (c.requires.sound told).forms
+publish-requires-clause-filed g c κs within = λ told. (c.requires.may.sound told).forms

@@ -1,8 +1,10 @@
 -- the draft that was changed is the machine's session after the row
+use Rattle.std.proofs.Common.{rules}
 use Rattle.std.proofs.Common.{◌∙◌, sym, subst, Ok}
 use Rattle.node_backend.specs.declared.back.BackFault.{BackFault}
 use Rattle.store_core.specs.Desks.{Desk, IsFiled}
-use Rattle.store_core.proofs.Changing.{reads_stays, del_row, del_kept, row_keeps}
+use Rattle.store_core.proofs.Changing.{looks_beside, del_row, del_kept, row_keeps}
+use Rattle.store_core.proofs.States.{on_err}
 use Rattle.store_core.proofs.machine.Machine.del.Goals as goal
 
 pub remove-requires-after_bounds : goal.remove-requires-after_bounds
@@ -47,14 +49,15 @@ returns-clause-after g c told =
     {E = BackFault} (Ok c.in_ok-there.there) told (c.remove.ensures.reads.state told) (c.self.invariant told (filed told))
     (rw c.in_ok-there.was at (c.remove.ensures.changed told))).1
 
-pub returns-in_err-there-clause-stays : goal.returns-in_err-there-clause-stays
-returns-in_err-there-clause-stays g c =
+pub returns-in_err-there-clause-looks : goal.returns-in_err-there-clause-looks
+returns-in_err-there-clause-looks g c =
     rw (← c.self.view_is)
-    (reads_stays g.H.NodeHash.half g.Sh.B.Backend.tells c.self.inside.tables c.remove.new.self c.self.inside.sessions
-    c.remove.new.sessions c.remove.ensures.reads)
+    (looks_beside g.H.NodeHash.half g.Sh.B.Backend.tells c.self.inside.tables c.remove.new.self c.self.inside.sessions
+    c.remove.new.sessions c.from_residual.result (on_err c.from_residual.result c.in_err-there.ensures.err) c.remove.ensures.reads
+    (search rules))
 
-pub returns-clause-stays : goal.returns-clause-stays
-returns-clause-stays g c =
+pub returns-clause-looks : goal.returns-clause-looks
+returns-clause-looks g c =
     rw (← c.self.view_is)
-    (reads_stays g.H.NodeHash.half g.Sh.B.Backend.tells c.self.inside.tables c.remove.new.self c.self.inside.sessions
-    c.remove.new.sessions c.remove.ensures.reads)
+    (looks_beside g.H.NodeHash.half g.Sh.B.Backend.tells c.self.inside.tables c.remove.new.self c.self.inside.sessions
+    c.remove.new.sessions (Ok c.removed.result) tt c.remove.ensures.reads tt)

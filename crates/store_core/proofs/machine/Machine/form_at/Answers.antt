@@ -13,7 +13,11 @@ invariant_of-self g c =
     keeps_read g.H.NodeHash.half g.Sh.B.Backend.tells c.self.inside.tables c.form_at.new.self c.self.inside.sessions
     c.form_at.ensures.reads c.self.invariant
 
-pub returns-clause-reads : goal.returns-clause-reads
-returns-clause-reads g c =
-    rw (← c.self.view_is)
-    (reads_beside g.H.NodeHash.half g.Sh.B.Backend.tells c.self.inside.sessions _ c.form_at.new.self c.form_at.ensures.reads)
+pub returns : goal.returns
+returns g c =
+    rw (← c.self.view_is) (record {
+      exact = c.form_at.ensures.exact;
+      own = c.form_at.ensures.own;
+      reads = reads_beside g.H.NodeHash.half g.Sh.B.Backend.tells c.self.inside.sessions _ c.form_at.new.self c.form_at.ensures.reads;
+      fault = c.form_at.ensures.fault;
+    })

@@ -22,6 +22,13 @@ returns-clause-ok g c =
     (enlisted g.H.NodeHash.half g.Sh.B.Backend.tells c.self.inside.tables.state _ c.self.inside.sessions _ c.args.id c.args.target.now
     c.args.seq c.in_ok-list_closed.ensures.ok c.end.ensures.after)
 
--- the machine copies nothing
-pub returns-clause-copies : goal.returns-clause-copies
-returns-clause-copies g c told = rw (← c.self.view_is) (c.list_closed.ensures.copies told)
+-- the machine asks nothing
+pub returns-clause-store : goal.returns-clause-store
+returns-clause-store g c =
+    rw (← c.self.view_is) (record {
+      faults = c.list_closed.ensures.store.faults;
+      gets = c.list_closed.ensures.store.gets;
+      epoch = c.list_closed.ensures.store.epoch;
+      slices = c.list_closed.ensures.store.slices;
+      copies = c.list_closed.ensures.store.copies;
+    })

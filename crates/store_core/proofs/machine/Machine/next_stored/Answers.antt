@@ -1,4 +1,5 @@
 -- what only reads the store leaves what drafts are kept by
+use Rattle.std.proofs.Common.{rules}
 use Rattle.std.proofs.Common.{sym, subst}
 use Rattle.store_core.specs.Desks.{Desk, IsFiled}
 use Rattle.store_core.proofs.Machines.{keeps_read}
@@ -19,12 +20,22 @@ invariant_of-self-2 g c =
     keeps_read g.H.NodeHash.half g.Sh.B.Backend.tells c.self.inside.tables c.next_stored.new.self c.self.inside.sessions
     c.next_stored.ensures.reads c.self.invariant
 
-pub returns-in_err-next-clause-reads : goal.returns-in_err-next-clause-reads
-returns-in_err-next-clause-reads g c =
-    rw (← c.self.view_is)
-    (reads_beside g.H.NodeHash.half g.Sh.B.Backend.tells c.self.inside.sessions _ c.next_stored.new.self c.next_stored.ensures.reads)
+pub returns-in_err-next : goal.returns-in_err-next
+returns-in_err-next g c =
+    rw (← c.self.view_is) (record {
+      next = search rules;
+      follows = search rules;
+      reads = reads_beside g.H.NodeHash.half g.Sh.B.Backend.tells c.self.inside.sessions _ c.next_stored.new.self
+          c.next_stored.ensures.reads;
+      fault = search rules;
+    })
 
-pub returns-clause-reads : goal.returns-clause-reads
-returns-clause-reads g c =
-    rw (← c.self.view_is)
-    (reads_beside g.H.NodeHash.half g.Sh.B.Backend.tells c.self.inside.sessions _ c.next_stored.new.self c.next_stored.ensures.reads)
+pub returns : goal.returns
+returns g c =
+    rw (← c.self.view_is) (record {
+      next = search rules;
+      follows = search rules;
+      reads = reads_beside g.H.NodeHash.half g.Sh.B.Backend.tells c.self.inside.sessions _ c.next_stored.new.self
+          c.next_stored.ensures.reads;
+      fault = search rules;
+    })

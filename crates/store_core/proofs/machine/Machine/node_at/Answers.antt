@@ -13,7 +13,11 @@ invariant_of-self g c =
     keeps_read g.H.NodeHash.half g.Sh.B.Backend.tells c.self.inside.tables c.node_at.new.self c.self.inside.sessions
     c.node_at.ensures.reads c.self.invariant
 
-pub returns-clause-reads : goal.returns-clause-reads
-returns-clause-reads g c =
-    rw (← c.self.view_is)
-    (reads_beside g.H.NodeHash.half g.Sh.B.Backend.tells c.self.inside.sessions _ c.node_at.new.self c.node_at.ensures.reads)
+pub returns : goal.returns
+returns g c =
+    rw (← c.self.view_is) (record {
+      hash = c.node_at.ensures.hash;
+      exact = c.node_at.ensures.exact;
+      reads = reads_beside g.H.NodeHash.half g.Sh.B.Backend.tells c.self.inside.sessions _ c.node_at.new.self c.node_at.ensures.reads;
+      fault = c.node_at.ensures.fault;
+    })

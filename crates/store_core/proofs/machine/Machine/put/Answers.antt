@@ -1,7 +1,7 @@
 -- the draft that was changed is the machine's session after the row
 use Rattle.std.proofs.Common.{sym, subst}
 use Rattle.store_core.specs.Desks.{Desk, IsFiled}
-use Rattle.store_core.proofs.Changing.{put_row, put_kept, reads_stays, row_keeps, ok_first, ok_second}
+use Rattle.store_core.proofs.Changing.{looks_beside, put_row, put_kept, row_keeps, ok_first, ok_second}
 use Rattle.store_core.proofs.machine.Machine.put.Goals as goal
 
 pub put-requires-after_bounds : goal.put-requires-after_bounds
@@ -34,8 +34,8 @@ returns-clause-after g c told =
     c.put.new.self.state c.self.inside.sessions c.put.new.sessions (c.args.actor, c.args.session) c.args.item.now.key c.args.item.now.value
     c.put.result told (c.put.ensures.reads.state told) (c.self.invariant told (filed told)) (c.put.ensures.changed told)))
 
-pub returns-clause-stays : goal.returns-clause-stays
-returns-clause-stays g c =
+pub returns-clause-looks : goal.returns-clause-looks
+returns-clause-looks g c =
     rw (← c.self.view_is)
-    (reads_stays g.H.NodeHash.half g.Sh.B.Backend.tells c.self.inside.tables c.put.new.self c.self.inside.sessions c.put.new.sessions
-    c.put.ensures.reads)
+    (looks_beside g.H.NodeHash.half g.Sh.B.Backend.tells c.self.inside.tables c.put.new.self c.self.inside.sessions c.put.new.sessions
+    c.put.result c.put.ensures.err c.put.ensures.reads c.put.ensures.fault)

@@ -1,25 +1,35 @@
--- a check that was not searched is refused, and leaves the state
-use Rattle.std.proofs.Common.{◌≡◌, ◌∙◌, [], List, map, sym, ap, subst}
-use Rattle.ledger_spec.specs.Forms.{Held}
+-- the search comes before the step
+use Rattle.std.proofs.Common.{Ok, map, ap, ◌∙◌}
 use Rattle.shamap_node.specs.Nodes.{held}
-use Rattle.ledger_machine.specs.State.{State}
-use Rattle.ledger_machine.specs.Steps.{IsAfter, Step}
-use Rattle.store_core.proofs.Checks.{does_unfound}
-use Rattle.store_core.proofs.Rotations.{same_told}
+use Rattle.store_core.proofs.Serving.{check_done, check_may, check_more, check_refused}
 use Rattle.store_core.proofs.machine.Machine.search_section.Goals as goal
 
 pub seek-requires-clause-filed : goal.seek-requires-clause-filed
-seek-requires-clause-filed g c κs within = λ told. (c.requires.sound told).forms
+seek-requires-clause-filed g c κs within = λ told. (c.requires.may.sound told).forms
 
-pub returns-in-Err-clause-step : goal.returns-in-Err-clause-step
-returns-in-Err-clause-step g c told =
-    let half = g.H.NodeHash.half in
-    let s = c.args.self.now.state in
-    let s' = c.seek.new.self.state in
-    let same : s' ≡ s = c.seek.ensures.reads.state told in
-    let none : map (λ a. held a.value) c.new.result.items ≡ [] = ap (map (λ a. held a.value)) c.new.ensures.items in
-    let after : IsAfter s s' = same ∙ ap (λ (x : State). record s { shaded = x.shaded }) (sym same) in
-    subst (λ (used : List Held). Step half s c.args.actor c.args.command.now c.unsearched.result used s') (sym none)
-    (c.a_step_carries_what_was_told.ensures half s s' c.args.actor c.args.command.now c.unsearched.result []
-    (rw (c.unsearched.ensures, c.requires.check) (does_unfound half s s' c.args.actor c.args.target.now c.in-Err.fault after))
-    (same_told half s s' c.args.actor c.args.command.now c.unsearched.result same (c.requires.told told)).1)
+pub answer-requires-clause-may : goal.answer-requires-clause-may
+answer-requires-clause-may g c κs within =
+    check_may g.H.NodeHash.half g.Sh.B.Backend.tells c.args.command.now c.args.self.now c.seek.new.self c.requires.may c.seek.ensures.reads
+
+pub returns-in-Ok-More : goal.returns-in-Ok-More
+returns-in-Ok-More g c =
+    check_more g.H.NodeHash.half g.Sh.B.Backend.tells c.args.actor c.args.command.now c.args.target.now c.requires.check c.args.part
+    c.args.searches.now c.seek.new.searches c.args.self.now c.seek.new.self c.seek.result (rw (← c.self.view_is) c.known.ensures.nodes)
+    c.requires.may.told c.seek.ensures
+    (c.in-Ok-More.is ∙ ap Ok c.in-Ok-More.field-0-is)
+
+pub returns-in-Ok-Ended : goal.returns-in-Ok-Ended
+returns-in-Ok-Ended g c =
+    check_done g.H.NodeHash.half g.Sh.B.Backend.tells c.args.actor c.args.command.now c.args.target.now c.requires.check c.args.part
+    c.args.searches.now c.seek.new.searches c.args.self.now c.seek.new.self c.seek.result (rw (← c.self.view_is) c.known.ensures.nodes)
+    c.requires.may.told c.seek.ensures
+    c.in-Ok-Ended.found c.answer.result.0 (map (λ a. held a.value) c.answer.result.1.items) c.answer.new.self
+    (c.in-Ok-Ended.is ∙ ap Ok c.in-Ok-Ended.field-0-is) c.answer.ensures
+
+pub returns-in-Err : goal.returns-in-Err
+returns-in-Err g c =
+    rw (c.unsearched.ensures, c.new.ensures.items)
+    (check_refused g.H.NodeHash.half g.Sh.B.Backend.tells c.args.actor c.args.command.now c.args.target.now c.requires.check c.args.part
+    c.args.searches.now c.seek.new.searches c.args.self.now c.seek.new.self c.seek.result (rw (← c.self.view_is) c.known.ensures.nodes)
+    c.requires.may.told c.seek.ensures
+    c.in-Err.fault c.in-Err.is)

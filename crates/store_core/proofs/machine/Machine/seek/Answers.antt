@@ -1,7 +1,8 @@
 -- what only reads the store leaves what drafts are kept by
 use Rattle.std.proofs.Common.{sym, subst}
 use Rattle.store_core.specs.Desks.{Desk, IsFiled}
-use Rattle.store_core.proofs.Machines.{keeps_read, reads_beside}
+use Rattle.store_core.proofs.Besides.{seeks_open}
+use Rattle.store_core.proofs.Machines.{keeps_read}
 use Rattle.store_core.proofs.machine.Machine.seek.Goals as goal
 
 pub seek-requires-clause-filed : goal.seek-requires-clause-filed
@@ -13,7 +14,8 @@ invariant_of-self g c =
     keeps_read g.H.NodeHash.half g.Sh.B.Backend.tells c.self.inside.tables c.seek.new.self c.self.inside.sessions
     c.seek.ensures.reads c.self.invariant
 
-pub returns-clause-reads : goal.returns-clause-reads
-returns-clause-reads g c =
+pub returns : goal.returns
+returns g c =
     rw (← c.self.view_is)
-    (reads_beside g.H.NodeHash.half g.Sh.B.Backend.tells c.self.inside.sessions _ c.seek.new.self c.seek.ensures.reads)
+    (seeks_open g.H.NodeHash.half g.Sh.B.Backend.tells c.self.inside.tables c.seek.new.self c.self.inside.sessions c.args.actor
+    c.args.target.now c.args.part c.args.searches.now c.seek.new.searches c.seek.result c.seek.ensures)

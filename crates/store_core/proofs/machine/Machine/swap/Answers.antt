@@ -4,7 +4,7 @@ use Rattle.ledger_spec.specs.Own.{AreStored}
 use Rattle.ledger_machine.specs.State.{form_in}
 use Rattle.store_core.specs.Desks.{Desk, IsFiled}
 use Rattle.store_core.specs.Telling.{AreTold}
-use Rattle.store_core.proofs.Besides.{swap_keeps, swap_after}
+use Rattle.store_core.proofs.Besides.{err_open, kept_open, swap_keeps, swap_after}
 use Rattle.store_core.proofs.machine.Machine.swap.Goals as goal
 
 pub invariant_of-self : goal.invariant_of-self
@@ -17,13 +17,24 @@ invariant_of-self g c =
     (subst (λ (d : Desk). IsTrue tells → AreTold d.state) (sym c.self.view_is) c.requires.told)
     c.swap.ensures.swaps c.swap.ensures.err c.self.invariant
 
-pub returns-clause-swaps : goal.returns-clause-swaps
-returns-clause-swaps g c told =
+pub returns : goal.returns
+returns g c =
     let half = g.H.NodeHash.half in
     let tells = g.Sh.B.Backend.tells in
-    let filed : AreStored half (form_in c.self.inside.tables.state) =
-    (subst (λ (d : Desk). IsFiled half tells d.state) (sym c.self.view_is) c.requires.filed) told in
-    rw (← c.self.view_is) (swap_after half tells c.self.inside.tables c.swap.new.self c.self.inside.sessions c.swap.result
-    c.a_session_stays_over_its_ledger.ensures told filed
-    ((subst (λ (d : Desk). IsTrue tells → AreTold d.state) (sym c.self.view_is) c.requires.told) told)
-    (c.self.invariant told filed) (c.swap.ensures.swaps told))
+    let drafts = c.self.inside.sessions in
+    let ends = c.swap.ensures in
+    rw (← c.self.view_is) (record {
+      swaps = λ told.
+          let filed : AreStored half (form_in c.self.inside.tables.state) =
+          (subst (λ (d : Desk). IsFiled half tells d.state) (sym c.self.view_is) c.requires.filed) told in
+          swap_after half tells c.self.inside.tables c.swap.new.self drafts c.swap.result
+          c.a_session_stays_over_its_ledger.ensures told filed
+          ((subst (λ (d : Desk). IsTrue tells → AreTold d.state) (sym c.self.view_is) c.requires.told) told)
+          (c.self.invariant told filed) (ends.swaps told);
+      err = λ told. err_open half tells c.self.inside.tables.state c.swap.new.self.state drafts c.swap.result (ends.err told);
+      kept = kept_open half tells c.self.inside.tables.state c.swap.new.self.state drafts c.swap.result ends.err ends.kept;
+      grows = record { later = ends.grows.later; few = ends.grows.few; ages = ends.grows.ages };
+      slices = ends.slices;
+      still = ends.still;
+      fault = ends.fault;
+    })

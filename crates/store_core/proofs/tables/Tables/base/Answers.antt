@@ -41,22 +41,23 @@ invariant_of-self-2 g c =
           (λ told.
           let st : Store = c.self.inside.store in
           let is : IsOver st c.args.self.now.state = rw (← c.self.view_is) (record { nodes = refl; born = refl; epoch = refl }) in
-          answers_forms half (replies.base_given half (forms_in st) a.target a.peers c.args.peer c.args.header.now c.args.state.now c.args.tx.now)
+          answers_forms half (replies.base_given half (forms_in st) a.target a.peers c.args.peer c.args.header.now c.args.state.now
+          c.args.tx.now)
           (replies.base_stored half (forms_in st) a.target a.peers c.args.peer c.args.header.now c.args.state.now c.args.tx.now) st
           c.take_base-taken.result c.take_base-taken.new.store
           (same_parts half st c.take_base-taken.new.store a c.args.peer c.take_base-taken.result c.args.header.now _ c.args.state.now _
           c.args.tx.now _
           c.bytes.ensures c.lent-state.ensures c.lent-tx.ensures
-          (c.take_base-taken.ensures.answer told (filed_over half st c.args.self.now.state is (c.requires.filed told)))))
+          (c.take_base-taken.ensures.answer told (filed_over half st c.args.self.now.state is (c.requires.may.filed told)))))
           (λ told turning.
           let st : Store = c.self.inside.store in
           let is : IsOver st c.args.self.now.state = rw (← c.self.view_is) (record { nodes = refl; born = refl; epoch = refl }) in
           let own : a.target ≡ t = (found_open t wanted a c.self.invariant.0 (sym c.in-Some.ensures.value)).own in
           let all : AreWantedTold (state_of st wanted c.self.inside.views.entries c.self.inside.book c.self.inside.rotator) =
-          subst (λ (d : Desk). AreWantedTold d.state) (sym c.self.view_is) (c.requires.told told) in
+          subst (λ (d : Desk). AreWantedTold d.state) (sym c.self.view_is) (c.requires.may.told told) in
           let each : (q : Hash) → Contains (keys_of wanted) q → Contains c.self.inside.rotator.shaded q =
           wanted_told c.self.inside.book.turning _ all (sym c.self.invariant.1.step ∙ turning) in
-          c.take_base-taken.ensures.walks told (filed_over half st c.args.self.now.state is (c.requires.filed told)) turning own
+          c.take_base-taken.ensures.walks told (filed_over half st c.args.self.now.state is (c.requires.may.filed told)) turning own
           (each t (found_key wanted t a (sym c.in-Some.ensures.value))) (c.self.invariant.1.walks told)),
     )
 
@@ -75,12 +76,12 @@ returns-clause-does g c told actor =
     let is : IsOver st s = rw (← c.self.view_is) (record { nodes = refl; born = refl; epoch = refl }) in
     let at : get_in hash_cmp s.wanted t ≡ Some a = rw (← c.self.view_is) (sym c.in-Some.ensures.value) in
     let own : a.target ≡ t = (found_open t c.self.inside.wanted.entries a c.self.invariant.0 (sym c.in-Some.ensures.value)).own in
-    let all : AreStored half (forms_in st) = filed_over half st s is (c.requires.filed told) in
+    let all : AreStored half (forms_in st) = filed_over half st s is (c.requires.may.filed told) in
     let answers = same_parts half st st' a c.args.peer c.take_base-taken.result c.args.header.now _ c.args.state.now _ c.args.tx.now _
     c.bytes.ensures c.lent-state.ensures c.lent-tx.ensures (c.take_base-taken.ensures.answer told all) in
     let does : Does half s actor asks (base_answer c.take_base-taken.result) [] after =
     does_base half st st' s t c.args.peer a a' is at own c.args.header.now c.args.state.now c.args.tx.now c.known_half.ensures
-    c.requires.offered actor c.take_base-taken.result c.take_base-taken.ensures.after answers in
+    c.requires.may.in_range actor c.take_base-taken.result c.take_base-taken.ensures.after answers in
     let same = walked_state st' _ c.self.inside.views.entries c.self.inside.book c.self.inside.rotator c.take_base-taken.new.rotator
     c.take_base-taken.ensures.rotator
     ∙ taken_desk t _ _ c.self.view_is _ st' a' (c.get_mut.follows.holds c.take_base-taken.new.acquire).0 in
@@ -123,12 +124,13 @@ returns-clause-stays g c =
       copies = λ told. stored_backs half c.self.inside.store c.take_base-taken.new.store (
           let st : Store = c.self.inside.store in
           let is : IsOver st c.args.self.now.state = rw (← c.self.view_is) (record { nodes = refl; born = refl; epoch = refl }) in
-          answers_forms half (replies.base_given half (forms_in st) a.target a.peers c.args.peer c.args.header.now c.args.state.now c.args.tx.now)
+          answers_forms half (replies.base_given half (forms_in st) a.target a.peers c.args.peer c.args.header.now c.args.state.now
+          c.args.tx.now)
           (replies.base_stored half (forms_in st) a.target a.peers c.args.peer c.args.header.now c.args.state.now c.args.tx.now) st
           c.take_base-taken.result c.take_base-taken.new.store
           (same_parts half st c.take_base-taken.new.store a c.args.peer c.take_base-taken.result c.args.header.now _ c.args.state.now _
           c.args.tx.now _
           c.bytes.ensures c.lent-state.ensures c.lent-tx.ensures
-          (c.take_base-taken.ensures.answer told (filed_over half st c.args.self.now.state is (c.requires.filed told))))
+          (c.take_base-taken.ensures.answer told (filed_over half st c.args.self.now.state is (c.requires.may.filed told))))
           );
     })

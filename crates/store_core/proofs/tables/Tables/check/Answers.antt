@@ -27,7 +27,8 @@ returns-clause-reply g c told =
     let half = g.H.NodeHash.half in
     let s : State = c.args.self.now.state in
     let t = c.args.target.now in
-    let finds : Finds half (form_in s) t c.in-Some.found = (found_here g.H.NodeHash.half g.Sh.B.Backend.tells c.args.self.now.state c.args.target.now c.args.found.now c.in-Some.found
+    let finds : Finds half (form_in s) t c.in-Some.found = (found_here g.H.NodeHash.half g.Sh.B.Backend.tells c.args.self.now.state
+    c.args.target.now c.args.found.now c.in-Some.found
     c.requires.found
     (rw (← c.self.view_is) (sym c.contains_key.ensures ∙ c.if-not-contains_key.false)) c.in-Some.is).1 told in
     c.in_ok-reply.ensures.reply ∙ check_found half s t c.in-Some.found finds
@@ -38,7 +39,8 @@ returns-clause-after g c told =
     let half = g.H.NodeHash.half in
     let s : State = c.args.self.now.state in
     let t = c.args.target.now in
-    let finds : Finds half (form_in s) t c.in-Some.found = (found_here g.H.NodeHash.half g.Sh.B.Backend.tells c.args.self.now.state c.args.target.now c.args.found.now c.in-Some.found
+    let finds : Finds half (form_in s) t c.in-Some.found = (found_here g.H.NodeHash.half g.Sh.B.Backend.tells c.args.self.now.state
+    c.args.target.now c.args.found.now c.in-Some.found
     c.requires.found
     (rw (← c.self.view_is) (sym c.contains_key.ensures ∙ c.if-not-contains_key.false)) c.in-Some.is).1 told in
     let given : State = settled c.judge.new.self.state t c.found_seq.result c.in_ok-reply.reply in
@@ -77,14 +79,14 @@ returns-in_err-settle-clause-kept g c =
 -- a reply lists one ledger at most, and the judgement takes no fault back
 pub returns-clause-grows : goal.returns-clause-grows
 returns-clause-grows g c = record {
-  later = omega (arith, c.judge.ensures.stays.later, c.settle.ensures.faults);
+  later = omega (arith, c.judge.ensures.stays.later, c.settle.ensures.store.faults);
   few = omega (
     arith,
     settled_few c.judge.new.self.state c.args.target.now c.found_seq.result c.in_ok-reply.reply,
     ap (λ (x : State). length x.listed) c.in_ok-settle.ensures.ok,
     ap (λ (x : State). length x.listed) c.in_ok-reply.ensures.after,
   );
-  ages = omega (arith, c.settle.ensures.epoch, c.judge.ensures.stays.epoch);
+  ages = omega (arith, c.settle.ensures.store.epoch, c.judge.ensures.stays.epoch);
 }
 
 -- the rotation was told of the ledger that is listed, which was open

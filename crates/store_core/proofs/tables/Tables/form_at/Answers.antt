@@ -1,5 +1,6 @@
 -- all that is stored are forms under their own hashes, so the store gives what is held; and it was only read
-use Rattle.std.proofs.Common.{◌≡◌, IfOk, refl, sym, ap, subst}
+use Rattle.std.proofs.Common.{rules}
+use Rattle.std.proofs.Common.{◌≡◌, IfOk, IsTrue, refl, sym, ap, subst}
 use Rattle.std.specs.FinMap as finite
 use Rattle.ledger_spec.specs.Bytes.{Nodes}
 use Rattle.store_core.specs.Desks.{Desk}
@@ -8,23 +9,19 @@ use Rattle.store_core.proofs.Turns.{keeps_was_read}
 use Rattle.store_core.proofs.Viewing.{form_stands, only_reads}
 use Rattle.store_core.proofs.tables.Tables.form_at.Goals as goal
 
-pub returns-clause-exact : goal.returns-clause-exact
-returns-clause-exact g c told =
-    let is : IsOver c.self.inside.store c.args.self.now.state =
-    rw (← c.self.view_is) (record { nodes = refl; born = refl; epoch = refl }) in
-    subst (λ (n : Nodes). IfOk c.bytes_at.result (λ b. b ≡ finite.get n c.args.h.now)) (sym is.nodes) (c.bytes_at.ensures.found told)
-
-pub returns-clause-own : goal.returns-clause-own
-returns-clause-own g c =
-    form_stands g.H.NodeHash.half g.Sh.B.Backend.tells c.args.self.now.state c.args.h.now c.bytes_at.result c.requires
-    (returns-clause-exact g c)
-
-pub returns-clause-reads : goal.returns-clause-reads
-returns-clause-reads g c =
+pub returns : goal.returns
+returns g c =
     let d : Desk = c.args.self.now in
     let is : IsOver c.self.inside.store d.state = rw (← c.self.view_is) (record { nodes = refl; born = refl; epoch = refl }) in
-    only_reads _ _ _ _ c.self.inside.store c.bytes_at.new.store c.self.view_is refl is (ap (λ (x : Desk). x.faults) c.self.view_is)
-    c.bytes_at.ensures.read
+    let exact = λ (told : IsTrue g.Sh.B.Backend.tells). subst (λ (n : Nodes). IfOk c.bytes_at.result (λ b. b ≡ finite.get n c.args.h.now))
+    (sym is.nodes) (c.bytes_at.ensures.found told) in
+    record {
+      exact = exact;
+      own = form_stands g.H.NodeHash.half g.Sh.B.Backend.tells d.state c.args.h.now c.bytes_at.result c.requires exact;
+      reads = only_reads _ _ _ _ c.self.inside.store c.bytes_at.new.store c.self.view_is refl is
+          (ap (λ (x : Desk). x.faults) c.self.view_is) c.bytes_at.ensures.read;
+      fault = search rules;
+    }
 
 pub invariant_of-self : goal.invariant_of-self
 invariant_of-self g c = (

@@ -57,9 +57,9 @@ returns-clause-told g c =
 pub returns-clause-stays : goal.returns-clause-stays
 returns-clause-stays g c =
     rw (← c.self.view_is) (record {
-      later = c.put_hashed-put.ensures.later.0;
+      later = c.put_hashed-put.ensures.store.later;
       listed = refl;
-      epoch = c.put_hashed-put.ensures.rest.0.0;
+      epoch = c.put_hashed-put.ensures.store.past.0;
       slices = shaded_slices c.self.inside.rotator c.shade.new.self c.args.form.now.hash c.in-Ok.ensures.told
           (λ e. (c.in-Ok.ensures.idle e).1);
       copies = λ told. put_backs c.self.inside.store c.args.form.now.hash _ c.put_hashed-put.result c.put_hashed-put.new.self

@@ -45,16 +45,17 @@ invariant_of-self-2 g c =
           (replies.node_stored half (forms_in st) a.target a.peers c.args.peer c.args.kind c.args.id.now c.args.blob.now) st
           c.take_node-taken.result c.take_node-taken.new.store
           (same_blob half st c.take_node-taken.new.store a c.args.peer c.args.kind c.args.id.now c.take_node-taken.result c.args.blob.now _
-          c.bytes.ensures (c.take_node-taken.ensures.answer told (filed_over half st c.args.self.now.state is (c.requires.filed told)))))
+          c.bytes.ensures (c.take_node-taken.ensures.answer told (filed_over half st c.args.self.now.state is (c.requires.may.filed
+          told)))))
           (λ told turning.
           let st : Store = c.self.inside.store in
           let is : IsOver st c.args.self.now.state = rw (← c.self.view_is) (record { nodes = refl; born = refl; epoch = refl }) in
           let own : a.target ≡ t = (found_open t wanted a c.self.invariant.0 (sym c.in-Some.ensures.value)).own in
           let all : AreWantedTold (state_of st wanted c.self.inside.views.entries c.self.inside.book c.self.inside.rotator) =
-          subst (λ (d : Desk). AreWantedTold d.state) (sym c.self.view_is) (c.requires.told told) in
+          subst (λ (d : Desk). AreWantedTold d.state) (sym c.self.view_is) (c.requires.may.told told) in
           let each : (q : Hash) → Contains (keys_of wanted) q → Contains c.self.inside.rotator.shaded q =
           wanted_told c.self.inside.book.turning _ all (sym c.self.invariant.1.step ∙ turning) in
-          c.take_node-taken.ensures.walks told (filed_over half st c.args.self.now.state is (c.requires.filed told)) turning
+          c.take_node-taken.ensures.walks told (filed_over half st c.args.self.now.state is (c.requires.may.filed told)) turning
           (subst (Contains c.self.inside.rotator.shaded) (sym own)
           (each t (found_key wanted t a (sym c.in-Some.ensures.value)))) (c.self.invariant.1.walks told)),
     )
@@ -74,12 +75,12 @@ returns-clause-does g c told actor =
     let is : IsOver st s = rw (← c.self.view_is) (record { nodes = refl; born = refl; epoch = refl }) in
     let at : get_in hash_cmp s.wanted t ≡ Some a = rw (← c.self.view_is) (sym c.in-Some.ensures.value) in
     let own : a.target ≡ t = (found_open t c.self.inside.wanted.entries a c.self.invariant.0 (sym c.in-Some.ensures.value)).own in
-    let all : AreStored half (forms_in st) = filed_over half st s is (c.requires.filed told) in
+    let all : AreStored half (forms_in st) = filed_over half st s is (c.requires.may.filed told) in
     let answers = same_blob half st st' a c.args.peer c.args.kind c.args.id.now c.take_node-taken.result c.args.blob.now _ c.bytes.ensures
     (c.take_node-taken.ensures.answer told all) in
     let does : Does half s actor asks (node_answer c.take_node-taken.result) [] after =
     does_node half st st' s t c.args.peer a a' is at own c.args.kind c.args.id.now c.args.blob.now c.known_half.ensures
-    c.requires.bytes actor c.take_node-taken.result c.take_node-taken.ensures.after answers in
+    c.requires.may.in_range.2 actor c.take_node-taken.result c.take_node-taken.ensures.after answers in
     let same = walked_state st' _ c.self.inside.views.entries c.self.inside.book c.self.inside.rotator c.take_node-taken.new.rotator
     c.take_node-taken.ensures.rotator
     ∙ taken_desk t _ _ c.self.view_is _ st' a' (c.get_mut.follows.holds c.take_node-taken.new.acquire).0 in
@@ -126,6 +127,6 @@ returns-clause-stays g c =
           (replies.node_stored half (forms_in st) a.target a.peers c.args.peer c.args.kind c.args.id.now c.args.blob.now) st
           c.take_node-taken.result c.take_node-taken.new.store
           (same_blob half st c.take_node-taken.new.store a c.args.peer c.args.kind c.args.id.now c.take_node-taken.result c.args.blob.now _
-          c.bytes.ensures (c.take_node-taken.ensures.answer told (filed_over half st c.args.self.now.state is (c.requires.filed told))))
+          c.bytes.ensures (c.take_node-taken.ensures.answer told (filed_over half st c.args.self.now.state is (c.requires.may.filed told))))
           );
     })

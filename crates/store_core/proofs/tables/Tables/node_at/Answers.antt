@@ -1,4 +1,5 @@
 -- all that is stored are forms under their own hashes, so the store gives what is held
+use Rattle.std.proofs.Common.{rules}
 use Rattle.std.proofs.Common.{refl, subst}
 use Rattle.ledger_spec.specs.Bytes.{Lookup}
 use Rattle.path_proof.specs.Sources.{Gives}
@@ -17,11 +18,16 @@ new-filed-requires-clause-filed g c κs within =
     rw (← c.self.view_is) (record { nodes = refl; born = refl; epoch = refl }) in
     filed_by g.H.NodeHash.half g.Sh.B.Backend.tells c.args.self.now.state c.self.inside.store is c.requires
 
-pub returns-clause-exact : goal.returns-clause-exact
-returns-clause-exact g c told =
-    let is : IsOver c.self.inside.store c.args.self.now.state =
-    rw (← c.self.view_is) (record { nodes = refl; born = refl; epoch = refl }) in
-    let given : Gives g.H.NodeHash.half (finite.get (own_nodes g.H.NodeHash.half (nodes_of c.self.inside.store)) c.args.h.now)
-    c.fetched.result = rw (← c.new-filed.ensures.same) (c.fetched.ensures.exact told) in
-    subst (λ (n : Lookup). Gives g.H.NodeHash.half (n c.args.h.now) c.fetched.result)
-    (gives_all g.H.NodeHash.half c.self.inside.store c.args.self.now.state is (c.requires told)) given
+pub returns : goal.returns
+returns g c = record {
+  hash = search rules;
+  exact = λ told.
+      let is : IsOver c.self.inside.store c.args.self.now.state =
+      rw (← c.self.view_is) (record { nodes = refl; born = refl; epoch = refl }) in
+      let given : Gives g.H.NodeHash.half (finite.get (own_nodes g.H.NodeHash.half (nodes_of c.self.inside.store)) c.args.h.now)
+      c.fetched.result = rw (← c.new-filed.ensures.same) (c.fetched.ensures.exact told) in
+      subst (λ (n : Lookup). Gives g.H.NodeHash.half (n c.args.h.now) c.fetched.result)
+      (gives_all g.H.NodeHash.half c.self.inside.store c.args.self.now.state is (c.requires told)) given;
+  reads = search rules;
+  fault = search rules;
+}

@@ -17,4 +17,5 @@ returns-clause-hears g c = hears_same _ _ _ _ c.in_ok-shade.ensures.hears c.begi
 
 pub returns-clause-told : goal.returns-clause-told
 returns-clause-told g c =
-    told_same c.begin_search.result _ c.shade.new.self.state.shaded _ c.args.target.now c.in_ok-shade.ensures.told c.begin_search.ensures.told
+    told_same c.begin_search.result _ c.shade.new.self.state.shaded _ c.args.target.now c.in_ok-shade.ensures.told
+    c.begin_search.ensures.told

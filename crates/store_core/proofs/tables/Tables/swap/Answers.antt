@@ -1,4 +1,5 @@
 -- the rotation ends with all that it was told to keep copied, or goes on
+use Rattle.std.proofs.Common.{rules}
 use Rattle.std.proofs.Common.{◌≡◌, true, [], sym, ◌∙◌, subst}
 use Rattle.store_core.specs.Desks.{Desk}
 use Rattle.store_core.proofs.Sections.{finish_still}
@@ -16,36 +17,34 @@ invariant_of-self g c =
           (λ told. c.finish-ended.ensures.walks told (k.walks told)),
     )
 
-pub returns-clause-swaps : goal.returns-clause-swaps
-returns-clause-swaps g c told =
-    let k = c.self.invariant.1 in
-    rw c.swap_told.ensures (rw (← c.self.view_is) (finish_swaps c.self.inside.wanted.entries c.self.inside.views.entries c.self.inside.book
-    c.finish-ended.new.book c.self.inside.rotator c.finish-ended.new.self c.self.inside.store c.finish-ended.new.store
-    c.finish-ended.result c.finish-ended.ensures.after (c.finish-ended.ensures.nodes told (k.walks told))
-    (c.finish-ended.ensures.fit told (k.walks told) (k.fit told))
-    (sym k.step ∙ sym c.busy.ensures ∙ c.if-not-busy.false)))
-
-pub returns-clause-err : goal.returns-clause-err
-returns-clause-err g c told =
-    rw c.swap_told.ensures (rw (← c.self.view_is) (finish_stays c.self.inside.wanted.entries c.self.inside.views.entries c.self.inside.book
-    c.finish-ended.new.book c.self.inside.rotator c.finish-ended.new.self c.self.inside.store c.finish-ended.new.store
-    c.finish-ended.result c.finish-ended.ensures.after (c.finish-ended.ensures.nodes told (c.self.invariant.1.walks told))))
-
-pub returns-clause-grows : goal.returns-clause-grows
-returns-clause-grows g c =
-    rw (← c.self.view_is) (finish_grows c.self.inside.wanted.entries c.self.inside.views.entries c.self.inside.book
-    c.finish-ended.new.book c.self.inside.rotator c.finish-ended.new.self c.self.inside.store c.finish-ended.new.store
-    c.finish-ended.result c.finish-ended.ensures.after c.finish-ended.ensures.counts.later)
-
-pub returns-clause-fault : goal.returns-clause-fault
-returns-clause-fault g c =
-    rw c.swap_told.ensures (rw (← c.self.view_is) (finish_fault c.finish-ended.result c.self.inside.store c.finish-ended.new.store
-    c.finish-ended.ensures.counts.cause))
-
--- nothing is grey, so nothing is copied before the swap
-pub returns-clause-still : goal.returns-clause-still
-returns-clause-still g c told none =
-    rw (← c.self.view_is) (finish_still c.self.inside.wanted.entries c.self.inside.views.entries c.self.inside.book
-    c.finish-ended.new.book c.self.inside.rotator c.finish-ended.new.self c.self.inside.store c.finish-ended.new.store
-    c.finish-ended.result c.finish-ended.ensures.after
-    (c.finish-ended.ensures.still told (subst (λ (d : Desk). d.grey ≡ []) (sym c.self.view_is) none)))
+pub returns : goal.returns
+returns g c = record {
+  swaps = λ told.
+      let k = c.self.invariant.1 in
+      rw c.swap_told.ensures (rw (← c.self.view_is) (finish_swaps c.self.inside.wanted.entries c.self.inside.views.entries
+      c.self.inside.book
+      c.finish-ended.new.book c.self.inside.rotator c.finish-ended.new.self c.self.inside.store c.finish-ended.new.store
+      c.finish-ended.result c.finish-ended.ensures.after (c.finish-ended.ensures.nodes told (k.walks told))
+      (c.finish-ended.ensures.fit told (k.walks told) (k.fit told))
+      (sym k.step ∙ sym c.busy.ensures ∙ c.if-not-busy.false)));
+  err = λ told.
+      rw c.swap_told.ensures (rw (← c.self.view_is) (finish_stays c.self.inside.wanted.entries c.self.inside.views.entries
+      c.self.inside.book
+      c.finish-ended.new.book c.self.inside.rotator c.finish-ended.new.self c.self.inside.store c.finish-ended.new.store
+      c.finish-ended.result c.finish-ended.ensures.after (c.finish-ended.ensures.nodes told (c.self.invariant.1.walks told))));
+  kept = search rules;
+  grows =
+      rw (← c.self.view_is) (finish_grows c.self.inside.wanted.entries c.self.inside.views.entries c.self.inside.book
+      c.finish-ended.new.book c.self.inside.rotator c.finish-ended.new.self c.self.inside.store c.finish-ended.new.store
+      c.finish-ended.result c.finish-ended.ensures.after c.finish-ended.ensures.counts.later);
+  slices = search rules;
+  -- nothing is grey, so nothing is copied before the swap
+  still = λ told none.
+      rw (← c.self.view_is) (finish_still c.self.inside.wanted.entries c.self.inside.views.entries c.self.inside.book
+      c.finish-ended.new.book c.self.inside.rotator c.finish-ended.new.self c.self.inside.store c.finish-ended.new.store
+      c.finish-ended.result c.finish-ended.ensures.after
+      (c.finish-ended.ensures.still told (subst (λ (d : Desk). d.grey ≡ []) (sym c.self.view_is) none)));
+  fault =
+      rw c.swap_told.ensures (rw (← c.self.view_is) (finish_fault c.finish-ended.result c.self.inside.store c.finish-ended.new.store
+      c.finish-ended.ensures.counts.cause));
+}

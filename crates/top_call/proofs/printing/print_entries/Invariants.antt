@@ -1,7 +1,7 @@
 use Rattle.std.proofs.Common.{◌≤◌}
 use Rattle.run_io.specs.Bytes.{Wrote}
 use Rattle.top_call.proofs.Printing.{printed}
-use Rattle.top_call.proofs.run.print_entries.Given as goal
+use Rattle.top_call.proofs.printing.print_entries.Given as goal
 
 abbrev pub invariant-loop-entry : goal.invariant-loop-entry
 invariant-loop-entry g l = record {

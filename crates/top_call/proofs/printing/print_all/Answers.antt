@@ -1,6 +1,6 @@
 use Rattle.std.proofs.Common.{refl}
 use Rattle.top_call.proofs.Ending.{printed_behind, printed_part, not_sink, not_memory, said_later}
-use Rattle.top_call.proofs.run.print_all.Goals as goal
+use Rattle.top_call.proofs.printing.print_all.Goals as goal
 
 -- the journal and the summary are printed whole, and what there is of a dump stands behind them
 pub returns-in-Ok-clause-printed : goal.returns-in-Ok-clause-printed

@@ -4,7 +4,7 @@ use Rattle.run_io.proofs.Bytes.{wrote_nothing, wrote_front, wrote_part, wrote_mo
 use Rattle.journal_text.specs.Text.{summary_text}
 use Rattle.top_call.specs.Output.{entry_lines}
 use Rattle.top_call.proofs.Printing.{prefix_self, on_err}
-use Rattle.top_call.proofs.run.print.Goals as goal
+use Rattle.top_call.proofs.printing.print.Goals as goal
 
 -- a front of the entries' lines is a front of the text
 pub returns-in_err-print_entries-clause-part : goal.returns-in_err-print_entries-clause-part
