@@ -28,7 +28,8 @@ use Rattle.ledger_machine.specs.State.{State}
 use Rattle.ledger_machine.specs.Commands.{MayBeRefused}
 use Rattle.node_backend.specs.declared.back.BackFault.TheVariants as back
 use Rattle.store_core.specs.Desks.{Desk}
-use Rattle.store_core.specs.Halls.{AreViews, IsQuiet, root_by}
+use Rattle.store_core.specs.Commands.{IsQuiet}
+use Rattle.store_core.specs.Halls.{AreViews, root_by}
 use Rattle.store_core.specs.Serving.{Serves}
 use Rattle.store_core.specs.Jobs.{job_for, job_in, free_line, if_free, IsTaken, IfSays, TakesIn}
 use Rattle.store_core.specs.Reads.{IsReplied}

@@ -27,7 +27,8 @@ use Rattle.ledger_machine.specs.Steps.{IsAfter, own_hashes}
 use Rattle.open_sessions.specs.Edited.{sessions_in}
 use Rattle.store_core.specs.Machines.{told_forms, with_open, KeepsDrafts}
 use Rattle.store_core.specs.Desks.{Desk, KeepsRest}
-use Rattle.store_core.specs.Telling.{IsSteady, TellsRoot, AreTold, BeginsBy, AfterSwap, CopiesBy, CountsSlice}
+use Rattle.store_core.specs.Commands.{IsSteady, TellsRoot}
+use Rattle.store_core.specs.Telling.{AreTold, BeginsBy, AfterSwap, CopiesBy, CountsSlice}
 use Rattle.copy_walk.specs.declared.walk.Left.{Left}
 use Rattle.ledger_searches.specs.declared.searches.Searches.{Searches}
 use Rattle.ledger_searches.specs.Hunting.{hunt_of}

@@ -42,7 +42,8 @@ use Rattle.ledger_laws.proofs.SoundSteps.{outcome_cases}
 use Rattle.store_core.specs.Refusals.{search_refusal}
 use Rattle.store_core.specs.declared.rotating.Part.{Part}
 use Rattle.store_core.specs.declared.rotating.Part.TheVariants as parts
-use Rattle.store_core.specs.Checking.{AreKept, AsksNothing, ChecksByMarks, HasFound, IsNoCheck, IsOpen, IsSought}
+use Rattle.store_core.specs.Commands.{IsNoCheck}
+use Rattle.store_core.specs.Checking.{AreKept, AsksNothing, ChecksByMarks, HasFound, IsOpen, IsSought}
 use Rattle.store_core.specs.Checking.{KeepsSearches, LeavesMarks, LeavesSearch, SearchesBy, Shares, TurnsBy, sought_by}
 use Rattle.store_core.proofs.Entries.{IsOver, filed_over}
 

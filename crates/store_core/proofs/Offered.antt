@@ -22,7 +22,6 @@ use Rattle.ledger_spec.proofs.ReachLaws.{Grows, reach_joins}
 use Rattle.ledger_spec.proofs.Storing.{in_one}
 use Rattle.ledger_laws.proofs.SoundForms.{in_nothing}
 use Rattle.ledger_laws.proofs.Ways.{IsNamed, named_reached, wanted_named}
-use Rattle.copy_walk.specs.Walks.{Walk}
 use Rattle.copy_walk.specs.Walks as walks
 use Rattle.copy_walk.proofs.Lists.{shaded_stays, is_shaded, shaded_from}
 use Rattle.rotating_store.specs.Stores.{Store, nodes_of, Counted}

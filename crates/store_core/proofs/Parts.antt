@@ -1,5 +1,5 @@
 -- What an acquisition takes of a peer is what the machine does.
-use Rattle.std.proofs.Common.{◌≡◌, ℕ, List, [], Option, None, Some, Bool, true, false, if◌then◌else◌, Result, Ok, Err, Contains, IsTrue}
+use Rattle.std.proofs.Common.{◌≡◌, ℕ, List, [], Option, Some, Bool, true, false, if◌then◌else◌, Result, Ok, Err, Contains, IsTrue}
 use Rattle.std.proofs.Common.{refl, sym, ap, ◌∙◌, subst}
 use Rattle.std.proofs.lemmas.List.Elements.{Contains-append_left}
 use Rattle.std.specs.FinMap as map
@@ -29,7 +29,6 @@ use Rattle.ledger_machine.specs.declared.commands.Command.{Command}
 use Rattle.ledger_machine.specs.declared.commands.Command.TheVariants as command
 use Rattle.ledger_spec.specs.declared.replies.BaseReply.TheVariants as base
 use Rattle.ledger_spec.specs.declared.replies.NodeReply.TheVariants as node
-use Rattle.ledger_machine.specs.declared.replies.Reply.TheVariants as says
 use Rattle.ledger_machine.specs.State.{State, form_in, with_forms, with_peers}
 use Rattle.ledger_machine.specs.Scripts.{AreBytes, AreOffered}
 use Rattle.ledger_machine.specs.Base.{base_says, base_reply, node_says, node_reply}

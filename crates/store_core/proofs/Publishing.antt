@@ -39,7 +39,8 @@ use Rattle.open_sessions.specs.Rows.{AllKept}
 use Rattle.store_core.specs.Machines.{with_open, KeepsDrafts}
 use Rattle.store_core.specs.Closing.{MayKeepAll, KeptSome, IsMade, IsUnclosed}
 use Rattle.store_core.specs.Refusals.{refusal_of}
-use Rattle.store_core.specs.Telling.{Hears, TellsRoot}
+use Rattle.store_core.specs.Commands.{TellsRoot}
+use Rattle.store_core.specs.Telling.{Hears}
 use Rattle.store_core.proofs.Listed.{insert_few}
 use Rattle.store_core.proofs.Machines.{all_grow, sessions_stay, ended_state, ended_keeps, keeps_same}
 use Rattle.store_core.proofs.States.{after_on, form_after}

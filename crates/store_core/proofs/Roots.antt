@@ -53,7 +53,8 @@ use Rattle.ledger_laws.proofs.SoundForms.{in_head, in_tail}
 use Rattle.ledger_laws.proofs.SoundSteps.{outcome_cases}
 use Rattle.ledger_laws.proofs.SoundTables.{all_found}
 use Rattle.ledger_laws.proofs.SoundViews.{among}
-use Rattle.store_core.specs.Telling.{IsSteady, AreTold, TellsRoot, Carried}
+use Rattle.store_core.specs.Commands.{IsSteady, TellsRoot}
+use Rattle.store_core.specs.Telling.{AreTold, Carried}
 
 -- a fact of each listed ledger, of each that is viewed, of each that is edited and of each that is wanted, and the rotation under way
 abbrev pub Stands : (Hash → Type 0) → Option ℕ → State → Type 0

@@ -26,19 +26,17 @@ use Rattle.ledger_searches.specs.declared.hunt.Hunt.{Hunt}
 use Rattle.ledger_searches.specs.declared.searches.Searches.{Searches}
 use Rattle.ledger_searches.specs.Hunting.{hunt_of}
 use Rattle.rotating_store.specs.Stores.{merged}
-use Rattle.store_core.specs.Checking.{AreKept, AsksFew, AsksNothing, IsNoCheck, IsOpen, IsSliced, IsSought, LeavesSearch, SearchesBy}
+use Rattle.store_core.specs.Commands.{IsNoCheck, IsOfSessions, IsQuiet, IsSteady, TellsRoot}
+use Rattle.store_core.specs.Checking.{AreKept, AsksFew, AsksNothing, IsOpen, IsSliced, IsSought, LeavesSearch, SearchesBy}
 use Rattle.store_core.specs.Checking.{Shares}
 use Rattle.store_core.specs.Desks.{Desk, KeepsState, OnlyReads, backs}
-use Rattle.store_core.specs.Halls.{IsQuiet}
-use Rattle.store_core.specs.Machines.{IsOfSessions}
-use Rattle.store_core.specs.Serving.{Acts, Answers, Leaves, LeavesMore, MayServe, Seeks, Serves, Steps}
+use Rattle.store_core.specs.Serving.{Acts, Answers, LeavesMore, MayServe, Seeks, Serves, Steps}
 use Rattle.store_core.specs.declared.rotating.Part.{Part}
-use Rattle.store_core.specs.declared.rotating.Part.TheVariants as parts
 use Rattle.store_core.proofs.Checks.{clean, others_same}
 use Rattle.store_core.proofs.Roots.{told_on}
 use Rattle.store_core.proofs.Sections.{behind_same, copied_few, grows_here, grows_on, none_copied, reads_keep, rest_then}
 use Rattle.store_core.specs.Refusals.{IsRefusal, read_refusal, search_refusal}
-use Rattle.store_core.specs.Telling.{AreTold, Carried, CopiesBy, CopiesFew, CountsFrom, IsSlice, IsSteady, SlicesFirst, TellsRoot}
+use Rattle.store_core.specs.Telling.{AreTold, Carried, CopiesBy, CopiesFew, CountsFrom, IsSlice, SlicesFirst}
 use Rattle.store_core.specs.Telling.{most_copied}
 use Rattle.store_core.specs.declared.acquiring.Sought.{Sought}
 use Rattle.store_core.specs.declared.acquiring.Sought.TheVariants as sought

@@ -21,6 +21,7 @@ use Rattle.ledger_machine.specs.declared.replies.Reply.{Reply}
 use Rattle.ledger_machine.specs.declared.replies.Reply.TheVariants as says
 use Rattle.ledger_machine.specs.declared.replies.SwapReply.TheVariants as swaps
 use Rattle.ledger_machine.specs.State.{State, form_in}
+use Rattle.store_core.specs.Commands.{IsNoCheck}
 use Rattle.store_core.specs.Desks.{Desk}
 use Rattle.store_core.specs.Refusals.{IsRefusal}
 use Rattle.store_core.specs.Telling.{IsSlice}
@@ -97,32 +98,12 @@ abbrev pub LeavesSearch : Half → State → Hash → Option Hunt → Marks → 
 LeavesSearch half s t o m o' m' (sought.Ended found) = IfSome found (λ f. IsClean f → HasMarkedRoots (form_in s) t m')
 LeavesSearch half s t o m o' m' sought.More = SlicesSearch half s t o m o'
 
--- the commands that are no check
-abbrev pub IsNoCheck : Command → Type 0
-IsNoCheck (command.Check t) = ⊥
-IsNoCheck _ = ⊤
-
 -- A section that leaves its command for another one: a slice of a swap leaves what searches share, and one of a check is as said above.
 abbrev pub IsSliced : Half → Bool → ℕ → Command → Part → Desk → Searches → Desk → Searches → Type 0
 IsSliced half told a command.Swap part d x d' x' = IsSlice command.Swap part d d' × (x' ≡ x)
 IsSliced half told a (command.Check t) part d x d' x' = (part ≡ parts.Slice) × (d'.slices ≡ d.slices)
     × (IsTrue told → SlicesSearch half d.state t (hunt_of x.hunts.items a) x.marks (hunt_of x'.hunts.items a))
-IsSliced half told a (command.Want t seq) part d x d' x' = ⊥
-IsSliced half told a (command.Peer p t) part d x d' x' = ⊥
-IsSliced half told a (command.Base p t head state tx) part d x d' x' = ⊥
-IsSliced half told a (command.Node p t kind path blob) part d x d' x' = ⊥
-IsSliced half told a (command.Tick t) part d x d' x' = ⊥
-IsSliced half told a (command.View v t) part d x d' x' = ⊥
-IsSliced half told a (command.Unview v) part d x d' x' = ⊥
-IsSliced half told a (command.Get v kind key) part d x d' x' = ⊥
-IsSliced half told a (command.Page v kind key n) part d x d' x' = ⊥
-IsSliced half told a (command.Edit session t) part d x d' x' = ⊥
-IsSliced half told a (command.Put session item) part d x d' x' = ⊥
-IsSliced half told a (command.Del session key) part d x d' x' = ⊥
-IsSliced half told a (command.Tx session item) part d x d' x' = ⊥
-IsSliced half told a (command.Close session fields) part d x d' x' = ⊥
-IsSliced half told a (command.Abandon session) part d x d' x' = ⊥
-IsSliced half told a command.Begin part d x d' x' = ⊥
+IsSliced half told a _ part d x d' x' = ⊥
 
 -- behind an entry no search of its actor is kept; behind a swap, which may have lost what is marked, the next generation begins too
 pub record ForgetsAndTurns (a : ℕ) (x x' : Searches) : Type 0 where

@@ -3,13 +3,11 @@ use Rattle.std.specs.Prelude.{◌≡◌, ℕ, map, Option}
 use Rattle.std.specs.List.{All}
 use Rattle.std.specs.Option.{option_map}
 use Rattle.std.specs.Map.{values_of}
-use Rattle.ledger_spec.specs.Bytes.{Hash, Half, zero_hash}
+use Rattle.ledger_spec.specs.Bytes.{Hash, zero_hash}
 use Rattle.ledger_spec.specs.Maps.{ForActor, numbered_cmp, get_in}
 use Rattle.ledger_spec.specs.declared.Kind.{Kind}
 use Rattle.ledger_spec.specs.declared.Kind.TheVariants.{State as Accounts, Tx, Set}
 use Rattle.ledger_header.specs.declared.Header.{Header}
-use Rattle.ledger_machine.specs.declared.commands.Command.{Command}
-use Rattle.ledger_machine.specs.declared.commands.Command.TheVariants as command
 use Rattle.ledger_machine.specs.State.{State}
 use Rattle.store_core.specs.Machines.{IsHeaderOf}
 use Rattle.store_core.specs.Desks.{Desk}
@@ -38,24 +36,3 @@ root_of Set h = zero_hash
 -- the root of an open view's map, by the header that it keeps
 abbrev pub root_by : ForActor View → Kind → ℕ × ℕ → Option Hash
 root_by views kind v = option_map (λ x. root_of kind x.header) (get_in numbered_cmp views v)
-
--- the commands that are neither a check nor a swap, which are done in one section
-abbrev pub IsQuiet : Command → Type 0
-IsQuiet (command.Check t) = ⊥
-IsQuiet command.Swap = ⊥
-IsQuiet (command.Want t seq) = Unit {0}
-IsQuiet (command.Peer p t) = Unit {0}
-IsQuiet (command.Base p t head state tx) = Unit {0}
-IsQuiet (command.Node p t kind path blob) = Unit {0}
-IsQuiet (command.Tick t) = Unit {0}
-IsQuiet (command.View v t) = Unit {0}
-IsQuiet (command.Unview v) = Unit {0}
-IsQuiet (command.Get v kind key) = Unit {0}
-IsQuiet (command.Page v kind key n) = Unit {0}
-IsQuiet (command.Edit x t) = Unit {0}
-IsQuiet (command.Put x item) = Unit {0}
-IsQuiet (command.Del x key) = Unit {0}
-IsQuiet (command.Tx x item) = Unit {0}
-IsQuiet (command.Close x fields) = Unit {0}
-IsQuiet (command.Abandon x) = Unit {0}
-IsQuiet command.Begin = Unit {0}

@@ -35,23 +35,7 @@ free_line lines journal a = option_and_then (if_free journal) (next_line lines j
 abbrev pub job_for : (Kind → ℕ × ℕ → Option Hash) → ℕ → ℕ → Command → Option ReadJob
 job_for roots a number (command.Get v kind key) =
     option_map (λ root. record { line = number; root = root; kind = kind; key = key }) (roots kind (a, v))
-job_for roots a number (command.Want t seq) = None
-job_for roots a number (command.Peer p t) = None
-job_for roots a number (command.Base p t head state tx) = None
-job_for roots a number (command.Node p t kind path blob) = None
-job_for roots a number (command.Check t) = None
-job_for roots a number (command.Tick t) = None
-job_for roots a number (command.View v t) = None
-job_for roots a number (command.Unview v) = None
-job_for roots a number (command.Page v kind key n) = None
-job_for roots a number (command.Edit x t) = None
-job_for roots a number (command.Put x item) = None
-job_for roots a number (command.Del x key) = None
-job_for roots a number (command.Tx x item) = None
-job_for roots a number (command.Close x fields) = None
-job_for roots a number (command.Abandon x) = None
-job_for roots a number command.Begin = None
-job_for roots a number command.Swap = None
+job_for roots a number _ = None
 
 -- the read that the actor's next line asks for
 abbrev pub job_in : (Kind → ℕ × ℕ → Option Hash) → List Line → List Entry → ℕ → Option ReadJob

@@ -156,22 +156,7 @@ IsSliceOf half told old a command.Swap new =
 IsSliceOf half told old a (command.Check t) new = (new.slices ≡ old.slices) × (new.marks.generation ≡ old.marks.generation)
     × (new.hunts ≡ slice_set old.hunts a (hunt_of new.hunts a))
     × (IsTrue told → SlicesSearch half old.state t (hunt_of old.hunts a) old.marks (hunt_of new.hunts a))
-IsSliceOf half told old a (command.Want t seq) new = ⊥
-IsSliceOf half told old a (command.Peer p t) new = ⊥
-IsSliceOf half told old a (command.Base p t head state tx) new = ⊥
-IsSliceOf half told old a (command.Node p t kind path blob) new = ⊥
-IsSliceOf half told old a (command.Tick t) new = ⊥
-IsSliceOf half told old a (command.View v t) new = ⊥
-IsSliceOf half told old a (command.Unview v) new = ⊥
-IsSliceOf half told old a (command.Get v kind key) new = ⊥
-IsSliceOf half told old a (command.Page v kind key n) new = ⊥
-IsSliceOf half told old a (command.Edit x t) new = ⊥
-IsSliceOf half told old a (command.Put x item) new = ⊥
-IsSliceOf half told old a (command.Del x key) new = ⊥
-IsSliceOf half told old a (command.Tx x item) new = ⊥
-IsSliceOf half told old a (command.Close x fields) new = ⊥
-IsSliceOf half told old a (command.Abandon x) new = ⊥
-IsSliceOf half told old a command.Begin new = ⊥
+IsSliceOf half told old a _ new = ⊥
 
 -- A slice of the actor's next line, a swap or a check, that left something. No entry is recorded, and the state is as it was; where the
 -- store doesn't tell what it holds, but for what is stored and what was told.

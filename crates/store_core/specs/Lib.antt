@@ -1,3 +1,4 @@
+pub mod Commands
 pub mod Desks
 pub mod Checking
 pub mod Wanting

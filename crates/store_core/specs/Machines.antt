@@ -12,35 +12,12 @@ use Rattle.ledger_machine.specs.declared.replies.EditReply.TheVariants as edits
 use Rattle.ledger_spec.specs.Maps.{ForActor, numbered_cmp, has_in}
 use Rattle.ledger_spec.specs.Own.{AreStored}
 use Rattle.edit_session.specs.Drafts.{Draft}
-use Rattle.ledger_machine.specs.declared.commands.Command.{Command}
-use Rattle.ledger_machine.specs.declared.commands.Command.TheVariants as command
 use Rattle.ledger_machine.specs.declared.replies.ViewReply.{ViewReply}
 use Rattle.ledger_machine.specs.declared.replies.ViewReply.TheVariants as view
 use Rattle.ledger_machine.specs.Limits.{last_seq, most_sessions, most_views}
 use Rattle.ledger_machine.specs.State.{State, form_in, with_sessions}
 use Rattle.open_sessions.specs.Edited.{sessions_in}
 use Rattle.open_sessions.specs.Rows.{AllKept}
-
--- the commands that name a session, or see which are open
-abbrev pub IsOfSessions : Command → Type 0
-IsOfSessions (command.View v t) = Unit {0}
-IsOfSessions (command.Edit x t) = Unit {0}
-IsOfSessions (command.Put x item) = Unit {0}
-IsOfSessions (command.Del x key) = Unit {0}
-IsOfSessions (command.Tx x item) = Unit {0}
-IsOfSessions (command.Close x fields) = Unit {0}
-IsOfSessions (command.Abandon x) = Unit {0}
-IsOfSessions (command.Want t seq) = ⊥
-IsOfSessions (command.Peer p t) = ⊥
-IsOfSessions (command.Base p t head state tx) = ⊥
-IsOfSessions (command.Node p t kind path blob) = ⊥
-IsOfSessions (command.Check t) = ⊥
-IsOfSessions (command.Tick t) = ⊥
-IsOfSessions (command.Unview v) = ⊥
-IsOfSessions (command.Get v kind key) = ⊥
-IsOfSessions (command.Page v kind key n) = ⊥
-IsOfSessions command.Begin = ⊥
-IsOfSessions command.Swap = ⊥
 
 -- what a store tells that it holds; one that doesn't tell may hold anything, so nothing is said of it
 abbrev pub told_forms : Bool → State → Lookup

@@ -17,8 +17,6 @@ use Rattle.path_proof.specs.declared.answer.Answer.{Answer}
 use Rattle.path_proof.specs.declared.answer.ReadFault.{ReadFault}
 use Rattle.store_core.specs.declared.jobs.ReadJob.{ReadJob}
 use Rattle.path_proof.specs.Paths.{held_nodes, outcome_by}
-use Rattle.ledger_machine.specs.declared.commands.Command.{Command}
-use Rattle.ledger_machine.specs.declared.commands.Command.TheVariants as command
 use Rattle.ledger_machine.specs.declared.replies.GetReply.{GetReply}
 use Rattle.ledger_machine.specs.declared.replies.Reply.{Reply}
 use Rattle.ledger_machine.specs.declared.replies.Reply.TheVariants as says
@@ -27,27 +25,6 @@ use Rattle.ledger_machine.specs.State.{State, form_in}
 use Rattle.ledger_machine.specs.Steps.{Gets, Pages, UsesNodes}
 use Rattle.store_core.specs.declared.views.Got.{Got}
 use Rattle.store_core.specs.declared.pages.Paged.{Paged}
-
--- the commands that read nothing of nodes
-abbrev pub ReadsNothing : Command → Type 0
-ReadsNothing (command.Get v kind key) = ⊥
-ReadsNothing (command.Page v kind key n) = ⊥
-ReadsNothing (command.Want t seq) = Unit {0}
-ReadsNothing (command.Peer p t) = Unit {0}
-ReadsNothing (command.Base p t head state tx) = Unit {0}
-ReadsNothing (command.Node p t kind path blob) = Unit {0}
-ReadsNothing (command.Check t) = Unit {0}
-ReadsNothing (command.Tick t) = Unit {0}
-ReadsNothing (command.View v t) = Unit {0}
-ReadsNothing (command.Unview v) = Unit {0}
-ReadsNothing (command.Edit x t) = Unit {0}
-ReadsNothing (command.Put x item) = Unit {0}
-ReadsNothing (command.Del x key) = Unit {0}
-ReadsNothing (command.Tx x item) = Unit {0}
-ReadsNothing (command.Close x fields) = Unit {0}
-ReadsNothing (command.Abandon x) = Unit {0}
-ReadsNothing command.Begin = Unit {0}
-ReadsNothing command.Swap = Unit {0}
 
 -- the nodes of an answer's path say its outcome of the key
 abbrev pub IsFollowed : Half → Kind → Hash → Hash → Answer → Type 0

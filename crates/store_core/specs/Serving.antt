@@ -17,7 +17,8 @@ use Rattle.ledger_machine.specs.Commands.{IsInRange}
 use Rattle.ledger_machine.specs.Sound.{Sound}
 use Rattle.ledger_machine.specs.Steps.{Does, Step}
 use Rattle.run_io.specs.Bytes.{Rose}
-use Rattle.store_core.specs.Checking.{AsksNothing, HasFound, IsNoCheck, IsSliced, IsSought, LeavesSearch, SearchesBy, Shares}
+use Rattle.store_core.specs.Commands.{IsNoCheck}
+use Rattle.store_core.specs.Checking.{AsksNothing, HasFound, IsSliced, IsSought, LeavesSearch, SearchesBy, Shares}
 use Rattle.store_core.specs.Desks.{Desk, IsFiled, Grows, KeepsRest, OnlyReads}
 use Rattle.store_core.specs.Refusals.{IsRefusal}
 use Rattle.store_core.specs.Telling.{AreTold, AreWantedTold, CopiesBy, CopiesFew, CountsFrom}

@@ -21,8 +21,6 @@ use Rattle.rotating_store.specs.declared.store.StoreFault.{StoreFault}
 use Rattle.rotating_store.specs.declared.store.StoreFault.TheVariants as faults
 use Rattle.ledger_machine.specs.declared.commands.Command.{Command}
 use Rattle.ledger_machine.specs.declared.commands.Command.TheVariants as command
-use Rattle.ledger_machine.specs.declared.replies.WantReply.TheVariants as want
-use Rattle.ledger_machine.specs.declared.replies.CloseReply.TheVariants as close
 use Rattle.ledger_machine.specs.declared.replies.BeginReply.{BeginReply}
 use Rattle.ledger_machine.specs.declared.replies.BeginReply.TheVariants as begins
 use Rattle.ledger_machine.specs.declared.replies.SwapReply.{SwapReply}
@@ -51,27 +49,6 @@ pub record KeepsTurning (tells : Bool) (b : Retention) (r : Turning) (st : Store
   pub walks : IsTrue tells → IsWalking r.shaded r.walk st
   pub fit : IsTrue tells → IsFit r.shaded st
 
--- the commands that neither begin nor end a rotation
-abbrev pub IsSteady : Command → Type 0
-IsSteady command.Begin = ⊥
-IsSteady command.Swap = ⊥
-IsSteady (command.Want t seq) = Unit {0}
-IsSteady (command.Peer p t) = Unit {0}
-IsSteady (command.Base p t head state tx) = Unit {0}
-IsSteady (command.Node p t kind path blob) = Unit {0}
-IsSteady (command.Check t) = Unit {0}
-IsSteady (command.Tick t) = Unit {0}
-IsSteady (command.View v t) = Unit {0}
-IsSteady (command.Unview v) = Unit {0}
-IsSteady (command.Get v kind key) = Unit {0}
-IsSteady (command.Page v kind key n) = Unit {0}
-IsSteady (command.Edit x t) = Unit {0}
-IsSteady (command.Put x item) = Unit {0}
-IsSteady (command.Del x key) = Unit {0}
-IsSteady (command.Tx x item) = Unit {0}
-IsSteady (command.Close x fields) = Unit {0}
-IsSteady (command.Abandon x) = Unit {0}
-
 -- while a rotation is under way each root was told to it
 abbrev pub AreTold : State → Type 0
 AreTold s = IfSome s.turning (λ v. AreShaded s)
@@ -84,29 +61,6 @@ AreWantedTold s = IfSome s.turning (λ v. (t : Hash) → Contains (keys_of s.wan
 pub record Hears (told : List Hash) (more : List Hash) (told' : List Hash) : Type 0 where
   pub stays : (h : Hash) → Contains told h → Contains told' h
   pub only : (h : Hash) → Contains told' h → Contains told h ⊎ Contains more h
-
--- the ledger that a command opens or lists was told to the rotation under way
-abbrev pub TellsRoot : State → Command → Reply → State → Type 0
-TellsRoot s (command.Want t seq) (says.Want want.Opened) s' = IsSome s.turning → Contains s'.shaded t
-TellsRoot s (command.Want t seq) reply s' = Unit {0}
-TellsRoot s (command.Close x fields) (says.Close (close.Closed h)) s' = IsSome s.turning → Contains s'.shaded h
-TellsRoot s (command.Close x fields) reply s' = Unit {0}
-TellsRoot s (command.Peer p t) reply s' = Unit {0}
-TellsRoot s (command.Base p t head state tx) reply s' = Unit {0}
-TellsRoot s (command.Node p t kind path blob) reply s' = Unit {0}
-TellsRoot s (command.Check t) reply s' = Unit {0}
-TellsRoot s (command.Tick t) reply s' = Unit {0}
-TellsRoot s (command.View v t) reply s' = Unit {0}
-TellsRoot s (command.Unview v) reply s' = Unit {0}
-TellsRoot s (command.Get v kind key) reply s' = Unit {0}
-TellsRoot s (command.Page v kind key n) reply s' = Unit {0}
-TellsRoot s (command.Edit x t) reply s' = Unit {0}
-TellsRoot s (command.Put x item) reply s' = Unit {0}
-TellsRoot s (command.Del x key) reply s' = Unit {0}
-TellsRoot s (command.Tx x item) reply s' = Unit {0}
-TellsRoot s (command.Abandon x) reply s' = Unit {0}
-TellsRoot s command.Begin reply s' = Unit {0}
-TellsRoot s command.Swap reply s' = Unit {0}
 
 -- what a step carries of a rotation that is under way before and after it
 abbrev pub Carried : Half → State → ℕ → Command → Reply → State → Type 0
@@ -141,23 +95,7 @@ most_copied = 256
 -- nothing is copied, also where a swap is refused, but by a swap whose walk has something to take still
 abbrev pub CopiesBy : Command → Desk → Desk → Type 0
 CopiesBy command.Swap d d' = d.grey ≡ [] → behind d d' ≡ finite.get d.written
-CopiesBy (command.Want t seq) d d' = backs d' ≡ backs d
-CopiesBy (command.Peer p t) d d' = backs d' ≡ backs d
-CopiesBy (command.Base p t head state tx) d d' = backs d' ≡ backs d
-CopiesBy (command.Node p t kind path blob) d d' = backs d' ≡ backs d
-CopiesBy (command.Check t) d d' = backs d' ≡ backs d
-CopiesBy (command.Tick t) d d' = backs d' ≡ backs d
-CopiesBy (command.View v t) d d' = backs d' ≡ backs d
-CopiesBy (command.Unview v) d d' = backs d' ≡ backs d
-CopiesBy (command.Get v kind key) d d' = backs d' ≡ backs d
-CopiesBy (command.Page v kind key n) d d' = backs d' ≡ backs d
-CopiesBy (command.Edit x t) d d' = backs d' ≡ backs d
-CopiesBy (command.Put x item) d d' = backs d' ≡ backs d
-CopiesBy (command.Del x key) d d' = backs d' ≡ backs d
-CopiesBy (command.Tx x item) d d' = backs d' ≡ backs d
-CopiesBy (command.Close x fields) d d' = backs d' ≡ backs d
-CopiesBy (command.Abandon x) d d' = backs d' ≡ backs d
-CopiesBy command.Begin d d' = backs d' ≡ backs d
+CopiesBy _ d d' = backs d' ≡ backs d
 
 -- at most 256 hashes are copied, but by a swap whose rotation has done its slices
 abbrev pub CopiesFew : Command → Desk → Desk → Type 0

@@ -21,7 +21,8 @@ ghost use Rattle.ledger_machine.specs.Steps.{IsAfter};
 ghost use Rattle.ledger_machine.specs.Steps.{Does};
 ghost use Rattle.store_core.specs.Desks.{AsksNoStore, IsFiled, Stays, Grows, KeepsRest};
 ghost use Rattle.store_core.specs.Refusals.{IsRefusal};
-ghost use Rattle.store_core.specs.Telling.{Hears, TellsRoot};
+ghost use Rattle.store_core.specs.Commands.{TellsRoot};
+ghost use Rattle.store_core.specs.Telling.{Hears};
 ghost use Rattle.store_core.specs.Wanting.{judged_by, found_seq as seq_found, settled, told_at};
 
 use crate::heeding::{take_base, take_node};

@@ -8,7 +8,7 @@ ghost use Rattle.ledger_machine.specs.Steps.{own_hashes};
 ghost use Rattle.store_core.specs.Closing.{IsMade, IsUnmade, fields_of};
 ghost use Rattle.store_core.specs.Desks.{IsFiled};
 ghost use Rattle.store_core.specs.Serving.{Acts, MayServe};
-ghost use Rattle.store_core.specs.Telling.{TellsRoot};
+ghost use Rattle.store_core.specs.Commands.{TellsRoot};
 
 use crate::machine::Machine;
 use crate::refusals::{refusal, unsealed};

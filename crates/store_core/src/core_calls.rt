@@ -1,6 +1,6 @@
 //! The core: a script, the journal of what was answered, and the state after it.
-ghost use Rattle.std.specs.Prelude.{◌≡◌, ◌≢◌, ◌⊎◌, ◌↔◌, ◌+◌, ◌<◌, ◌≤◌, ◌^◌, [], ℕ, true, IsTrue, IfOk, length, count_by};
-ghost use Rattle.std.specs.Prelude.{IfErr, IfSome, MatchOption, Some, drop, take};
+ghost use Rattle.std.specs.Prelude.{◌≡◌, ◌≢◌, ◌⊎◌, ◌↔◌, ◌+◌, ◌<◌, ◌≤◌, ◌^◌, [], true, IsTrue, IfOk, length, count_by};
+ghost use Rattle.std.specs.Prelude.{IfErr, IfSome, MatchOption, Some, drop};
 ghost use Rattle.std.specs.Option.{option_copied};
 ghost use Rattle.ledger_spec.specs.Forms.{hash_of};
 ghost use Rattle.ledger_machine.specs.Reading.{view_root};

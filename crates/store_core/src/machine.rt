@@ -11,14 +11,13 @@ ghost use Rattle.ledger_machine.specs.Rotation.{Tells};
 ghost use Rattle.ledger_machine.specs.State.{opening};
 ghost use Rattle.ledger_machine.specs.Steps.{own_hashes};
 ghost use Rattle.ledger_machine.specs.Views.{is_retained as state_retains, view_reply, after_view};
-ghost use Rattle.store_core.specs.Machines.{IsOfSessions};
-ghost use Rattle.store_core.specs.Checking.{AreKept, HasFound, IsNoCheck};
+ghost use Rattle.store_core.specs.Commands.{IsNoCheck, IsOfSessions, TellsRoot};
+ghost use Rattle.store_core.specs.Checking.{AreKept, HasFound};
 ghost use Rattle.store_core.specs.Desks.{IsFiled, Stays, over};
 ghost use Rattle.store_core.specs.Dumping.{GivesNext};
 ghost use Rattle.store_core.specs.Reads.{GivesForm, GivesNode};
 ghost use Rattle.store_core.specs.Serving.{Acts, Answers, LeavesMore, MayServe, Seeks, Steps};
 ghost use Rattle.store_core.specs.Totals.{totals_by};
-ghost use Rattle.store_core.specs.Telling.{TellsRoot};
 
 use crate::acquiring::Sought;
 use crate::refusals::{unread, unsearched};

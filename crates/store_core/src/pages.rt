@@ -1,5 +1,5 @@
 //! Pages of a view's map.
-ghost use Rattle.std.specs.Prelude.{◌≡◌, ◌≢◌, IsTrue, IfErr, IfOk};
+ghost use Rattle.std.specs.Prelude.{◌≡◌, IsTrue, IfErr, IfOk};
 ghost use Rattle.run_io.specs.Bytes.{Rose};
 ghost use Rattle.ledger_machine.specs.Reading.{IsPage, view_root};
 ghost use Rattle.ledger_machine.specs.Scripts.{IsLedgerMap};

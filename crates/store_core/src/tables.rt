@@ -10,9 +10,8 @@ ghost use Rattle.ledger_machine.specs.Steps.{own_hashes};
 ghost use Rattle.rotating_store.specs.Stores.{merged};
 ghost use Rattle.store_core.specs.Desks.{IsFiled, over};
 ghost use Rattle.store_core.specs.Dumping.{GivesNext};
-ghost use Rattle.store_core.specs.Reads.{ReadsNothing};
+ghost use Rattle.store_core.specs.Commands.{ReadsNothing, TellsRoot};
 ghost use Rattle.store_core.specs.Serving.{Acts, MayAct};
-ghost use Rattle.store_core.specs.Telling.{TellsRoot};
 ghost use Rattle.store_core.specs.Totals.{totals_by};
 
 use crate::records::next_record;

@@ -24,7 +24,7 @@ use Rattle.run_io.specs.declared.io.AllFault.TheVariants as sinks
 use Rattle.top_call.specs.declared.dump.DumpFault.{DumpFault}
 use Rattle.top_call.specs.Dump.{dump_text, of_sink, AreRising, AreLines, AreFront, IsDumped, Dumps, LeavesCore}
 use Rattle.top_call.specs.declared.dump.DumpEnd.TheVariants as ends
-use Rattle.top_call.proofs.Printing.{prefix_self}
+use Rattle.top_call.proofs.Printed.{prefix_self}
 
 -- the hash of the last record, or this one where there is none
 abbrev pub last_hash : Option Hash → List Record → Option Hash

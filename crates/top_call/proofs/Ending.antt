@@ -14,7 +14,7 @@ use Rattle.top_call.specs.declared.dump.DumpEnd.{DumpEnd}
 use Rattle.top_call.specs.declared.dump.DumpEnd.TheVariants as ends
 use Rattle.top_call.specs.Dump.{dump_text, IsDumped, IsUncut, LeavesCore}
 use Rattle.top_call.specs.Top.{IsOneOf, text_of, HasPrinted, HasDumped, HasSaid, PrintsMore}
-use Rattle.top_call.proofs.Printing.{prefix_self}
+use Rattle.top_call.proofs.Printed.{prefix_self}
 use Rattle.top_call.proofs.Dumping.{text_same, none_front}
 
 -- what was printed of a dump, where the store holds the same

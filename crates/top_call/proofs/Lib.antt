@@ -1,4 +1,4 @@
-pub mod Printing
+pub mod Printed
 pub mod Refusals
 pub mod Statuses
 pub mod Opening

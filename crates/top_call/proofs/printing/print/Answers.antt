@@ -3,7 +3,7 @@ use Rattle.run_io.specs.Bytes.{Wrote}
 use Rattle.run_io.proofs.Bytes.{wrote_nothing, wrote_front, wrote_part, wrote_more}
 use Rattle.journal_text.specs.Text.{summary_text}
 use Rattle.top_call.specs.Output.{entry_lines}
-use Rattle.top_call.proofs.Printing.{prefix_self, on_err}
+use Rattle.top_call.proofs.Printed.{prefix_self, on_err}
 use Rattle.top_call.proofs.printing.print.Goals as goal
 
 -- a front of the entries' lines is a front of the text

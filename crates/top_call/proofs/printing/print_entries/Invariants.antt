@@ -1,6 +1,6 @@
 use Rattle.std.proofs.Common.{◌≤◌}
 use Rattle.run_io.specs.Bytes.{Wrote}
-use Rattle.top_call.proofs.Printing.{printed}
+use Rattle.top_call.proofs.Printed.{printed}
 use Rattle.top_call.proofs.printing.print_entries.Given as goal
 
 abbrev pub invariant-loop-entry : goal.invariant-loop-entry

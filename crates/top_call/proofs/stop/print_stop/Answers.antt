@@ -2,7 +2,7 @@
 use Rattle.std.proofs.Common.{inl, refl}
 use Rattle.run_io.proofs.Bytes.{rose_later, wrote_front, wrote_more, wrote_part}
 use Rattle.top_call.proofs.Again.{failed_stop, part_of_run, wanted_stop}
-use Rattle.top_call.proofs.Printing.{prefix_self}
+use Rattle.top_call.proofs.Printed.{prefix_self}
 use Rattle.top_call.proofs.stop.print_stop.Goals as goal
 
 pub returns-in-Err-Fault-clause-prints : goal.returns-in-Err-Fault-clause-prints

@@ -2,7 +2,7 @@ use Rattle.std.proofs.Common.{map, sym, subst}
 use Rattle.ledger_machine.specs.declared.commands.Command.{Command}
 use Rattle.ledger_machine.specs.Commands.{MayBeRefused}
 use Rattle.ledger_machine.specs.Steps.{Outcomes}
-use Rattle.store_core.specs.Halls.{IsQuiet}
+use Rattle.store_core.specs.Commands.{IsQuiet}
 use Rattle.node_backend.specs.declared.back.BackFault.TheVariants as back
 use Rattle.shamap_node.specs.Nodes.{held}
 use Rattle.store_core.proofs.Pinning.{views_back, views_more}

@@ -1,6 +1,6 @@
 use Rattle.std.proofs.Common.{map, sym, subst}
 use Rattle.shamap_node.specs.Nodes.{held}
-use Rattle.store_core.specs.Halls.{IsQuiet}
+use Rattle.store_core.specs.Commands.{IsQuiet}
 use Rattle.store_core.proofs.Pinning.{views_kept, leaves}
 use Rattle.store_core.proofs.Serving.{answers_quiet, section_same, section_step}
 use Rattle.store_core.proofs.hall.Hall.serve.Goals as goal

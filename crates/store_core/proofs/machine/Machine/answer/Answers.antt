@@ -3,7 +3,7 @@ use Rattle.std.proofs.Common.{[], map, rules}
 use Rattle.ledger_machine.specs.Commands.{IsBeside}
 use Rattle.ledger_machine.specs.declared.commands.Command.TheVariants as command
 use Rattle.shamap_node.specs.Nodes.{held}
-use Rattle.store_core.specs.Machines.{IsOfSessions}
+use Rattle.store_core.specs.Commands.{IsOfSessions}
 use Rattle.store_core.proofs.Besides.{beside_steady}
 use Rattle.store_core.proofs.Serving.{sessions_steady, steps_by, steps_steady}
 use Rattle.store_core.proofs.machine.Machine.answer.Goals as goal

@@ -4,7 +4,7 @@ use Rattle.ledger_spec.specs.Bytes.{Hash}
 use Rattle.store_core.specs.Telling.{Hears}
 use Rattle.store_core.proofs.Retold.{settled_tells, unsettled_tells}
 use Rattle.missing_walk.specs.Sees.{Finds}
-use Rattle.ledger_machine.specs.State.{State, form_in, stored_seq}
+use Rattle.ledger_machine.specs.State.{State, form_in}
 use Rattle.ledger_machine.specs.Check.{after_check}
 use Rattle.ledger_machine.specs.Steps.{IsAfter}
 use Rattle.store_core.specs.Wanting.{settled, told_at}

@@ -1,1 +1,0 @@
-use Rattle.store_core.proofs.machine.Machine.section.Goals as goal
