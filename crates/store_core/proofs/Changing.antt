@@ -95,14 +95,7 @@ looks_beside half tells d d' old new (Err e) err reads fault = record {
 }
 
 module _ (half : Half) (tells : Bool) (s s' : State) (old new : ForActor Draft) (x : ℕ × ℕ) where
-  -- where nothing was changed, the state is as before
-  pub row_err : {X E : Type 0} (r : Result X E) → s' ≡ s → OnErr r (new ≡ old)
-      → OnErr r (with_open half tells s' new ≡ with_open half tells s old)
-  row_err (Ok y) same e = tt
-  row_err (Err why) same e =
-      ap (λ (ds : ForActor Draft). with_open half tells s' ds) e ∙ ap (λ (y : State). with_open half tells y old) same
-
-  -- and the drafts are kept, where those that a change leaves are
+  -- the drafts are kept, where those that a change leaves are
   pub row_keeps : {X E : Type 0} (r : Result X E) → (IsTrue tells → s' ≡ s) → (IsTrue tells → AreStored half (form_in s))
       → (IsTrue tells → AllKept half s old → IfOk r (λ y. AllKept half s new)) → OnErr r (new ≡ old)
       → KeepsDrafts half tells s old → KeepsDrafts half tells s' new

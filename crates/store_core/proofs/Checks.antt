@@ -15,8 +15,6 @@ use Rattle.rotating_store.proofs.Reading.{stored_notes}
 use Rattle.rotating_store.specs.Stores.{Store, nodes_of}
 use Rattle.full_below.specs.declared.marks.Marks.{Marks}
 use Rattle.missing_walk.specs.declared.Found.{Found}
-use Rattle.missing_walk.specs.declared.fault.SearchFault.{SearchFault}
-use Rattle.missing_walk.specs.declared.fault.SearchFault.TheVariants as search
 use Rattle.tree_cache.specs.declared.cache.TreeCache.{TreeCache}
 use Rattle.missing_walk.specs.Ends.{IsClean}
 use Rattle.missing_walk.specs.Founds.{IsFound}
@@ -35,11 +33,10 @@ use Rattle.ledger_machine.specs.declared.replies.SwapReply.TheVariants as swaps
 use Rattle.ledger_machine.specs.declared.replies.Reply.{Reply}
 use Rattle.ledger_machine.specs.declared.replies.Reply.TheVariants as says
 use Rattle.ledger_machine.specs.State.{State, form_in}
-use Rattle.ledger_machine.specs.Steps.{Step, Swaps, Does, Refused, Outcomes, IsAfter}
+use Rattle.ledger_machine.specs.Steps.{Step, Swaps, Refused, Outcomes}
 use Rattle.ledger_laws.proofs.Stored.{Goes, on, begun, swapped, row_goes}
-use Rattle.ledger_laws.proofs.SoundForms.{with_forms_grow, in_nothing}
+use Rattle.ledger_laws.proofs.SoundForms.{with_forms_grow}
 use Rattle.ledger_laws.proofs.SoundSteps.{outcome_cases}
-use Rattle.store_core.specs.Refusals.{search_refusal}
 use Rattle.store_core.specs.declared.rotating.Part.{Part}
 use Rattle.store_core.specs.declared.rotating.Part.TheVariants as parts
 use Rattle.store_core.specs.Commands.{IsNoCheck}
@@ -61,19 +58,6 @@ clean half nodes t f finds none = record {
   missing = finds.missing ∙ ap (λ (fs : List Finding). filter_map missing_of (up_to 256 fs)) none;
   broken = finds.broken ∙ ap (λ (fs : List Finding). first_broken (up_to 256 fs)) none;
 }
-
--- without an answer nothing has changed but what a rotation was told
-unfound : (half : Half) (s s' : State) (actor : ℕ) (t : Hash) → IsAfter s s' → Refused half s actor (command.Check t) s'
-unfound half s s' actor t after = record { forms = []; own = λ form i. absurd (in_nothing i); same = after }
-
-pub does_unchecked : (half : Half) (s s' : State) (actor : ℕ) (t : Hash) → IsAfter s s' → Does half s actor (command.Check t) says.Memory
-    [] s'
-does_unchecked half s s' actor t after = record { outcome = (tt, unfound half s s' actor t after); uses = refl }
-
-pub does_unfound : (half : Half) (s s' : State) (actor : ℕ) (t : Hash) (e : SearchFault) → IsAfter s s'
-    → Does half s actor (command.Check t) (search_refusal e) [] s'
-does_unfound half s s' actor t search.Fault after = record { outcome = (tt, unfound half s s' actor t after); uses = refl }
-does_unfound half s s' actor t search.Memory after = record { outcome = (tt, unfound half s s' actor t after); uses = refl }
 
 -- where the searches of all actors are as they were
 pub others_same : (a : ℕ) (x x' : Searches) → x'.hunts.items ≡ x.hunts.items → LeavesOthers a x x'

@@ -274,9 +274,3 @@ unopenable s views v t k why =
 pub none_of : {X : Type 0} (o : Option X) → is_some o ≡ false → o ≡ None
 none_of None e = refl
 none_of (Some x) e = absurd (false≢true (sym e))
-
--- a command that is neither `view` nor `unview` leaves the views
-pub leaves : (c : Command) → ((v : ℕ) (t : Hash) → c ≡ command.View v t → ⊥) → ((v : ℕ) → c ≡ command.Unview v → ⊥) → LeavesViews c
-leaves (command.View v t) one two = absurd (one v t refl)
-leaves (command.Unview v) one two = absurd (two v refl)
-leaves _ one two = tt

@@ -1,6 +1,6 @@
 -- A section of a command: a slice first, where a swap does one, and then the step.
-use Rattle.std.proofs.Common.{◌≡◌, ◌≢◌, ◌⊎◌, inl, inr, ⊎_elim, ◌+◌, ◌<◌, ◌≤◌, ◌==◌, ◌&&◌, if◌then◌else◌, ℕ, Bool, true, false, IsTrue, []}
-use Rattle.std.proofs.Common.{Result, Ok, Err}
+use Rattle.std.proofs.Common.{◌≡◌, ◌≢◌, ◌⊎◌, inl, inr, ⊎_elim, ◌+◌, ◌≤◌, ◌==◌, ◌&&◌, if◌then◌else◌, ℕ, Bool, true, false, IsTrue}
+use Rattle.std.proofs.Common.{[], Result, Ok, Err}
 use Rattle.std.proofs.Common.{IfOk, OnErr, Option, None, Some, is_some, length, refl, sym, ap, ◌∙◌, subst, arith}
 use Rattle.std.specs.FinMap as finite
 use Rattle.std.specs.Option.{option_or}
@@ -19,8 +19,7 @@ use Rattle.copy_walk.specs.Counts.{CopiesAtMost, IsCopied}
 use Rattle.copy_walk.specs.Slices.{Slices, IsCutShort, LeftBy}
 use Rattle.copy_walk.specs.declared.walk.Left.{Left}
 use Rattle.copy_walk.specs.declared.walk.Left.TheVariants as left
-use Rattle.node_backend.specs.declared.back.BackFault.{BackFault}
-use Rattle.online_rotate.specs.Rotators.{Turning, AfterFinish, slices_after}
+use Rattle.online_rotate.specs.Rotators.{Turning, AfterFinish}
 use Rattle.online_rotate.specs.Copying.{CopiesNothing}
 use Rattle.ledger_machine.specs.declared.commands.Command.{Command}
 use Rattle.ledger_machine.specs.declared.commands.Command.TheVariants as command
@@ -32,7 +31,7 @@ use Rattle.store_core.specs.Journal.{CoreView}
 use Rattle.store_core.specs.Journal as journal
 use Rattle.store_core.specs.Machines.{with_open}
 use Rattle.store_core.specs.Desks.{Desk, Grows, KeepsRest, KeepsState, OnlyReads, backs, behind, desk_of}
-use Rattle.store_core.specs.Telling.{CountsFrom, CountsSlice, CopiesBy, CopiesFew, most_copied, most_slices, slice_told}
+use Rattle.store_core.specs.Telling.{CountsFrom, CopiesBy, CopiesFew, most_copied, most_slices, slice_told}
 use Rattle.std.specs.Prelude.{List, slice_set}
 use Rattle.full_below.specs.declared.marks.Marks.{Marks}
 use Rattle.ledger_machine.specs.Runs.{next_line}
@@ -66,28 +65,7 @@ open_rest half true s s' drafts same rest =
     subst (λ (x : State). KeepsRest (with_open half true s drafts) (with_open half true x drafts)) (sym (same refl)) refl
 open_rest half false s s' drafts same rest = ap (λ (x : State). with_open half false x drafts) rest
 
--- a slice that is counted, where there are fewer than the most
-pub one_slice_more : (n : ℕ) → n < most_slices → slices_after left.More n ≡ n + 1
-one_slice_more n few = omega (arith, few)
-
-pub counted_more : (r : Result Left BackFault) (d d' : Desk) → CountsSlice r d d' → d.slices < most_slices → r ≡ Ok left.More
-    → d'.slices ≡ d.slices + 1
-counted_more (Ok left.More) d d' counts few is = counts ∙ one_slice_more d.slices few
-counted_more (Ok left.Done) d d' counts few is = cc
-counted_more (Err e) d d' counts few is = cc
-
 -- ---- what is copied
--- a command that copies nothing
-pub copies_by : (c : Command) (d d' : Desk) → (c ≡ command.Swap → ⊥) → backs d' ≡ backs d → CopiesBy c d d'
-copies_by command.Swap d d' other same = absurd (other refl)
-copies_by command.Begin d d' other same = same
-copies_by c d d' other same = same
-
--- a command that begins no rotation leaves the count of slices
-pub steady_counts : (c : Command) (reply : Reply) (n n' : ℕ) → (c ≡ command.Begin → ⊥) → n' ≡ n → CountsFrom c reply n n'
-steady_counts command.Begin reply n n' other same = absurd (other refl)
-steady_counts c reply n n' other same = same
-
 -- and no entry raises it
 pub counts_fewer : (c : Command) (reply : Reply) (n n' : ℕ) → CountsFrom c reply n n' → n' ≤ n
 counts_fewer command.Begin (says.Begin (begins.Begun seq floor)) n n' counts = omega (arith, counts)

@@ -1,6 +1,6 @@
 -- What is stored, as records.
-use Rattle.std.specs.Prelude.{◌≡◌, ◌≤◌, ℕ, Result, Err, ◌+◌, ◌-◌, ◌*◌, Bool, true, IsTrue, List, [], ◌∷◌, length, map, Option, None, Some}
-use Rattle.std.specs.Prelude.{IfOk, IfErr, IfSome}
+use Rattle.std.specs.Prelude.{◌≡◌, ◌≤◌, ℕ, Result, Err, ◌+◌, ◌-◌, ◌*◌, Bool, true, IsTrue, List, [], ◌∷◌, length, map, Option, None}
+use Rattle.std.specs.Prelude.{Some, IfOk, IfErr, IfSome}
 use Rattle.std.specs.List.{filter, Contains}
 use Rattle.std.specs.Ordering.{is_lt}
 use Rattle.std.specs.FinMap as finite

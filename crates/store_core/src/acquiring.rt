@@ -238,9 +238,8 @@ impl<H: NodeHash, Sh: Shelf> Tables<H, Sh> {
         found: &Option<Found>,
     ) -> Result<CheckReply, Memory>
         requires found { HasFound H.half Sh.B.tells self.old.state (Command.Check target.now) found.now }
-        ensures reply { IsTrue Sh.B.tells → IfOk result (λ r. r ≡ check_reply H.half self.old.state target.now) }
-        ensures after { IsTrue Sh.B.tells
-            → IfOk result (λ r. IsAfter (after_check self.old.state target.now (stored_seq self.old.state target.now) r) self.new.state) }
+        ensures row { IsTrue Sh.B.tells → IfOk result (λ r. (r ≡ check_reply H.half self.old.state target.now)
+            × IsAfter (after_check self.old.state target.now (stored_seq self.old.state target.now) r) self.new.state) }
         ensures err { OnErr result (IsAfter self.old.state self.new.state) }
         ensures tells { Tells self.old.state self.new.state [] }
         ensures kept { OnErr result (KeepsRest self.old.state self.new.state) }

@@ -279,7 +279,25 @@ impl<H: NodeHash, Sh: Shelf> Hall<H, Sh> {
                 Some(self.view(alloc, actor, command, *view, target))
             }
             Command::Unview { view } => Some(self.unview(alloc, actor, command, *view)),
-            _ => self.machine.section(alloc, searches, actor, command, part),
+            Command::Check { target } => {
+                self.machine
+                    .search_section(alloc, searches, actor, command, target, part)
+            }
+            Command::Want { .. }
+            | Command::Peer { .. }
+            | Command::Base { .. }
+            | Command::Node { .. }
+            | Command::Tick { .. }
+            | Command::Get { .. }
+            | Command::Page { .. }
+            | Command::Edit { .. }
+            | Command::Put { .. }
+            | Command::Del { .. }
+            | Command::Tx { .. }
+            | Command::Close { .. }
+            | Command::Abandon { .. }
+            | Command::Begin
+            | Command::Swap => self.machine.turn_section(alloc, actor, command, part),
         }
     }
 

@@ -157,33 +157,9 @@ impl<H: NodeHash, Sh: Shelf> Machine<H, Sh> {
         }
     }
 
-    /// One section of a command: the reply, and the nodes that it used; or none where a slice of a swap or of a check left something.
-    pub(crate) fn section(
-        &mut self,
-        alloc: Global,
-        searches: &mut Searches,
-        actor: u8,
-        command: &Command,
-        part: Part,
-    ) -> Option<(Reply, Vec<Arc<Node>>)>
-        requires may { MayServe H.half Sh.B.tells self.old command.now }
-        requires searches { AreKept H.half Sh.B.tells self.old.state searches.old }
-        requires known { actor < actors }
-        ensures { MatchOption result
-            (LeavesMore H.half Sh.B.tells self.old actor command.now part searches.old searches.new self.new)
-            (λ r. Answers H.half Sh.B.tells (Rose self.old.faults self.new.faults) self.old actor command.now part searches.old r.0
-            (map (λ a. held a.value) r.1.items) searches.new self.new) }
-    {
-        match command {
-            Command::Check { target } => {
-                self.search_section(alloc, searches, actor, command, target, part)
-            }
-            _ => self.turn_section(alloc, actor, command, part),
-        }
-    }
-
-    // One section of a check: the search, and the step where that has ended.
-    fn search_section(
+    /// One section of a check: the search, and the reply with the nodes that it used where that has ended; or none where a slice of it left
+    /// something.
+    pub(crate) fn search_section(
         &mut self,
         alloc: Global,
         searches: &mut Searches,
@@ -226,8 +202,8 @@ impl<H: NodeHash, Sh: Shelf> Machine<H, Sh> {
         self.tables.seek(alloc, searches, actor, target, part)
     }
 
-    // One section of a command that is no check: a slice of a swap, or the step. Whatever searches share, it leaves that.
-    fn turn_section(
+    /// One section of a command that is no check: a slice of a swap, or the step. Whatever searches share, it leaves that.
+    pub(crate) fn turn_section(
         &mut self,
         alloc: Global,
         actor: u8,

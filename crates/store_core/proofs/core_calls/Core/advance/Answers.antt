@@ -38,8 +38,7 @@ returns-in_default-clause-blocked g c =
     ((λ e. cc), (λ blocked. absurd (done_free _ _ c.args.actor ((returns-in_default-clause-finished g c).0 refl) blocked)))
 
 -- each line of the script is in range, so the one that was found is; no more epochs have ended than there are entries, and there are
--- fewer of
--- those than lines
+-- fewer of those than lines
 pub section-requires-clause-may : goal.section-requires-clause-may
 section-requires-clause-may g c _ _ =
     let k = c.self.invariant.0 in

@@ -21,34 +21,23 @@ judge-requires-after_bounds g c κs within =
     c.requires.found
     (rw (← c.self.view_is) (sym c.contains_key.ensures ∙ c.if-not-contains_key.false)) c.in-Some.is).0
 
--- what was found decides the reply
-pub returns-clause-reply : goal.returns-clause-reply
-returns-clause-reply g c told =
+-- what was found decides the reply, and the state changes as the reply says, with the sequence of the stored header
+pub returns-clause-row : goal.returns-clause-row
+returns-clause-row g c told =
     let half = g.H.NodeHash.half in
     let s : State = c.args.self.now.state in
     let t = c.args.target.now in
-    let finds : Finds half (form_in s) t c.in-Some.found = (found_here g.H.NodeHash.half g.Sh.B.Backend.tells c.args.self.now.state
-    c.args.target.now c.args.found.now c.in-Some.found
-    c.requires.found
-    (rw (← c.self.view_is) (sym c.contains_key.ensures ∙ c.if-not-contains_key.false)) c.in-Some.is).1 told in
-    c.in_ok-reply.ensures.reply ∙ check_found half s t c.in-Some.found finds
-
--- the state changes as the reply says, with the sequence of the stored header
-pub returns-clause-after : goal.returns-clause-after
-returns-clause-after g c told =
-    let half = g.H.NodeHash.half in
-    let s : State = c.args.self.now.state in
-    let t = c.args.target.now in
-    let finds : Finds half (form_in s) t c.in-Some.found = (found_here g.H.NodeHash.half g.Sh.B.Backend.tells c.args.self.now.state
-    c.args.target.now c.args.found.now c.in-Some.found
-    c.requires.found
+    let finds : Finds half (form_in s) t c.in-Some.found =
+    (found_here half g.Sh.B.Backend.tells s t c.args.found.now c.in-Some.found c.requires.found
     (rw (← c.self.view_is) (sym c.contains_key.ensures ∙ c.if-not-contains_key.false)) c.in-Some.is).1 told in
     let given : State = settled c.judge.new.self.state t c.found_seq.result c.in_ok-reply.reply in
     let is = check_settled s t s.floor c.in-Some.found c.judge.new.self.state given c.found_seq.result c.in_ok-reply.reply
     c.in_ok-reply.ensures.reply
     c.in_ok-reply.ensures.after refl
-    ∙ ap (λ n. after_check s t n c.in_ok-reply.reply) (c.found_seq.ensures ∙ found_seq_is half s t c.in-Some.found finds) in
-    subst (λ (x : State). IsAfter x c.settle.new.self.state) is c.in_ok-settle.ensures.ok
+    ∙ ap (λ n. after_check s t n c.in_ok-reply.reply) (c.found_seq.ensures ∙ found_seq_is half s t c.in-Some.found finds) in (
+      c.in_ok-reply.ensures.reply ∙ check_found half s t c.in-Some.found finds,
+      subst (λ (x : State). IsAfter x c.settle.new.self.state) is c.in_ok-settle.ensures.ok,
+    )
 
 -- only to list a complete ledger wants memory, and its acquisition stayed as it was
 pub returns-in_err-settle-clause-err : goal.returns-in_err-settle-clause-err
