@@ -84,10 +84,10 @@ impl Hash for Hash32 {
 #[derive(Clone, Copy, Debug, PartialEq, Eq, Error)]
 pub enum HexFault {
     /// The text has this many bytes, and not 64.
-    #[error("Length")]
+    #[error("not 64 bytes long")]
     Length(usize),
     /// The byte at this place, the first such, is no hexadecimal digit.
-    #[error("Digit")]
+    #[error("not a hexadecimal digit")]
     Digit(usize),
 }
 

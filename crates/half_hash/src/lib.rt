@@ -189,8 +189,8 @@ mod tests {
         let length = Hash32::from_hex(b"g").err().ok_or("length")?;
         assert_eq!(rt; length, HexFault::Length(1));
         assert_eq!(rt;
-            format!(in alloc; "{digit} {length}")?.as_str(),
-            "Digit Length"
+            format!(in alloc; "{digit}, {length}")?.as_str(),
+            "not a hexadecimal digit, not 64 bytes long"
         );
         Ok(())
     }

@@ -57,7 +57,7 @@ pub struct Header {
 #[derive(Clone, Copy, Debug, PartialEq, Eq, Error)]
 pub enum HeaderFault {
     /// There are not 118 bytes, but this many.
-    #[error("Length")]
+    #[error("not 118 bytes long")]
     Length(usize),
 }
 
@@ -204,7 +204,7 @@ mod tests {
         let fault = Header::decode(&form[..117]).err().ok_or("short")?;
         assert_eq!(rt; fault, HeaderFault::Length(117));
         let text = format!(in alloc; "{fault}")?;
-        assert_eq!(rt; text.as_str(), "Length");
+        assert_eq!(rt; text.as_str(), "not 118 bytes long");
         Ok(())
     }
 }

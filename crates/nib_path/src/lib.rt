@@ -18,13 +18,13 @@ use thiserror::Error;
 #[derive(Clone, Copy, Debug, PartialEq, Eq, Error)]
 pub enum IdFault {
     /// There are not 33 bytes, but this many.
-    #[error("Length")]
+    #[error("not 33 bytes long")]
     Length(usize),
     /// The depth is above 64.
-    #[error("Depth")]
+    #[error("the depth is above 64")]
     Depth(u8),
     /// This nibble, the first such, lies at or past the depth and is not zero.
-    #[error("Tail")]
+    #[error("a nibble past the depth is not zero")]
     Tail(u8),
 }
 
@@ -316,9 +316,9 @@ mod tests {
     fn names_faults(rt: HostRuntime) -> Result<(), Fail> {
         let alloc = rt.alloc();
         for (fault, want) in [
-            (IdFault::Length(32), "Length"),
-            (IdFault::Depth(65), "Depth"),
-            (IdFault::Tail(1), "Tail"),
+            (IdFault::Length(32), "not 33 bytes long"),
+            (IdFault::Depth(65), "the depth is above 64"),
+            (IdFault::Tail(1), "a nibble past the depth is not zero"),
         ] {
             let text = format!(in alloc; "{fault}")?;
             assert_eq!(rt; text.as_str(), want);

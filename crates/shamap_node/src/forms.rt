@@ -25,28 +25,28 @@ use thiserror::Error;
 #[derive(Clone, Copy, Debug, PartialEq, Eq, Error)]
 pub enum FormFault {
     /// There are only this many bytes, fewer than a prefix has.
-    #[error("Short")]
+    #[error("shorter than a prefix")]
     Short(usize),
     /// The first four bytes, as a number with the high byte first, are no node's prefix.
-    #[error("Prefix")]
+    #[error("no node's prefix")]
     Prefix(u32),
     /// An inner node's prefix, and this many bytes in all, not 516.
-    #[error("InnerLength")]
+    #[error("an inner node is not 516 bytes long")]
     InnerLength(usize),
     /// An inner node with no branch that is not empty.
-    #[error("EmptyInner")]
+    #[error("an inner node has no branch")]
     EmptyInner,
     /// The prefix of a leaf with its key behind its data, and this many bytes in all, fewer than 36.
-    #[error("LeafShort")]
+    #[error("a leaf is shorter than its prefix and key")]
     LeafShort(usize),
     /// A leaf whose key is zero.
-    #[error("ZeroKey")]
+    #[error("a leaf's key is zero")]
     ZeroKey,
     /// A leaf with this many bytes of data, more than the limit.
-    #[error("TooLong")]
+    #[error("a leaf's data is too long")]
     TooLong(usize),
     /// Memory was refused.
-    #[error("Memory")]
+    #[error("memory was refused")]
     Memory,
 }
 

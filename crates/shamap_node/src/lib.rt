@@ -92,8 +92,8 @@ mod tests {
         let fault = Item::new(Hash32::zero(), none).err().ok_or("zero")?;
         let long = ItemFault::TooLong(1);
         assert_eq!(rt;
-            format!(in alloc; "{fault} {long}")?.as_str(),
-            "ZeroKey TooLong"
+            format!(in alloc; "{fault}, {long}")?.as_str(),
+            "the key is zero, the data is too long"
         );
         Ok(())
     }

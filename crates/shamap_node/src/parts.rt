@@ -24,10 +24,10 @@ pub struct Item {
 #[derive(Clone, Copy, Debug, PartialEq, Eq, Error)]
 pub enum ItemFault {
     /// The key is zero.
-    #[error("ZeroKey")]
+    #[error("the key is zero")]
     ZeroKey,
     /// The data has this many bytes, more than the limit.
-    #[error("TooLong")]
+    #[error("the data is too long")]
     TooLong(usize),
 }
 
