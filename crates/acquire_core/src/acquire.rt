@@ -1,4 +1,5 @@
-//! An acquisition.
+//! An acquisition: its target, its asked sequence and its peers. What a peer offers and what a check found go in here, and the reply comes
+//! out; only `base` and `node` touch a store.
 ghost use Rattle.std.specs.Prelude.{◌≡◌, ◌<◌, IsTrue, IfOk, IsSome, OnErr, Ok};
 ghost use Rattle.std.specs.Option.{option_copied};
 ghost use Rattle.ledger_spec.specs.Bytes.{is_nonzero};

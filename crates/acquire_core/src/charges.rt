@@ -1,4 +1,4 @@
-//! Which outcomes charge a peer.
+//! Which outcomes charge a peer: a header of another length or hash, bytes that are no wire form, and a node of another hash.
 ghost use Rattle.std.specs.Prelude.{◌≡◌};
 ghost use Rattle.ledger_spec.specs.Acquiring.{is_bad, is_bad_head, is_bad_root, after_outcome, after_judging};
 ghost use Rattle.acquire_core.specs.Parts.{shown};

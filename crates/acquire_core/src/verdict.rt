@@ -1,4 +1,4 @@
-//! What a check comes to.
+//! What a check comes to: whom to ask for what is missing, or why a header isn't acceptable.
 ghost use Rattle.std.specs.Prelude.{◌≡◌, IfSome, unwrap_or};
 ghost use Rattle.ledger_spec.specs.Acquiring.{Acquiring, Verdict, header_verdict, after_verdict};
 ghost use Rattle.ledger_spec.specs.Replies.{ask_said, check_said};

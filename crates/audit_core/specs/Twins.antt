@@ -1,4 +1,4 @@
--- Two ledgers with one hash.
+-- Two ledgers with one hash: they are one ledger, or their forms show that the half is broken.
 use Rattle.std.specs.Prelude.{◌≡◌, ◌≢◌, ◌⊎◌, List, ◌∷◌, ◌++◌, Option, Some}
 use Rattle.std.specs.List.{Contains}
 use Rattle.ledger_spec.specs.declared.Kind.TheVariants.{State, Tx}

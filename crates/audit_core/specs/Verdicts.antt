@@ -1,4 +1,4 @@
--- The verdict on a ledger.
+-- The verdict on a ledger that was said to its end: whole, or the first of hash, state root and transactions' root that differs.
 use Rattle.std.specs.Prelude.{◌≡◌, ◌≢◌, ℕ, ◌-◌, ◌^◌, min, ◌++◌, length, Option, Some, IfSome}
 use Rattle.std.specs.Option.{option_map}
 use Rattle.ledger_spec.specs.declared.Kind.TheVariants.{State, Tx}

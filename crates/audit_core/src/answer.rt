@@ -1,4 +1,4 @@
-//! The answer of an audit.
+//! What an audit answers: the ledger is whole, with what was counted of it, or the first thing that differs, or the line that was refused.
 
 use crate::Cause;
 use half_hash::Hash32;

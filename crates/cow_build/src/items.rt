@@ -1,4 +1,4 @@
-//! The map of items.
+//! The call of this crate, `build`: items are put in order, cut into sixteen parts, and gathered into one map.
 ghost use Rattle.std.specs.Prelude.{◌≡◌, ◌≤◌, ◌<◌, IfOk, IfErr};
 ghost use Rattle.ledger_spec.specs.Bytes.{Hash};
 ghost use Rattle.cow_build.specs.Building.{times, IsLeastRepeated, IsMapOf};

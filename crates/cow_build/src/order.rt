@@ -1,4 +1,4 @@
-//! Items in the order of their keys.
+//! Items in the order of their keys, or why there is no such order: a key stands twice, or memory was refused.
 ghost use Rattle.std.specs.Prelude.{◌≡◌, ◌≤◌, OnOk, IfErr};
 ghost use Rattle.std.specs.List.Sorted.{IsPermutation, IsSortedByKey};
 ghost use Rattle.ledger_spec.specs.Bytes.{Hash};

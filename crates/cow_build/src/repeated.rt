@@ -1,4 +1,4 @@
-//! The least key that stands twice.
+//! The least key that stands twice among items in any order, found with a set of the keys before.
 ghost use Rattle.std.specs.Prelude.{◌≡◌, ◌≤◌, Option, Some, if◌then◌else◌, IfOk, OnOk, MatchOption};
 ghost use Rattle.ledger_spec.specs.Bytes.{Hash};
 ghost use Rattle.cow_build.specs.Building.{times, IsLeastRepeated, lesser as lesser_of};

@@ -1,4 +1,4 @@
--- Laws of maps.
+-- The laws of maps, which laws.rt hands to proofs above: the root of a sealed map, its forms, its order, and when nothing stops a call.
 use Rattle.std.specs.Prelude.{◌≡◌, ◌≢◌, length, None}
 use Rattle.std.specs.List.{AllByRecursion}
 use Rattle.ledger_spec.specs.declared.Kind.TheVariants.{Set}

@@ -1,4 +1,4 @@
--- What the nodes of the code stand for.
+-- What the nodes of the code stand for in the definitions: a leaf or sixteen links, with no memory and no sharing.
 use Rattle.std.specs.Prelude.{List, map}
 use Rattle.std.specs.declared.alloc.Global.{Global}
 use Rattle.std.specs.declared.sync.Arc.{Arc}

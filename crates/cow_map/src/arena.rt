@@ -1,4 +1,5 @@
-//! The list of nodes that a map has made.
+//! The list of nodes that a map and its snapshots have made. A link names a node by its place in the list, and the links of a node name
+//! lower places, so that no node is below itself.
 ghost use Rattle.std.specs.Prelude.{◌≡◌, ◌<◌, ◌≤◌, ◌+◌, ℕ, [], ◌∷◌, ◌++◌, length, map, take, Some, IfOk, OnOk, OnErr};
 ghost use Rattle.std.specs.List.{slice_get, slice_index_or};
 ghost use Rattle.cow_map.specs.declared.link.Link.TheVariants as links_are;

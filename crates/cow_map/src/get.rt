@@ -1,4 +1,4 @@
-//! Reading the data of a key.
+//! `get`: down from the top link to the leaf of a key, and its data.
 ghost use Rattle.std.specs.Prelude.{◌≡◌, ◌-◌, ◌∷◌, [], List, length, IsTrue, IfOk};
 ghost use Rattle.std.specs.FinMap as map;
 ghost use Rattle.nib_path.specs.Paths.{lies_under};

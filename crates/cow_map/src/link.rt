@@ -1,4 +1,5 @@
-//! Links between the nodes of a map.
+//! Links between the nodes of a map. A link leads to nothing, to a node of the map's own list, or to one of the source, which is named by
+//! its hash and read where it is needed.
 ghost use Rattle.std.specs.Prelude.{◌≡◌, ◌<◌, length, map, replicate, slice_set, count_by, IfOk};
 ghost use Rattle.std.specs.List.{slice_index_or};
 ghost use Rattle.cow_map.specs.declared.link.Link.TheVariants.{Empty as empty_link};

@@ -1,4 +1,5 @@
-//! What is seen through a link at its place.
+//! What is seen through a link at its place: nothing, a leaf or an inner node, of the map's own list or of the source, where it may stand
+//! there by the rules of shape.
 ghost use Rattle.std.specs.Prelude.{◌≡◌, ◌<◌, ℕ, length, IsTrue, IfErr, IfOk, None, Some};
 ghost use Rattle.std.specs.List.{slice_get};
 ghost use Rattle.std.specs.FinMap as map;

@@ -1,4 +1,4 @@
-//! The nodes that a map makes.
+//! The nodes that a map makes. Unlike a stored node an inner one has links, and no hash before it is sealed.
 use crate::Links;
 use shamap_node::Item;
 

@@ -1,4 +1,5 @@
-//! Setting an item.
+//! `put`: the nodes on the way to a key are made anew. Where another leaf stands on the way, inner nodes are put above both down to where
+//! their keys part.
 ghost use Rattle.std.specs.Prelude.{◌≢◌, ◌≤◌, ◌<◌, ◌-◌, ◌∷◌, ◌++◌, [], List, length, IsTrue, IfOk};
 ghost use Rattle.std.specs.FinMap as map;
 ghost use Rattle.nib_path.specs.Paths.{lies_under};

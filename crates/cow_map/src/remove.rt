@@ -1,4 +1,5 @@
-//! Removing a key.
+//! `remove`: the nodes on the way to a key are made anew without its leaf. An inner node that is left with one leaf alone gives way to it,
+//! and one that is left with nothing goes.
 ghost use Rattle.std.specs.Prelude.{◌≡◌, ◌≢◌, ◌<◌, ◌-◌, ℕ, length, IsTrue, IfOk, None, Some, MatchOption};
 ghost use Rattle.std.specs.List.{slice_index_or};
 ghost use Rattle.std.specs.FinMap as map;

@@ -1,4 +1,4 @@
-//! The forms of the nodes that a map has made.
+//! Sealing: a map's root hash, and the forms of those of its own nodes that the top reaches, each with its hash.
 ghost use Rattle.std.specs.Prelude.{◌≡◌, ◌<◌, ℕ, length, IfErr, IfOk, Some};
 ghost use Rattle.std.specs.List.{slice_get, slice_index_or};
 ghost use Rattle.cow_map.specs.declared.link.Link.TheVariants.{Empty as empty_link, Own as own_link};

@@ -1,4 +1,4 @@
-//! Steps from a place towards a key.
+//! Steps from a place towards a key: the branch, and the place below it.
 ghost use Rattle.std.specs.Prelude.{◌≡◌, ◌≢◌, ◌<◌, ◌∷◌, ◌++◌, [], length, IsTrue};
 ghost use Rattle.nib_path.specs.Paths.{nibble_of, lies_under};
 

@@ -1,4 +1,4 @@
-//! What a session closes into.
+//! What a session closes into: the next ledger's header, its hash, and the forms that its maps have made.
 ghost use Rattle.std.specs.Prelude.{◌≡◌, ◌++◌, ◌∷◌, [], IfErr, IfOk};
 ghost use Rattle.edit_session.specs.Closing.{header_form};
 ghost use Rattle.cow_map.specs.Sealing.{AreNamed, named, first_zero, IsSealFault, NamesZero};

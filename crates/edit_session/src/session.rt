@@ -1,4 +1,4 @@
-//! A session, from its opening to its close.
+//! A session, from its opening to its close: the header of the ledger that it edits, and two maps.
 ghost use Rattle.std.specs.Prelude.{◌≡◌, ◌≢◌, ◌<◌, ◌+◌, [], IsTrue, IfErr, IfOk, OnErr, OnOk, MatchBool};
 ghost use Rattle.std.specs.FinMap as map;
 ghost use Rattle.ledger_spec.specs.declared.Kind.TheVariants.{State as accounts_kind, Tx as txs_kind};

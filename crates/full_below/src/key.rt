@@ -1,4 +1,4 @@
-//! The key of a mark.
+//! The key of a mark, its comparison and its hash. Two keys are one where hash, kind and path are.
 ghost use Rattle.std.specs.Prelude.{◌≡◌};
 ghost use Rattle.ledger_spec.specs.Bytes.{same_bytes};
 ghost use Rattle.full_below.specs.Keys.{same_mark, fed_mark};

@@ -1,4 +1,4 @@
-//! The marks of one generation.
+//! The marks of one generation, in a table of bounded size that drops the one that was used last longest ago.
 ghost use Rattle.std.specs.Prelude.{◌≡◌, ◌+◌, ◌^◌, ◌<◌, ◌==◌, [], IfOk, OnErr, OnOk, if◌then◌else◌};
 ghost use Rattle.lru.specs.LruCache.{lru_cache};
 ghost use Rattle.full_below.specs.Marking.{is_marked, after_use, after_mark};

@@ -1,4 +1,5 @@
-//! Hashes of 32 bytes, the functions that make them, and the prefixes of what is hashed.
+//! Hashes of 32 bytes, the functions that make them, and the prefixes of what is hashed. Crates above are generic in `NodeHash`: `Half512`
+//! is the ledger's hash, `TinyHash` a small one for tests and worked rows, which has collisions.
 #![tactic(auto)]
 
 ghost use Rattle.std.specs.Prelude.{◌≡◌, ◌+◌, ◌%◌, ◌∷◌, ◌++◌, List, ℕ, replicate, take, sum};

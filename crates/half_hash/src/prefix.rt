@@ -1,4 +1,4 @@
-//! The prefixes of what is hashed.
+//! The prefixes of what is hashed: four bytes that keep an object of one kind from being read as one of another.
 ghost use Rattle.std.specs.Prelude.{◌≡◌};
 
 /// What a hash is the hash of, told by the four bytes before it (XRP Ledger documentation, "Hash

@@ -1,4 +1,4 @@
--- What the top call comes to.
+-- What the top call comes to: which answer to which bytes, which line is printed of it, and which status it ends with.
 use Rattle.std.specs.Prelude.{◌≡◌, ◌⊎◌, ℕ, [], ◌∷◌, ◌++◌, Option, IfSome}
 use Rattle.run_io.specs.Bytes.{Rose, Wrote, WrotePart}
 use Rattle.ledger_spec.specs.Bytes.{Bytes, Half}

@@ -1,4 +1,4 @@
-//! The line that is printed.
+//! The line that is printed: what is said of a ledger or of a path, as text. Text.antt says the same.
 ghost use Rattle.std.specs.Prelude.{◌≡◌, ◌++◌, ◌∷◌, [], OnOk, IfOk};
 ghost use Rattle.std.specs.String.{string_bytes};
 ghost use Rattle.hex.specs.Hex.{encode_upper};

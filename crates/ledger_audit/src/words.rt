@@ -1,4 +1,4 @@
-//! The words.
+//! What the program's words ask for: pages or plain lines, perhaps with a hash that is expected, or a path.
 ghost use Rattle.std.specs.Prelude.{◌≡◌, Option, MatchOption, map};
 ghost use Rattle.half_hash.specs.Hex.{IsHexOf};
 ghost use Rattle.ledger_spec.specs.Bytes.{Hash};

@@ -1,4 +1,4 @@
-//! The fields as they stand in the bytes.
+//! Numbers and hashes at their places in a header's bytes.
 ghost use Rattle.std.specs.Prelude.{◌≡◌, ◌+◌, ◌≤◌, length, take, drop};
 ghost use Rattle.std.specs.Int.{w32, w64, from_be_bytes};
 

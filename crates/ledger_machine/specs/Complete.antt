@@ -1,4 +1,4 @@
--- What the headline says of ledgers.
+-- What the headline says of ledgers: a check answers complete exactly where all that the target reaches is stored and acceptable.
 use Rattle.std.specs.Prelude.{◌≡◌, ◌≢◌, ◌↔◌, ◌⊎◌, ◌≤◌, ℕ, List, [], ◌∷◌, Some, IsSomeAnd, IsTrue}
 use Rattle.std.specs.List.{Contains}
 use Rattle.ledger_spec.specs.declared.Place.{Place}

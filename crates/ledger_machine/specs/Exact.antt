@@ -1,4 +1,4 @@
--- What the headline says of reads.
+-- What the headline says of reads: each answers what every map with the view's root has, or shows two nodes with one hash.
 use Rattle.std.specs.Prelude.{◌≡◌, ℕ, List, [], ◌∷◌, Some}
 use Rattle.ledger_spec.specs.Bytes.{Hash, Half, Items}
 use Rattle.ledger_spec.specs.Forms.{Held}

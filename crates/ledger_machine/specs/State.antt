@@ -1,4 +1,4 @@
--- The state of the store machine.
+-- The state of the store machine: what is stored, and the tables of what is listed, wanted, viewed and edited.
 use Rattle.std.specs.Prelude.{ℕ, is_some, if◌then◌else◌, List, [], ◌∷◌, ◌++◌, map, Option, None, Some}
 use Rattle.std.specs.Option.{option_map_or}
 use Rattle.std.specs.Map.{keys_of, values_of}

@@ -1,4 +1,5 @@
--- One step of the store machine.
+-- One step of the store machine: `Answered` puts the rows of all commands together, `Outcomes` adds what any command may come to, and
+-- `Step` what a rotation is told meanwhile.
 use Rattle.std.specs.Prelude.{◌≡◌, ℕ, ◌+◌, IsTrue, List, [], ◌∷◌, ◌++◌, map, Option, None, Some}
 use Rattle.std.specs.List.{Contains}
 use Rattle.ledger_spec.specs.declared.Kind.{Kind}

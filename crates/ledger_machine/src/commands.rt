@@ -1,4 +1,4 @@
-//! What a script says.
+//! What a script says: commands, the lines in which actors give them, and the records that a store begins with.
 use half_hash::{Blob, Hash32};
 use nib_path::NodeId;
 use shamap_node::{Item, Kind};

@@ -1,4 +1,4 @@
-//! What was answered.
+//! What was answered: an entry for each line, and the totals that end a journal.
 use crate::Reply;
 use shamap_node::Node;
 use std::sync::Arc;

@@ -1,4 +1,4 @@
-//! What is answered.
+//! What is answered: `Reply` has a case for each command, and what any command may come to beside it.
 use half_hash::{Blob, Hash32};
 use ledger_spec::{BaseReply, CheckReply, NodeReply, PeerReply, TickReply};
 use shamap_node::Node;

@@ -1,4 +1,4 @@
-//! The search that an actor's check has begun.
+//! The search that an actor's check has begun, with its target and how often it began anew.
 ghost use Rattle.std.specs.Prelude.{◌≡◌};
 
 use half_hash::Hash32;

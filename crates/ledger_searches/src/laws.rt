@@ -1,4 +1,4 @@
-//! Laws of what searches share.
+//! Laws of what searches share, each the contract of an empty function: it stays true as a store grows, and as the generation turns.
 ghost use Rattle.ledger_spec.specs.Bytes.{Half, Lookup};
 ghost use Rattle.ledger_spec.proofs.ReachLaws.{Grows};
 ghost use Rattle.ledger_searches.specs.declared.searches.Searches.{Searches};

@@ -1,4 +1,4 @@
-//! What becomes of what a peer offers.
+//! What becomes of what a peer offers: of a node and of a header, by the definitions that judge them.
 
 use half_hash::Hash32;
 use nib_path::NodeId;

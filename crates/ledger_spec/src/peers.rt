@@ -1,4 +1,4 @@
-//! What a set of peers answers.
+//! What a set of peers answers: to one that joins, to a charge, to places that are missing, and to a tick.
 ghost use Rattle.std.specs.Prelude.{◌≡◌, ◌≢◌, ◌++◌, ◌∷◌, [], length, MatchBool, OnOk, OnErr};
 
 use crate::Place;

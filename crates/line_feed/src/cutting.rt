@@ -1,4 +1,4 @@
-//! Parts of bytes, and their newlines.
+//! Parts of bytes, and their newlines: what `Feed` needs of a piece of its input.
 ghost use Rattle.std.specs.Prelude.{◌≡◌, ◌≢◌, ◌<◌, ◌≤◌, ◌-◌, ℕ, length, take, drop, slice_index};
 
 use memchr::memchr;

@@ -1,4 +1,4 @@
-//! The feed: a piece of the input, which lines are taken from.
+//! The feed: a piece of the input, and how far lines were taken from it. A line that goes over the piece's end is gathered from several.
 ghost use Rattle.std.specs.Prelude.{◌≡◌, ◌<◌, ◌≤◌, ◌+◌, ◌-◌, ◌^◌, ◌++◌, [], ℕ, List, Option, Some, length, vec_len};
 ghost use Rattle.std.specs.Prelude.{IfOk, IfErr, OnErr, IfSome, false};
 ghost use Rattle.run_io.specs.Bytes.{Rose};

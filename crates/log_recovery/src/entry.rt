@@ -1,4 +1,4 @@
-//! Which entries of a log are records.
+//! Which entries of a log are records: a hash of 32 bytes, and a form of that hash.
 ghost use Rattle.std.specs.Prelude.{◌≡◌, ℕ, List, IsTrue, IfOk};
 ghost use Rattle.ledger_spec.specs.Bytes.{are_bytes};
 ghost use Rattle.log_recovery.specs.Records.{is_fit as fits};

@@ -1,4 +1,4 @@
-//! Where the value of each hash stands in a log.
+//! Where the value of each hash stands in a log: an index in memory, so that a `get` reads one place.
 ghost use Rattle.std.specs.Prelude.{◌≡◌, Option, None, Some, IfOk, OnOk, OnErr};
 ghost use Rattle.std.specs.FinMap as map;
 ghost use Rattle.std.specs.Option.{option_copied};

@@ -1,4 +1,4 @@
-//! Laws of what is recovered after a stop.
+//! Laws of what is recovered after a stop, each the contract of an empty function.
 ghost use Rattle.std.specs.Prelude.{◌≡◌, ◌++◌, ℕ, Bool, true, IsTrue, List, Option, Some};
 ghost use Rattle.std.specs.FinMap as map;
 ghost use Rattle.ledger_spec.specs.Bytes.{Bytes, Hash, Nodes};

@@ -1,4 +1,4 @@
-//! A room of disks, each with a number.
+//! A room of disks, each with a number: the trait that a shelf of logs is generic in.
 ghost use Rattle.std.specs.Prelude.{◌≡◌, ◌≢◌, ◌≤◌, ℕ, Bool, IsTrue, [], List, IfOk, IfSome};
 ghost use Rattle.std.specs.Option.{option_map};
 ghost use Rattle.run_io.specs.Bytes.{Rose};

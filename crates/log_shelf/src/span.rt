@@ -1,4 +1,4 @@
-//! A write that was not synced yet.
+//! A write that was not synced yet: what a stop may leave of it is the matter of disks in memory.
 
 /// Bytes that were written at a place.
 #[derive(Drop)]

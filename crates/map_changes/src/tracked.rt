@@ -1,4 +1,4 @@
-//! What is told of a map's nodes.
+//! What is told of a map's nodes: the place, hash and wire form of one, and the root of a map.
 use half_hash::{Blob, Hash32};
 use nib_path::NodeId;
 

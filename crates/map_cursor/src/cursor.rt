@@ -1,4 +1,4 @@
-//! The next items of a map.
+//! The call of this crate, `page`: the next items of a map behind a key.
 ghost use Rattle.std.specs.Prelude.{◌≡◌, IfErr, IfOk, IsTrue};
 ghost use Rattle.std.specs.FinMap as map;
 ghost use Rattle.ledger_spec.specs.Findings.{items_of};

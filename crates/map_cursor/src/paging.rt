@@ -1,4 +1,4 @@
-//! A page and what it holds.
+//! A page as it grows: the nodes that were visited, and which of their items come behind the key.
 ghost use Rattle.std.specs.Prelude.{◌≡◌, [], IfErr, IfOk, OnOk};
 ghost use Rattle.ledger_spec.specs.Pages.{is_behind};
 ghost use Rattle.ledger_spec.specs.Reads.{inner_hashes};

@@ -1,4 +1,5 @@
-//! The visit of the places below a root, branches rising.
+//! The visit of the places below a root, branches rising. It passes over what lies before the key that is asked for, and ends when the page
+//! is full.
 ghost use Rattle.std.specs.Prelude.{◌≡◌, ◌<◌, ◌-◌, ◌==◌, ◌||◌, ◌++◌, ◌∷◌, [], length, OnOk};
 ghost use Rattle.std.specs.FinMap as map;
 ghost use Rattle.std.specs.List.{range_with_len, slice_index_or};

@@ -1,4 +1,4 @@
--- As what a search leaves what it found.
+-- What a search may answer at all: few missing places, and no header alone where none was found.
 use Rattle.std.specs.Prelude.{◌≡◌, ◌≤◌, ◌⊎◌, List, [], ◌∷◌, length, Option, None, Some}
 use Rattle.ledger_spec.specs.declared.Place.{Place}
 use Rattle.ledger_spec.specs.declared.Place.TheVariants as places

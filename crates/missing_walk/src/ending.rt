@@ -1,4 +1,4 @@
-//! The end of a search.
+//! The end of a search: what was found is answered, and where that is nothing the ledger's roots are marked as whole.
 ghost use Rattle.std.specs.Prelude.{◌≡◌, ◌≤◌, ◌&&◌, ◌==◌, not, true, None, Some, IfOk, OnOk, OnErr, is_some, length, map};
 ghost use Rattle.ledger_spec.specs.Bytes.{Half, Lookup};
 ghost use Rattle.full_below.specs.Marking.{AreMarked};

@@ -1,4 +1,4 @@
-//! The beginning of a search, at the ledger's header.
+//! The beginning of a search, at the ledger's header: the roots that it names are the first places to look at.
 ghost use Rattle.std.specs.Prelude.{◌≡◌, ◌+◌, ◌≤◌, true, None, Some, IfOk, IfErr, IfSome, OnOk, OnErr, is_some, length};
 ghost use Rattle.run_io.specs.Bytes.{Rose};
 ghost use Rattle.ledger_spec.specs.Bytes.{Lookup};

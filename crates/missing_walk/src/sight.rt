@@ -1,4 +1,4 @@
-//! What is seen at one place.
+//! What is seen at one place: the node of the form that is held there, judged by the rules of shape.
 ghost use Rattle.std.specs.Prelude.{◌≡◌, ◌+◌, ◌≤◌, [], if◌then◌else◌, length, None, Some};
 ghost use Rattle.std.specs.Option.{option_map};
 ghost use Rattle.std.specs.Prelude.{IsTrue, IfOk, IfErr};

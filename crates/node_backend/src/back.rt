@@ -1,4 +1,4 @@
-//! What a store stands on.
+//! What a store stands on: the trait of backends, which hold forms, and of shelves, which make them, and why either could not answer.
 ghost use Rattle.std.specs.Prelude.{◌≡◌, ◌≤◌, ◌⊎◌, ◌++◌, ◌∷◌, [], ℕ, List, Option, None, Bool, IsTrue, IfOk, OnOk, OnErr};
 ghost use Rattle.std.specs.FinMap as map;
 ghost use Rattle.std.specs.Option.{option_copied};

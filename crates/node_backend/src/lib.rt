@@ -1,4 +1,5 @@
-//! Backends, which hold forms under their hashes and may fail, and shelves, which make them.
+//! Backends, which hold forms under their hashes and may fail, and shelves, which make them. The traits say what a failed call may leave;
+//! the backend and the shelf in memory fail where a test wants it.
 #![tactic(auto)]
 
 mod back;

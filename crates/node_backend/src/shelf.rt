@@ -1,4 +1,4 @@
-//! A shelf in memory, which fails at stated calls.
+//! A shelf in memory, which numbers its backends and fails at stated calls.
 ghost use Rattle.std.specs.Prelude.{◌≡◌, ◌≢◌, ◌≤◌, ◌<◌, ◌++◌, ◌∷◌, ◌+◌, [], List, IsTrue, length};
 ghost use Rattle.std.specs.Prelude.{map as map_list, IfOk, OnOk, OnErr, MatchBool};
 ghost use Rattle.std.specs.FinMap as map;

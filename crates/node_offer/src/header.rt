@@ -1,4 +1,4 @@
-//! A header that a peer offers.
+//! A header that a peer offers: it is stored where the target is its hash.
 ghost use Rattle.std.specs.Prelude.{◌≡◌, IsTrue, IfErr, IfOk, Ok};
 ghost use Rattle.std.specs.FinMap as map;
 ghost use Rattle.ledger_spec.specs.Offers.{head_forms, head_outcome};

@@ -1,4 +1,5 @@
-//! A node that a peer offers for a place.
+//! A node that a peer offers for a place: its bytes are read, its place is found, and where it is the node that is wanted there it is
+//! stored.
 ghost use Rattle.std.specs.Prelude.{◌≡◌, IsTrue, IfErr, IfOk, Ok, is_some};
 ghost use Rattle.std.specs.FinMap as map;
 ghost use Rattle.ledger_spec.specs.Findings.{held_of};

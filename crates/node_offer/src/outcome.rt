@@ -1,4 +1,4 @@
-//! What became of a node that a peer sent.
+//! What became of a node that a peer sent, and the same with causes and rules by their numbers, as the definitions have it.
 ghost use Rattle.std.specs.Prelude.{◌≡◌};
 ghost use Rattle.node_offer.specs.Outcomes.{numbered};
 

@@ -1,4 +1,5 @@
-//! The way from a ledger's header to a place in one of its maps.
+//! The way from a ledger's header to a place in one of its maps, read in place from the forms that are held: the hash that is wanted there,
+//! or what stands in the way.
 ghost use Rattle.std.specs.Prelude.{◌≡◌, ◌+◌, ◌*◌, ◌≤◌, [], None, List, length, IfOk, IfErr};
 ghost use Rattle.std.specs.FinMap as map;
 ghost use Rattle.std.specs.Option.{option_and_then, option_map, option_map_or};

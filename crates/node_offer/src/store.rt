@@ -1,4 +1,4 @@
-//! Storing a form under its hash.
+//! Storing a form under its hash, and the note that it was checked, so that no read hashes it again.
 ghost use Rattle.std.specs.Prelude.{◌≡◌, IsTrue, IfErr, is_some};
 ghost use Rattle.ledger_spec.specs.Findings.{held_of};
 ghost use Rattle.run_io.specs.Bytes.{Rose};

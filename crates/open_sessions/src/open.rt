@@ -1,4 +1,4 @@
-//! The table of open sessions.
+//! The table of open sessions, by the numbers that actors gave them: a call names one, and the table hands it the store as a source.
 ghost use Rattle.std.specs.Prelude.{◌≡◌, [], None, Some, false, IsTrue, IfErr, IfOk, OnErr, OnOk, is_some, unwrap_or, length, map};
 ghost use Rattle.std.specs.Prelude.{MatchOption};
 ghost use Rattle.std.specs.FinMap as finite;

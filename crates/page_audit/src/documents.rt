@@ -1,4 +1,4 @@
-//! What a document says.
+//! What a document says: the fields of a parsed JSON value, each where it stands with a text of the right form.
 ghost use Rattle.std.specs.Prelude.{◌≡◌, Ok, Err, IfOk, IfErr};
 ghost use Rattle.std.specs.List.{list_all};
 ghost use Rattle.std.specs.Option.{option_map};

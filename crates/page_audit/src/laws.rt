@@ -1,4 +1,4 @@
-//! What answers mean.
+//! Laws on what answers mean, each the contract of an empty function: they speak of a ledger's pages, not of the loop that reads them.
 ghost use Rattle.page_audit.specs.Texts.{AcceptedArePages, PagesAreAnswered};
 ghost use Rattle.page_audit.specs.Twins.{PagesHaveItems, WholeRunsGiveTwins};
 

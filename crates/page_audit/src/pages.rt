@@ -1,4 +1,4 @@
-//! The pages so far.
+//! The pages so far: the first document brings the header, each names the same ledger, and their items go into one audit.
 ghost use Rattle.std.specs.Prelude.{◌≡◌, ◌≢◌, Ok, Err, Option, IfOk, IfErr, OnOk, MatchBool};
 ghost use Rattle.ledger_spec.specs.Bytes.{Half};
 ghost use Rattle.json.specs.Value.{value_view as view, items_view};

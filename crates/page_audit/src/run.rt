@@ -1,4 +1,4 @@
-//! The run over an input.
+//! The call of this crate, `audit_pages`: a loop over the lines of a source, each of which is parsed and taken.
 ghost use Rattle.std.specs.Prelude.{◌≡◌, ◌≤◌, ℕ, Ok, Err, Option, length, IfOk, IfErr, IfSome};
 ghost use Rattle.run_io.specs.Bytes.{Rose};
 ghost use Rattle.audit_core.specs.declared.cause.Cause.{Cause as AnyCause};

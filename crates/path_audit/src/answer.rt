@@ -1,4 +1,4 @@
-//! The answer of a path.
+//! What a path answers: the data of the key, that there is none, or why the nodes say nothing.
 
 use audit_core::Cause;
 use half_hash::Blob;

@@ -1,4 +1,4 @@
-//! What answers mean.
+//! The law on what an answer means, the contract of an empty function.
 ghost use Rattle.path_audit.specs.Paths.{PathProves};
 
 /// Where an input is answered by a value or by nothing it is the forms of nodes, a line each, and each map of states with the root answers

@@ -1,4 +1,4 @@
-//! The nodes of lines.
+//! The nodes of lines: each is read of its hexadecimal form and added to those above it.
 ghost use Rattle.std.specs.Prelude.{◌≡◌, ◌++◌, ◌∷◌, [], Ok, Err, Option, Some, IfOk, IfErr, OnOk};
 ghost use Rattle.std.specs.Option.{option_map};
 ghost use Rattle.ledger_spec.specs.Forms.{Held};

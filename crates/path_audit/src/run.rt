@@ -1,4 +1,4 @@
-//! The run over an input.
+//! The call of this crate, `audit_path`: the nodes that a source gives, a line each, and at its end what they say of the key.
 ghost use Rattle.std.specs.Prelude.{◌≡◌, ◌≤◌, ◌∷◌, [], ℕ, List, Ok, Err, Option, Some, length, IfOk, IfErr, IfSome};
 ghost use Rattle.run_io.specs.Bytes.{Rose};
 ghost use Rattle.ledger_spec.specs.Forms.{Held};

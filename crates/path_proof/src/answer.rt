@@ -1,4 +1,4 @@
-//! What a read of a key answers.
+//! What a read of a key answers, with the path that says so, or why it has none.
 
 use crate::Outcome;
 use half_hash::Hash32;

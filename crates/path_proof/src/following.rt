@@ -1,4 +1,4 @@
-//! What a path of nodes says of a key.
+//! What a path of nodes says of a key. It is asked of nobody: who has the root and the path can judge the answer.
 ghost use Rattle.std.specs.Prelude.{◌≡◌, ◌≢◌, IfSome, [], ◌∷◌, if◌then◌else◌, length, List, ℕ, Some};
 ghost use Rattle.std.specs.Option.{option_map};
 ghost use Rattle.ledger_spec.specs.Reads as spec;

@@ -1,4 +1,5 @@
-//! The node that bytes under a hash stand for.
+//! The node that bytes under a hash stand for. It is given that hash, and hashes nothing: bytes of another hash, and bytes that are no
+//! form, are read as not held.
 ghost use Rattle.std.specs.Prelude.{◌≡◌, ◌≢◌, ◌++◌, nat_eq, drop, false, true, IfErr, IfOk, IfSome, is_some, IsTrue, ℕ, List, None, Some};
 ghost use Rattle.std.specs.List.{starts_with};
 ghost use Rattle.ledger_spec.specs.declared.Kind.TheVariants as kinds;

@@ -1,4 +1,4 @@
-//! What gives nodes by their hashes.
+//! What gives nodes by their hashes, and may fail: the trait over which maps are read and edited.
 ghost use Rattle.std.specs.Prelude.{◌≡◌, ℕ, Bool, true, IfOk, IfSome, IsTrue, None, Ok};
 ghost use Rattle.std.specs.Bool.{⊤};
 ghost use Rattle.std.specs.FinMap as map;

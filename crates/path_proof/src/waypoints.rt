@@ -1,4 +1,4 @@
-//! A place on the way from a root to a key.
+//! A place on the way from a root to a key: the hash that a node must have to stand there, and the place below it.
 ghost use Rattle.std.specs.Prelude.{◌≡◌, ◌≤◌, ◌<◌, ◌+◌, ◌&&◌, if◌then◌else◌, is_none, take, OnOk, MatchResult, ◌∷◌, [], Some, None};
 ghost use Rattle.std.specs.Bool.{OnTrue};
 ghost use Rattle.std.specs.Result.{result_err};

@@ -1,4 +1,4 @@
-//! What was asked since the last tick.
+//! What was asked since the last tick, in order and with an index, so that no place is asked for twice.
 ghost use Rattle.std.specs.Prelude.{◌≡◌, ◌≤◌, ◌++◌, [], OnOk, OnErr, IfOk, false, length, take};
 ghost use Rattle.std.specs.List.{All, list_any};
 ghost use Rattle.ledger_spec.specs.Bytes.{same_bytes};

@@ -1,4 +1,4 @@
-//! Places as bytes, by which they are looked up.
+//! Places as bytes, by which an index looks them up: two places with one key are one.
 ghost use Rattle.std.specs.Prelude.{◌≡◌, ◌++◌, ◌∷◌, [], length};
 ghost use Rattle.peer_set.specs.Keys.{key_of, kind_number, IsPlace};
 

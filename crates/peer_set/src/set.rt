@@ -1,4 +1,4 @@
-//! The set of peers.
+//! The set of peers: who is present and whose turn it is, what each was charged, and how many ticks passed.
 ghost use Rattle.std.specs.Prelude.{◌≡◌, ◌+◌, ◌<◌, OnErr, IfOk, IsTrue, IsSomeAnd};
 ghost use Rattle.std.specs.Ordering.{nat_cmp};
 ghost use Rattle.std.specs.Option.{unwrap_or};

@@ -1,4 +1,4 @@
-//! What answers mean.
+//! Laws on what answers mean, each the contract of an empty function: they speak of a ledger's text, not of the loop that reads it.
 ghost use Rattle.plain_audit.specs.Ledgers.{AcceptedIsLedger, TextHasItems, LedgerIsAnswered};
 ghost use Rattle.plain_audit.specs.Twins.{WholeRunsAreTwins};
 

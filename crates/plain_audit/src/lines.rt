@@ -1,4 +1,4 @@
-//! What single lines say.
+//! What single lines say: the header's, an item of the state, an item of the transactions.
 ghost use Rattle.std.specs.Prelude.{◌≡◌, Ok, Err, Some, IfOk, IfErr, OnOk};
 ghost use Rattle.ledger_spec.specs.Bytes.{Half};
 ghost use Rattle.audit_core.specs.declared.cause.Cause.{Cause as AnyCause};

@@ -1,4 +1,4 @@
-//! The run over an input.
+//! The call of this crate, `audit_plain`: a loop over the lines of a source, each of which is taken as it comes.
 ghost use Rattle.std.specs.Prelude.{◌≡◌, ◌≤◌, ℕ, Ok, Err, Option, Some, length, IfOk, IfErr, IfSome, OnOk};
 ghost use Rattle.run_io.specs.Bytes.{Rose};
 ghost use Rattle.ledger_spec.specs.Bytes.{Half};

@@ -1,4 +1,4 @@
-//! The shards, each under its lock.
+//! The shards, each under its lock: a hash's top three bits say in which of them it is kept.
 ghost use Rattle.std.specs.Prelude.{◌≡◌, ◌<◌, ◌/◌, IfOk, IfSome, vec_len, slice_index};
 ghost use Rattle.ledger_spec.specs.Forms.{hash_of as form_hash};
 ghost use Rattle.shamap_node.specs.Nodes.{held};

@@ -1,4 +1,4 @@
-//! The pass itself.
+//! The pass itself: items come in, and at the end the root comes out. What is held is the last item and the rows of the open nodes.
 ghost use Rattle.std.specs.Prelude.{◌≡◌, ◌≢◌, ◌<◌, ◌≤◌, ◌+◌, ◌++◌, ◌∷◌, [], ℕ, Some, None, length, IfOk, IfErr, OnOk, OnErr, MatchBool};
 ghost use Rattle.std.specs.declared.cmp.Ordering.TheVariants.{Less};
 ghost use Rattle.ledger_spec.specs.declared.Kind.{Kind as AnyKind};

@@ -1,4 +1,4 @@
-//! The rows of the open inner nodes.
+//! The rows of the open inner nodes: sixteen hashes for each depth on the way of the last key.
 ghost use Rattle.std.specs.Prelude.{◌≡◌, ◌≢◌, ◌<◌, ◌≤◌, ◌+◌, ◌-◌, ◌*◌, ◌++◌, ◌∷◌, [], ℕ, length, take, drop};
 ghost use Rattle.std.specs.Prelude.{slice_set, vec_len, IfOk};
 ghost use Rattle.std.specs.List.{concat};

@@ -1,4 +1,5 @@
-//! Bytes in and bytes out, with their faults counted.
+//! Bytes in and bytes out, with their faults counted. The program's reader and writer stand behind two traits, so that contracts can say
+//! which bytes were taken and given, and tests can let any call fail.
 #![tactic(auto)]
 
 ghost use Rattle.std.specs.Prelude.{◌≡◌, ◌≤◌, IfOk, take};

@@ -1,4 +1,4 @@
-//! Why a line is refused.
+//! Why a line is refused: the causes, and their numbers.
 ghost use Rattle.std.specs.Prelude.{◌≡◌};
 ghost use Rattle.script_form.specs.Causes.{number_of};
 

@@ -1,4 +1,4 @@
-//! The commands of edit sessions, read from their arguments.
+//! The commands of edit sessions, read from their arguments: `edit`, `put`, `tx`, `del`, `close` and `abandon`.
 ghost use Rattle.std.specs.Prelude.{◌≡◌, ℕ, List, map, IfOk, MatchOption};
 ghost use Rattle.ledger_spec.specs.Forms.{IsItem};
 ghost use Rattle.ledger_machine.specs.declared.commands.Command.{Command};

@@ -1,4 +1,4 @@
-//! How large a script may be.
+//! How large a script may be: in bytes, lines, commands and pages.
 
 /// The most bytes of a script.
 pub const MOST_BYTES: usize = 67_108_864;

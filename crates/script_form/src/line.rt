@@ -1,4 +1,4 @@
-//! What a line says.
+//! What a command line says: its actor, the line that it waits for, and its command.
 ghost use Rattle.std.specs.Prelude.{◌≡◌, ℕ, List, None, Option, codes, true, map, IfOk, IfNone, IfSome, MatchBool, MatchOption};
 ghost use Rattle.std.specs.List.{Contains};
 ghost use Rattle.std.specs.List.Sorted.{IsNonDecreasing};

@@ -1,4 +1,4 @@
-//! A script read into its records and its lines.
+//! The call of this crate, `read_script`: the lines of a source are judged one after the other, into a script or its first refused line.
 ghost use Rattle.std.specs.Prelude.{◌≡◌, ◌<◌, ◌≤◌, ◌+◌, ℕ, List, Some, [], length, take, drop, ◌∷◌, OnOk, IfOk, IfErr, IfSome};
 ghost use Rattle.ledger_machine.specs.Records.{AreRecords};
 ghost use Rattle.script_form.specs.Servable.{AreServable};

@@ -1,4 +1,4 @@
--- What the types of nodes stand for.
+-- What the types of nodes stand for in the definitions, which know of no memory.
 use Rattle.std.specs.Prelude.{List, Option, None, Some}
 use Rattle.shamap_node.specs.declared.Leaf.{Leaf}
 use Rattle.shamap_node.specs.declared.Node.{Node}

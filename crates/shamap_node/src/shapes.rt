@@ -1,4 +1,4 @@
-//! The rules of shape: what may stand at a place of a map.
+//! The rules of shape: which node may stand at a place of a map.
 ghost use Rattle.std.specs.Prelude.{◌≡◌};
 ghost use Rattle.std.specs.Result.{result_err};
 ghost use Rattle.ledger_spec.specs.Rules.{same_kind, is_lone, fault_of};

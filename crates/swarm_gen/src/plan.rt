@@ -1,4 +1,4 @@
-//! What a swarm is made from.
+//! What a swarm is made from: the numbers of a plan, each with its range.
 
 /// The plan of a swarm.
 #[derive(Clone, Copy, Debug, PartialEq, Eq)]

@@ -1,4 +1,4 @@
-//! The cache of nodes.
+//! The cache of nodes by their hashes, for one generation and of bounded size.
 ghost use Rattle.std.specs.Prelude.{◌≡◌, ◌+◌, ◌^◌, ◌<◌, ◌==◌, [], IfOk, OnErr, OnOk, Some, if◌then◌else◌};
 ghost use Rattle.lru.specs.LruCache.{lru_cache};
 ghost use Rattle.ledger_spec.specs.Forms.{hash_of as form_hash};
