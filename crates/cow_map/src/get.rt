@@ -1,15 +1,18 @@
 //! `get`: down from the top link to the leaf of a key, and its data.
-ghost use Rattle.std.specs.Prelude.{◌≡◌, ◌-◌, ◌∷◌, [], List, length, IsTrue, IfOk};
+ghost use Rattle.std.specs.Prelude.{◌≡◌, ◌-◌, ◌∷◌, [], length, IsTrue, IfOk, IfErr};
 ghost use Rattle.std.specs.FinMap as map;
 ghost use Rattle.nib_path.specs.Paths.{lies_under};
 ghost use Rattle.ledger_spec.specs.Maps.{hash_cmp, get_in};
 ghost use Rattle.path_proof.specs.Sources.{LeavesSource};
 ghost use Rattle.cow_map.specs.Bodies.{IsBelow};
-ghost use Rattle.cow_map.specs.Ways.{stop_at, Goes, IsSourceFault};
+ghost use Rattle.cow_map.specs.Ways.{stop_at, Goes, IsSourceFault, stop_of, IsFailure};
 ghost use Rattle.cow_map.specs.Edits.{Gets};
+ghost use Rattle.ledger_spec.specs.Bytes.{Items};
+ghost use Rattle.cow_map.specs.Trees.{StandsFor};
 
 use crate::arena::Arena;
 use crate::look::{Seen, look};
+use crate::map::CowMap;
 use crate::step::{below, toward};
 use crate::{Link, MapFault};
 use half_hash::{Blob, Hash32, NodeHash};
@@ -18,8 +21,41 @@ use nib_path::NodeId;
 use path_proof::NodeSource;
 use std::alloc::Global;
 
+impl CowMap {
+    /// The data of a key.
+    pub fn get<H: NodeHash, S: NodeSource<H>>(
+        &self,
+        alloc: Global,
+        source: &mut S,
+        key: &Hash32,
+    ) -> Result<Option<Blob>, MapFault>
+        ensures value { IsTrue S.tells → IfOk result (λ found. (items : Items) →
+            StandsFor H.half (map.get (S.stored source.old)) self.now items → found ≡ get_in hash_cmp items key.now) }
+
+        // what the source lacks, or what breaks a rule of shape, is named exactly where it is the first such on the way
+        ensures way { IsTrue S.tells → Goes (stop_of H.half (map.get (S.stored source.old)) self.now key.now) result }
+
+        // where the map stands for something, only a failure of the source or want of memory comes
+        ensures free { IsTrue S.tells → (items : Items) →
+            StandsFor H.half (map.get (S.stored source.old)) self.now items → IfErr result IsFailure }
+        ensures source { LeavesSource S.tells S.stored S.rest S.faults IsSourceFault source.old source.new result }
+    {
+        let top = self.top;
+        get_at::<H, S>(
+            alloc,
+            &self.nodes,
+            source,
+            self.kind,
+            false,
+            &NodeId::root(),
+            &top,
+            key,
+        )
+    }
+}
+
 /// The data of a key in what a link stands for, at a place on the way to the key.
-pub(crate) fn get_at<H: NodeHash, S: NodeSource<H>>(
+fn get_at<H: NodeHash, S: NodeSource<H>>(
     alloc: Global,
     arena: &Arena,
     source: &mut S,

@@ -4,6 +4,7 @@
 
 mod arena;
 mod fault;
+mod gathering;
 mod get;
 mod laws;
 mod link;

@@ -1,20 +1,22 @@
 //! `put`: the nodes on the way to a key are made anew. Where another leaf stands on the way, inner nodes are put above both down to where
 //! their keys part.
-ghost use Rattle.std.specs.Prelude.{◌≢◌, ◌≤◌, ◌<◌, ◌-◌, ◌∷◌, ◌++◌, [], List, length, IsTrue, IfOk};
+ghost use Rattle.std.specs.Prelude.{◌≢◌, ◌≤◌, ◌<◌, ◌-◌, ◌∷◌, ◌++◌, [], List, length, IsTrue, IfOk, ◌≡◌, IfErr, OnErr, OnOk};
 ghost use Rattle.std.specs.FinMap as map;
 ghost use Rattle.nib_path.specs.Paths.{lies_under};
 ghost use Rattle.ledger_spec.specs.declared.Kind.{Kind as KindOf};
-ghost use Rattle.ledger_spec.specs.Bytes.{Bytes, Hash, Half, Lookup};
+ghost use Rattle.ledger_spec.specs.Bytes.{Bytes, Hash, Half, Lookup, Items};
 ghost use Rattle.ledger_spec.specs.Maps.{hash_cmp, insert_in};
 ghost use Rattle.ledger_spec.specs.Tree.{Entry};
 ghost use Rattle.path_proof.specs.Sources.{LeavesSource};
 ghost use Rattle.cow_map.specs.Bodies.{IsBelow};
-ghost use Rattle.cow_map.specs.Trees.{fewest, StandsAt};
-ghost use Rattle.cow_map.specs.Ways.{stop_at, Goes, IsSourceFault};
-ghost use Rattle.cow_map.specs.Edits.{GrowsBy, Sets, LeadsTo};
+ghost use Rattle.cow_map.specs.Trees.{fewest, StandsAt, StandsFor};
+ghost use Rattle.cow_map.specs.Ways.{stop_at, Goes, IsSourceFault, stop_of, IsFailure};
+ghost use Rattle.cow_map.specs.Edits.{GrowsBy, Sets, LeadsTo, MapGrowsBy, SetsItem};
+ghost use Rattle.cow_map.specs.Unloaded.{KeepsReach};
 
 use crate::arena::Arena;
 use crate::look::{Seen, look};
+use crate::map::CowMap;
 use crate::step::{below, known_inner, toward};
 use crate::{Link, Links, MapFault};
 use half_hash::{Hash32, Memory, NodeHash};
@@ -24,9 +26,62 @@ use path_proof::NodeSource;
 use shamap_node::Item;
 use std::alloc::Global;
 
+impl CowMap {
+    /// Sets an item.
+    pub fn put<H: NodeHash, S: NodeSource<H>>(
+        &mut self,
+        alloc: Global,
+        source: &mut S,
+        item: Item,
+    ) -> Result<(), MapFault>
+        // what the map stood for over what the source holds, it stands for with the item set
+        ensures stands { IsTrue S.tells →
+            OnOk result (SetsItem H.half (map.get (S.stored source.old)) self.old self.new item.key item.value) }
+
+        // where the old map stood for something, what the new one leaves to the source the old one did, or it is reached from that
+        ensures reach { IsTrue S.tells → OnOk result (KeepsReach H.half (map.get (S.stored source.old)) self.old self.new) }
+
+        // at most 65 nodes are new, and those that were there are as they were
+        ensures grows { MapGrowsBy 65 self.old self.new }
+
+        // what the source lacks, or what breaks a rule of shape, is named exactly where it is the first such on the way
+        ensures way { IsTrue S.tells → Goes (stop_of H.half (map.get (S.stored source.old)) self.old item.key) result }
+
+        // where the map stands for something, only a failure of the source or want of memory comes
+        ensures free { IsTrue S.tells → (items : Items) →
+            StandsFor H.half (map.get (S.stored source.old)) self.old items → IfErr result IsFailure }
+        ensures err { OnErr result (self.new ≡ self.old) }
+        ensures source { LeavesSource S.tells S.stored S.rest S.faults IsSourceFault source.old source.new result }
+    {
+        let start = self.nodes.len();
+        let top = self.top;
+        let kind = self.kind;
+        let root = NodeId::root();
+        match put_at::<H, S>(
+            alloc,
+            &mut self.nodes,
+            source,
+            kind,
+            false,
+            &root,
+            &top,
+            item,
+        ) {
+            Ok(next) => {
+                self.top = next;
+                Ok(())
+            }
+            Err(fault) => {
+                self.nodes.truncate(start);
+                Err(fault)
+            }
+        }
+    }
+}
+
 /// Sets an item in what a link stands for, at a place on the way to its key: the nodes on its way are
 /// made anew, and the answer is the link to the first of them.
-pub(crate) fn put_at<H: NodeHash, S: NodeSource<H>>(
+fn put_at<H: NodeHash, S: NodeSource<H>>(
     alloc: Global,
     arena: &mut Arena,
     source: &mut S,

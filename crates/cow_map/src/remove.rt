@@ -1,20 +1,24 @@
 //! `remove`: the nodes on the way to a key are made anew without its leaf. An inner node that is left with one leaf alone gives way to it,
 //! and one that is left with nothing goes.
-ghost use Rattle.std.specs.Prelude.{◌≡◌, ◌≢◌, ◌<◌, ◌-◌, ℕ, length, IsTrue, IfOk, None, Some, MatchOption};
+ghost use Rattle.std.specs.Prelude.{◌≡◌, ◌≢◌, ◌<◌, ◌-◌, ℕ, length, IsTrue, IfOk, None, MatchOption, IfErr, OnOk};
 ghost use Rattle.std.specs.List.{slice_index_or};
 ghost use Rattle.std.specs.FinMap as map;
 ghost use Rattle.nib_path.specs.Paths.{lies_under};
 ghost use Rattle.path_proof.specs.Sources.{LeavesSource};
 ghost use Rattle.cow_map.specs.declared.link.Link.TheVariants.{Empty as empty_link};
 ghost use Rattle.cow_map.specs.Bodies.{IsBelow};
-ghost use Rattle.cow_map.specs.Edits.{Counts, GrowsBy, Removes, Leaves, Settles, IsBelowIf, IsLeaf};
+ghost use Rattle.cow_map.specs.Edits.{Counts, GrowsBy, Removes, Leaves, Settles, IsBelowIf, IsLeaf, MapGrowsBy, RemovesKey};
+ghost use Rattle.cow_map.specs.Edits.{StaysUnlessThere};
 ghost use Rattle.cow_map.specs.declared.link.Only.TheVariants as only;
-ghost use Rattle.cow_map.specs.Trees.{found_at};
-ghost use Rattle.cow_map.specs.Ways.{removal_stop_at, stop_here, stop_left, Goes, IsSourceFault};
+ghost use Rattle.cow_map.specs.Trees.{found_at, StandsFor};
+ghost use Rattle.cow_map.specs.Ways.{removal_stop_at, stop_here, stop_left, Goes, IsSourceFault, removal_stop_of, IsFailure};
+ghost use Rattle.ledger_spec.specs.Bytes.{Items};
+ghost use Rattle.cow_map.specs.Unloaded.{KeepsReach};
 
 use crate::arena::Arena;
 use crate::link::Only;
 use crate::look::{Seen, look};
+use crate::map::CowMap;
 use crate::step::{below, toward};
 use crate::{Link, Links, MapFault};
 use half_hash::{Hash32, NodeHash};
@@ -23,9 +27,68 @@ use nib_path::NodeId;
 use path_proof::NodeSource;
 use std::alloc::Global;
 
+impl CowMap {
+    /// Removes a key, and tells whether it was there.
+    pub fn remove<H: NodeHash, S: NodeSource<H>>(
+        &mut self,
+        alloc: Global,
+        source: &mut S,
+        key: &Hash32,
+    ) -> Result<bool, MapFault>
+        // what the map stood for over what the source holds, it stands for without the key
+        ensures stands { IsTrue S.tells → IfOk result (RemovesKey H.half (map.get (S.stored source.old)) self.old self.new key.now) }
+
+        // where the old map stood for something, what the new one leaves to the source the old one did, or it is reached from that
+        ensures reach { IsTrue S.tells → OnOk result (KeepsReach H.half (map.get (S.stored source.old)) self.old self.new) }
+
+        // at most 64 nodes are new, and those that were there are as they were
+        ensures grows { MapGrowsBy 64 self.old self.new }
+
+        // what the source lacks, or what breaks a rule of shape, is named exactly where it is the first such on the way, or else
+        // stands beside the key's leaf as the only other branch of an inner node below the root
+        ensures way { IsTrue S.tells → Goes (removal_stop_of H.half (map.get (S.stored source.old)) self.old key.now) result }
+
+        // where the map stands for something, only a failure of the source or want of memory comes
+        ensures free { IsTrue S.tells → (items : Items) →
+            StandsFor H.half (map.get (S.stored source.old)) self.old items → IfErr result IsFailure }
+
+        // a map without the key stays as it is, its nodes too
+        ensures stays { StaysUnlessThere self.old self.new result }
+        ensures source { LeavesSource S.tells S.stored S.rest S.faults IsSourceFault source.old source.new result }
+    {
+        let start = self.nodes.len();
+        let top = self.top;
+        let kind = self.kind;
+        let root = NodeId::root();
+        match remove_at::<H, S>(
+            alloc,
+            &mut self.nodes,
+            source,
+            kind,
+            false,
+            &root,
+            &top,
+            key,
+        ) {
+            Ok(Some(next)) => {
+                self.top = next;
+                Ok(true)
+            }
+            Ok(None) => {
+                self.nodes.truncate(start);
+                Ok(false)
+            }
+            Err(fault) => {
+                self.nodes.truncate(start);
+                Err(fault)
+            }
+        }
+    }
+}
+
 /// Removes a key from what a link stands for, at a place on the way to the key: the nodes on its way are
 /// made anew, and the answer is the link to the first of them, or none where the key isn't there.
-pub(crate) fn remove_at<H: NodeHash, S: NodeSource<H>>(
+fn remove_at<H: NodeHash, S: NodeSource<H>>(
     alloc: Global,
     arena: &mut Arena,
     source: &mut S,

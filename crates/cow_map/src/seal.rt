@@ -1,11 +1,16 @@
 //! Sealing: a map's root hash, and the forms of those of its own nodes that the top reaches, each with its hash.
-ghost use Rattle.std.specs.Prelude.{◌≡◌, ◌<◌, ℕ, length, IfErr, IfOk, Some};
-ghost use Rattle.std.specs.List.{slice_get, slice_index_or};
-ghost use Rattle.cow_map.specs.declared.link.Link.TheVariants.{Empty as empty_link, Own as own_link};
+ghost use Rattle.std.specs.Prelude.{◌≡◌, ◌<◌, length, IfErr, IfOk, Some, map as list_map};
+ghost use Rattle.std.specs.List.{slice_get};
 ghost use Rattle.cow_map.specs.Bodies.{inner as inner_body, IsBelow};
-ghost use Rattle.cow_map.specs.Sealing.{Seals, SealsForm, Adds, AreNamed, IsSealFault};
+ghost use Rattle.cow_map.specs.Sealing.{Seals, SealsForm, Adds, AreNamed, IsSealFault, named, first_zero, made_of_map, NamesZero};
+ghost use Rattle.ledger_spec.specs.Bytes.{Items, Lookup};
+ghost use Rattle.ledger_spec.specs.Commits.{AreOwn};
+ghost use Rattle.cow_map.specs.Trees.{StandsFor};
+ghost use Rattle.ledger_spec.specs.Tree.{root_of, forms_of};
+ghost use Rattle.cow_map.specs.Seals.{Picks};
 
 use crate::arena::Arena;
+use crate::map::CowMap;
 use crate::{Cow, Link, Links, MapFault};
 use half_hash::{Blob, Hash32, NodeHash};
 use ledger_spec::Kind;
@@ -26,10 +31,41 @@ pub struct Sealed {
     pub forms: Vec<FormOf>,
 }
 
+impl CowMap {
+    /// The root hash, and the forms of the nodes that this map has made and that its top reaches, each
+    /// once, branches rising and kids before their parent.
+    pub fn seal<H: NodeHash>(&self, alloc: Global) -> Result<Sealed, MapFault>
+        // where the map stands for a finite map over forms under their own hashes, the root is that map's
+        ensures root { IfOk result (λ s. (stored : Lookup) (items : Items) → AreOwn H.half stored →
+            StandsFor H.half stored self.now items → s.root ≡ root_of H.half self.now.kind items) }
+
+        // the forms are those that the nodes of the list make which the top reaches
+        ensures forms { IfOk result (λ s. (stored : Lookup) (items : Items) →
+            StandsFor H.half stored self.now items → s.forms.items ≡ list_map (named H.half) (made_of_map H.half self.now)) }
+
+        // in the order of all forms of that map, these are at least those that the source lacks
+        ensures tree { IfOk result (λ s. (stored : Lookup) (items : Items) → AreOwn H.half stored →
+            StandsFor H.half stored self.now items →
+            Picks H.half stored (made_of_map H.half self.now) (forms_of H.half self.now.kind items)) }
+
+        // each is given with its own hash, whatever the map stands for
+        ensures named { IfOk result (λ s. AreNamed H.half s.forms.items) }
+
+        // a form that is made here and has the zero hash is named, the first in that order
+        ensures zero { (stored : Lookup) (items : Items) → StandsFor H.half stored self.now items →
+            NamesZero (first_zero H.half (made_of_map H.half self.now)) result }
+        ensures cause { IfErr result IsSealFault }
+    {
+        let mut forms = Vec::new(alloc);
+        let root = seal_link::<H>(alloc, &self.nodes, self.kind, &self.top, &mut forms)?;
+        Ok(Sealed { root, forms })
+    }
+}
+
 /// The hash that a link stands for. The forms of the nodes of the list that it reaches are added, branches
 /// rising and kids before their parent, up to the first whose hash is zero, which is the fault.
 #[cycle(sealing)]
-pub(crate) fn seal_link<H: NodeHash>(
+fn seal_link<H: NodeHash>(
     alloc: Global,
     arena: &Arena,
     kind: Kind,

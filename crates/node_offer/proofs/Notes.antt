@@ -18,10 +18,10 @@ use Rattle.ledger_spec.specs.Own.{is_own}
 use Rattle.ledger_spec.proofs.Owning.{same_self}
 use Rattle.rotating_store.specs.Stores.{Store, nodes_of, with_pair, is_noted, IsNoted, Counted}
 use Rattle.rotating_store.specs.Puts.{Puts, TellsWrongHash, MayStore}
-use Rattle.rotating_store.specs.declared.store.Put.{Put}
-use Rattle.rotating_store.specs.declared.store.Put.TheVariants as put
-use Rattle.rotating_store.specs.declared.store.StoreFault.{StoreFault}
-use Rattle.rotating_store.specs.declared.store.StoreFault.TheVariants as fault
+use Rattle.rotating_store.specs.declared.outcome.Put.{Put}
+use Rattle.rotating_store.specs.declared.outcome.Put.TheVariants as put
+use Rattle.rotating_store.specs.declared.outcome.StoreFault.{StoreFault}
+use Rattle.rotating_store.specs.declared.outcome.StoreFault.TheVariants as fault
 use Rattle.rotating_store.proofs.Merging.{merged-insert}
 use Rattle.rotating_store.specs.Reading.{AreNotedOwn}
 use Rattle.rotating_store.proofs.Reading.{note_is_true, notes_stay}

@@ -1,7 +1,7 @@
 -- The offers' names for what a backend and a store answer.
 use Rattle.std.specs.Prelude.{Result, Ok, Err}
-use Rattle.rotating_store.specs.declared.store.StoreFault.{StoreFault}
-use Rattle.rotating_store.specs.declared.store.StoreFault.TheVariants as store
+use Rattle.rotating_store.specs.declared.outcome.StoreFault.{StoreFault}
+use Rattle.rotating_store.specs.declared.outcome.StoreFault.TheVariants as store
 use Rattle.node_offer.specs.declared.store.Stored.{Stored}
 use Rattle.node_offer.specs.declared.store.Stored.TheVariants as stored
 use Rattle.node_backend.specs.declared.back.BackFault.{BackFault}

@@ -13,8 +13,8 @@ use Rattle.ledger_spec.proofs.ReachLaws.{reach_joins}
 use Rattle.run_io.specs.Bytes.{Rose}
 use Rattle.rotating_store.specs.Puts.{IsPlain}
 use Rattle.rotating_store.specs.Stores.{Store, merged, nodes_of, SamePast, HasNoNewNotes, KeepsNotes, AddsAtMostOne}
-use Rattle.rotating_store.specs.declared.store.StoreFault.{StoreFault}
-use Rattle.rotating_store.specs.declared.store.StoreFault.TheVariants as fault
+use Rattle.rotating_store.specs.declared.outcome.StoreFault.{StoreFault}
+use Rattle.rotating_store.specs.declared.outcome.StoreFault.TheVariants as fault
 use Rattle.rotating_store.proofs.Merging.{swap_fewer, swap_only}
 use Rattle.copy_walk.specs.Walks.{Walk, Keeps}
 use Rattle.copy_walk.specs.Walks as walks

@@ -7,8 +7,8 @@ use Rattle.ledger_spec.specs.Reach.{Reach, Stored}
 use Rattle.std.specs.FinSet as set
 use Rattle.run_io.specs.Bytes.{Rose}
 use Rattle.rotating_store.specs.Stores.{Store, nodes_of, born_of}
-use Rattle.rotating_store.specs.declared.store.StoreFault.{StoreFault}
-use Rattle.rotating_store.specs.declared.store.StoreFault.TheVariants as fault
+use Rattle.rotating_store.specs.declared.outcome.StoreFault.{StoreFault}
+use Rattle.rotating_store.specs.declared.outcome.StoreFault.TheVariants as fault
 use Rattle.copy_walk.specs.Walks.{Walk, Colours}
 use Rattle.copy_walk.specs.Walks as walks
 

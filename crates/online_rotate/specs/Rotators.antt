@@ -5,7 +5,7 @@ use Rattle.std.specs.List.{Contains}
 use Rattle.ledger_spec.specs.Bytes.{Hash}
 use Rattle.ledger_spec.specs.Retaining.{Retention, IsRootFrom, after_begin, after_finish, floor_behind}
 use Rattle.rotating_store.specs.Stores.{Store, HasNoNewNotes, AddsAtMostOne}
-use Rattle.rotating_store.specs.declared.store.StoreFault.{StoreFault}
+use Rattle.rotating_store.specs.declared.outcome.StoreFault.{StoreFault}
 use Rattle.copy_walk.specs.Walks.{Walk}
 use Rattle.copy_walk.specs.Walks as walks
 use Rattle.copy_walk.specs.declared.walk.Left.{Left}

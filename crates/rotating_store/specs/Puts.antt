@@ -5,10 +5,10 @@ use Rattle.ledger_spec.specs.Bytes.{Bytes, Hash, Half}
 use Rattle.rotating_store.specs.Stores.{Store, nodes_of, Counted, with_pair}
 use Rattle.node_backend.specs.declared.back.BackFault.{BackFault}
 use Rattle.node_backend.specs.declared.back.BackFault.TheVariants as back
-use Rattle.rotating_store.specs.declared.store.Put.{Put}
-use Rattle.rotating_store.specs.declared.store.Put.TheVariants as put
-use Rattle.rotating_store.specs.declared.store.StoreFault.{StoreFault}
-use Rattle.rotating_store.specs.declared.store.StoreFault.TheVariants as fault
+use Rattle.rotating_store.specs.declared.outcome.Put.{Put}
+use Rattle.rotating_store.specs.declared.outcome.Put.TheVariants as put
+use Rattle.rotating_store.specs.declared.outcome.StoreFault.{StoreFault}
+use Rattle.rotating_store.specs.declared.outcome.StoreFault.TheVariants as fault
 
 -- neither a clash nor a wrong hash
 abbrev pub IsPlain : StoreFault → Type 0

@@ -2,13 +2,17 @@
 //! archive: what was copied forward, or written since the last swap, stays, and nothing else.
 #![tactic(auto)]
 
+mod maps;
 mod notes;
+mod outcome;
 mod own;
 mod pair;
 mod source;
 mod store;
+mod turning;
 
+pub use outcome::{Put, StoreFault};
 pub use own::own_form;
 pub use pair::Moved;
 pub use source::Filed;
-pub use store::{Parts, Put, RotStore, StoreFault, Unopened};
+pub use store::{Parts, RotStore, Unopened};

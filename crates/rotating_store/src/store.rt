@@ -1,47 +1,19 @@
-//! The store: one map over two backends. What is new goes into the writable one; what the archive alone
-//! has is kept by a swap only if it was copied forward before.
-ghost use Rattle.std.specs.Prelude.{◌≡◌, ◌≢◌, ◌≤◌, ◌<◌, ◌^◌, ◌+◌, ◌-◌, IsTrue, true, false, is_some, Err, []};
-ghost use Rattle.std.specs.Prelude.{IfOk, IfErr, OnOk, OnErr, IsOk};
+//! The store: a shelf, two backends of it and the notes on what was checked; how it is opened, and what it tells of itself. What is new
+//! goes into the writable backend; what the archive alone has is kept by a swap only if it was copied forward before.
+ghost use Rattle.std.specs.Prelude.{◌≡◌, ◌≢◌, ◌≤◌, IsTrue, false, is_some, Err, IfOk};
 ghost use Rattle.std.specs.FinMap as map;
 ghost use Rattle.std.specs.FinSet as set;
-ghost use Rattle.std.specs.Option.{option_copied, option_map, option_map_or};
-ghost use Rattle.node_backend.specs.Order.{IsNext};
+ghost use Rattle.std.specs.Option.{option_map, option_map_or};
 ghost use Rattle.run_io.specs.Bytes.{Rose};
 ghost use Rattle.node_backend.specs.Counts.{held_sum};
-ghost use Rattle.rotating_store.specs.Stores.{Store, nodes_of, Counted, Agree, SamePast, sum_of, spare_of, is_noted, IsNoted};
-ghost use Rattle.rotating_store.specs.Stores.{AddsAtMostOne, RoseByShelf, KeepsNotes, HasNoNewNotes, LeavesStore};
-ghost use Rattle.rotating_store.specs.Puts.{Puts, TellsWrongHash, Compares, IsPlain};
-ghost use Rattle.rotating_store.specs.Moves.{Moves, moved_of};
+ghost use Rattle.rotating_store.specs.Stores.{Store, Agree, sum_of, spare_of, is_noted, IsNoted};
 ghost use Rattle.rotating_store.specs.Keeps.{Numbered, Keeps};
 
 use crate::notes::Notes;
-use crate::pair::{Moved, copy_form, get_either, next_of_either};
-use half_hash::{Blob, Hash32, Memory, NodeHash};
+use half_hash::Hash32;
 use node_backend::{BackFault, Backend, Shelf};
 use std::alloc::Global;
 use std::marker::Model;
-
-/// What a put came to.
-#[derive(Clone, Copy, Debug, PartialEq, Eq)]
-pub enum Put {
-    /// The pair was stored.
-    New,
-    /// It was stored before.
-    Same,
-}
-
-/// Why a store could not do as asked.
-#[derive(Debug, Drop)]
-pub enum StoreFault {
-    /// A device failed.
-    Fault,
-    /// Another form has this hash.
-    Clash { hash: Hash32, old: Blob, new: Blob },
-    /// The form has another hash.
-    WrongHash { hash: Hash32, found: Hash32 },
-    /// Memory was refused.
-    Memory,
-}
 
 /// Why there is no store, and what is left.
 #[derive(Drop)]
@@ -58,14 +30,14 @@ pub enum Unopened<Sh: Shelf> {
 /// maps, whether a fresh backend is ready, the epoch, the counts, and the shelf's other numbers.
 #[derive(Drop)]
 pub struct RotStore<Sh: Shelf> {
-    shelf: Sh,
+    pub(crate) shelf: Sh,
     pub(crate) writable: Sh::B,
     pub(crate) archive: Sh::B,
-    ready: Option<Sh::B>,
-    epoch: u64,
-    past_faults: u64,
-    past_gets: u64,
-    noted: Notes,
+    pub(crate) ready: Option<Sh::B>,
+    pub(crate) epoch: u64,
+    pub(crate) past_faults: u64,
+    pub(crate) past_gets: u64,
+    pub(crate) noted: Notes,
 }
 
 /// The very shelf and backends of a store.
@@ -155,172 +127,6 @@ impl<Sh: Shelf> RotStore<Sh> {
         })
     }
 
-    /// The form of a hash, or None where neither backend holds one.
-    pub fn get(&mut self, alloc: Global, h: &Hash32) -> Result<Option<Blob>, StoreFault>
-        ensures found { IsTrue Sh.B.tells → IfOk result (λ b. b ≡ map.get (nodes_of self.old) h.now) }
-        ensures same { IsTrue Sh.B.tells → Counted self.old self.new }
-        ensures few { self.new.gets ≤ self.old.gets + 2 }
-        ensures store { LeavesStore StoreFault.Fault self.old self.new result }
-        ensures kind { IfErr result IsPlain }
-    {
-        let form = get_either(&mut self.writable, &mut self.archive, alloc, h)?;
-        Ok(form)
-    }
-
-    /// Whether a form has the hash.
-    pub fn has(&mut self, alloc: Global, h: &Hash32) -> Result<bool, StoreFault>
-        ensures found { IsTrue Sh.B.tells → IfOk result (λ b. b ≡ is_some (map.get (nodes_of self.old) h.now)) }
-        ensures same { IsTrue Sh.B.tells → Counted self.old self.new }
-        ensures few { self.new.gets ≤ self.old.gets + 2 }
-        ensures store { LeavesStore StoreFault.Fault self.old self.new result }
-        ensures kind { IfErr result IsPlain }
-    {
-        let form = self.get(alloc, h)?;
-        Ok(form.is_some())
-    }
-
-    /// Stores a form under its hash. `WrongHash` and `Clash` leave the maps as they are; after `Fault` or
-    /// `Memory` the pair may be stored, and nothing else.
-    pub fn put<H: NodeHash>(
-        &mut self,
-        alloc: Global,
-        h: &Hash32,
-        form: &[u8],
-    ) -> Result<Put, StoreFault>
-        ensures puts { IsTrue Sh.B.tells → Puts self.old h.now form.now result self.new }
-        ensures wrong { TellsWrongHash H.half h.now form.now result }
-        ensures store { LeavesStore StoreFault.Fault self.old self.new result }
-    {
-        let found = H::half(form);
-        if !found.equals(h) {
-            return Err(StoreFault::WrongHash { hash: *h, found });
-        }
-        self.put_hashed::<H>(alloc, h, form)
-    }
-
-    /// The same of a form whose hash the caller knows, which isn't hashed again.
-    pub fn put_hashed<H: NodeHash>(
-        &mut self,
-        alloc: Global,
-        h: &Hash32,
-        form: &[u8],
-    ) -> Result<Put, StoreFault>
-        requires own { H.half form.now ≡ h.now }
-        ensures puts { IsTrue Sh.B.tells → Puts self.old h.now form.now result self.new }
-        ensures wrong { TellsWrongHash H.half h.now form.now result }
-        ensures store { LeavesStore StoreFault.Fault self.old self.new result }
-    {
-        if let Some(old) = get_either(&mut self.writable, &mut self.archive, alloc, h)? {
-            return compare(alloc, h, old, form);
-        }
-        self.noted.carry(h)?;
-        self.writable.put(alloc, h, form)?;
-        Ok(Put::New)
-    }
-
-    /// Copies a form from the archive to the writable backend, where that lacks it. The store's one map
-    /// stays, also after an error.
-    pub fn forward(&mut self, alloc: Global, h: &Hash32) -> Result<Moved, StoreFault>
-        ensures nodes { IsTrue Sh.B.tells → nodes_of self.new ≡ nodes_of self.old }
-        ensures moves { IsTrue Sh.B.tells → Moves self.old.writable self.old.archive h.now result self.new.writable }
-        ensures there { IsTrue Sh.B.tells → OnOk result (map.get self.new.writable h.now ≡ map.get (nodes_of self.old) h.now) }
-        ensures archive { IsTrue Sh.B.tells → self.new.archive ≡ self.old.archive }
-        ensures store { LeavesStore StoreFault.Fault self.old self.new result }
-        ensures kind { IfErr result IsPlain }
-    {
-        let (moved, _) = self.forward_form(alloc, h)?;
-        Ok(moved)
-    }
-
-    /// The same, and it hands out the form that was copied or found there, which is looked for once.
-    pub fn forward_form(
-        &mut self,
-        alloc: Global,
-        h: &Hash32,
-    ) -> Result<(Moved, Option<Blob>), StoreFault>
-        ensures nodes { IsTrue Sh.B.tells → nodes_of self.new ≡ nodes_of self.old }
-        ensures moves { IsTrue Sh.B.tells → Moves self.old.writable self.old.archive h.now (moved_of result) self.new.writable }
-        ensures form { IsTrue Sh.B.tells → IfOk result (λ r. r.1 ≡ map.get (nodes_of self.old) h.now) }
-        ensures there { IsTrue Sh.B.tells → OnOk result (map.get self.new.writable h.now ≡ map.get (nodes_of self.old) h.now) }
-        ensures archive { IsTrue Sh.B.tells → self.new.archive ≡ self.old.archive }
-        ensures store { LeavesStore StoreFault.Fault self.old self.new result }
-        ensures kind { IfErr result IsPlain }
-    {
-        self.noted.carry(h)?;
-        let moved = copy_form(&mut self.writable, &mut self.archive, alloc, h)?;
-        Ok(moved)
-    }
-
-    /// The least hash that comes after another one, or the least of all.
-    pub fn next(
-        &mut self,
-        alloc: Global,
-        after: Option<&Hash32>,
-    ) -> Result<Option<Hash32>, StoreFault>
-        ensures next { IsTrue Sh.B.tells → IfOk result (IsNext (nodes_of self.old) (option_copied after.entry)) }
-        ensures same { IsTrue Sh.B.tells → Counted self.old self.new }
-        ensures unasked { self.new.gets ≡ self.old.gets }
-        ensures store { LeavesStore StoreFault.Fault self.old self.new result }
-        ensures kind { IfErr result IsPlain }
-    {
-        let next = next_of_either(&mut self.writable, &mut self.archive, alloc, after)?;
-        Ok(next)
-    }
-
-    /// Has a fresh backend ready for the next swap. After an error the store is as it was, but for the count
-    /// of faults.
-    pub fn prepare(&mut self, alloc: Global) -> Result<(), StoreFault>
-        ensures same { IsTrue Sh.B.tells → (self.new.writable ≡ self.old.writable) × (self.new.archive ≡ self.old.archive) }
-        ensures ready { OnOk result (self.new.ready ≡ true) }
-        ensures unready { OnErr result (self.new.ready ≡ self.old.ready) }
-        // One that is ready stays, and none is asked for.
-        ensures was_ready { self.old.ready ≡ true → OnOk result (self.new ≡ self.old) × IsOk result }
-        ensures rest { SamePast self.old self.new × (self.new.gets ≡ self.old.gets) × (self.new.noted ≡ self.old.noted) }
-        ensures later { self.old.faults ≤ self.new.faults }
-        ensures counted { RoseByShelf self.old self.new }
-        ensures cause { result ≡ Err StoreFault.Fault → Rose self.old.faults self.new.faults }
-        ensures kind { IfErr result IsPlain }
-    {
-        if self.ready.is_some() {
-            return Ok(());
-        }
-        let fresh = self.shelf.fresh(alloc)?;
-        self.ready = Some(fresh);
-        Ok(())
-    }
-
-    /// Drops the archive. The writable backend is the archive from now on, and the one that is ready
-    /// the writable one. It is never refused: where the shelf can't discard the old one, its count tells.
-    pub fn swap(&mut self)
-        requires ready { self.old.ready ≡ true }
-        requires room { self.old.epoch < 2 ^ 64 - 1 }
-        ensures nodes { IsTrue Sh.B.tells → nodes_of self.new ≡ self.old.writable }
-        ensures archive { IsTrue Sh.B.tells → self.new.archive ≡ self.old.writable }
-        ensures writable { IsTrue Sh.B.tells → self.new.writable ≡ map.empty }
-        ensures ready { self.new.ready ≡ false }
-        ensures epoch { self.new.epoch ≡ self.old.epoch + 1 }
-        ensures later { self.old.faults ≤ self.new.faults }
-        ensures gets { self.new.gets ≡ self.old.gets }
-        ensures counted { RoseByShelf self.old self.new }
-        ensures spare { self.new.spare ≡ self.old.spare }
-        // Where the shelf can't discard the old backend, its number goes into the second list.
-        ensures undone { AddsAtMostOne self.old.undone self.new.undone }
-        ensures notes { IsTrue Sh.B.tells → KeepsNotes self.old self.new }
-        ensures no_notes { HasNoNewNotes self.old self.new }
-        ensures past { (self.old.past_faults ≤ self.new.past_faults) × (self.old.past_gets ≤ self.new.past_gets) }
-    {
-        let Some(fresh) = self.ready.take() else {
-            return;
-        };
-        let full = std::mem::replace(&mut self.writable, fresh);
-        let old = std::mem::replace(&mut self.archive, full);
-        self.past_faults = self.past_faults.saturating_add(old.faults());
-        self.past_gets = self.past_gets.saturating_add(old.gets());
-        let _ = self.shelf.discard(old);
-        self.epoch += 1;
-        self.noted.turn();
-    }
-
     /// Notes that a caller has checked the form that is held under a hash, which is forgotten when a swap drops the form. Where memory
     /// is refused nothing is noted.
     pub fn note(&mut self, h: &Hash32)
@@ -406,39 +212,5 @@ impl<Sh: Shelf> RotStore<Sh> {
             .saturating_add(self.writable.faults())
             .saturating_add(self.archive.faults())
             .saturating_add(ready)
-    }
-}
-
-/// What a put of a form comes to where one is held.
-fn compare(alloc: Global, h: &Hash32, old: Blob, form: &[u8]) -> Result<Put, StoreFault>
-    ensures { Compares h.now old form.now result }
-{
-    if old.bytes() == form {
-        return Ok(Put::Same);
-    }
-    let new = Blob::from_slice(alloc, form)?;
-    Err(StoreFault::Clash { hash: *h, old, new })
-}
-
-impl From<BackFault> for StoreFault {
-    ghost use Rattle.rotating_store.specs.Puts.{store_fault};
-
-    ghost from_gives = { λ b e. e ≡ store_fault b };
-
-    fn from(fault: BackFault) -> StoreFault {
-        match fault {
-            BackFault::Fault => StoreFault::Fault,
-            BackFault::Memory => StoreFault::Memory,
-        }
-    }
-}
-
-impl From<Memory> for StoreFault {
-    ghost use Rattle.rotating_store.specs.declared.store.StoreFault.TheVariants as fault;
-
-    ghost from_gives = { λ _ e. e ≡ fault.Memory };
-
-    fn from(_: Memory) -> StoreFault {
-        StoreFault::Memory
     }
 }

@@ -9,7 +9,7 @@ use Rattle.ledger_spec.specs.Bytes.{Bytes}
 use Rattle.ledger_machine.specs.declared.commands.Line.{Line}
 use Rattle.script_form.specs.declared.cause.Cause.{Cause}
 use Rattle.script_form.specs.declared.cause.Cause.TheVariants as cause
-use Rattle.script_form.specs.declared.judging.TheConstants.{ORDER}
+use Rattle.script_form.specs.declared.trying.TheConstants.{ORDER}
 use Rattle.script_form.specs.Words.{words_of}
 use Rattle.script_form.specs.Commands.{CallHas}
 use Rattle.script_form.specs.Records.{is_store}

@@ -1,44 +1,22 @@
 //! A line judged: it is skipped, says a record or a command, or has a first cause.
-ghost use Rattle.std.specs.Prelude.{◌≡◌, ◌≤◌, ℕ, List, map, false, true, length, Some, None, IfOk, IfErr, MatchBool, MatchOption};
-ghost use Rattle.std.specs.List.{list_all};
+ghost use Rattle.std.specs.Prelude.{◌≡◌, ◌≤◌, ℕ, List, map, false, true, IfOk, IfErr};
 ghost use Rattle.std.specs.List.Sorted.{IsNonDecreasing};
-ghost use Rattle.ledger_machine.specs.declared.commands.Line.{Line};
-ghost use Rattle.script_form.specs.declared.cause.Cause.{Cause};
 ghost use Rattle.script_form.specs.Words.{words_of as text_words};
 ghost use Rattle.script_form.specs.Records.{is_store as word_is_store, earlier_in};
-ghost use Rattle.script_form.specs.Causes.{is_printable as byte_is_printable, is_skipped as are_skipped, is_command as are_command};
-ghost use Rattle.script_form.specs.Causes.{TextHas, CommandHas, LineHas, IsFirstOf};
-ghost use Rattle.script_form.specs.Commands.{CallHas};
+ghost use Rattle.script_form.specs.Causes.{TextHas, LineHas};
 ghost use Rattle.script_form.specs.Judging.{pages_with as named_with, IsFineText, IsFineLine, IsSaid, IsVerdict};
 ghost use Rattle.script_form.specs.Faults.{IsFirstCause};
 
 use crate::cause::{Cause, TextFault};
-use crate::forms::{form_of, has_wrong, is_command};
 use crate::limits::{MOST_COMMANDS, MOST_TEXT};
-use crate::line::{call_of, line_of, names_no_line};
+use crate::line::line_of;
 use crate::records::Records;
 use crate::store_line::stored;
-use crate::words::{is_text, number, words_of};
+use crate::trying::{first_cause, is_printable, is_skipped, is_store};
+use crate::words::words_of;
 use half_hash::{Memory, NodeHash};
 use ledger_machine::{Command, Line, Record};
 use std::alloc::Global;
-
-/// The causes that a line's text may have, in the order in which they are tried.
-const ORDER: [Cause; 13] = [
-    Cause::NotPrintable,
-    Cause::LineTooLong,
-    Cause::NoActor,
-    Cause::BadAfter,
-    Cause::UnknownCommand,
-    Cause::ArgumentCount,
-    Cause::BadNumber,
-    Cause::BadHex,
-    Cause::BadKindOrId,
-    Cause::ZeroTarget,
-    Cause::BadRecord,
-    Cause::DataTooLong,
-    Cause::TooManyCommands,
-];
 
 /// What a line says.
 #[derive(Drop)]
@@ -167,127 +145,5 @@ fn said(
     match line_of(alloc, n, words, earlier)? {
         Some(line) => Ok(Verdict::Line(line)),
         None => Ok(Verdict::Refused),
-    }
-}
-
-/// Whether all bytes are printable. No byte waits for the one before it.
-fn is_printable(text: &[u8]) -> bool
-    ensures { result ≡ list_all byte_is_printable text.now }
-{
-    let mut all = true;
-    for byte in text {
-        all = all & ((*byte >= 32) & (*byte <= 126));
-    }
-    all
-}
-
-/// Whether the words are skipped: there are none, or the first begins with `#`.
-fn is_skipped(words: &[&[u8]]) -> bool
-    ensures { result ≡ are_skipped (map (λ w. w.now) words.now) }
-{
-    match words {
-        [[first, ..], ..] => *first == b'#',
-        [] => true,
-        _ => false,
-    }
-}
-
-/// Whether the words are a record's: the first is `store`.
-fn is_store(words: &[&[u8]]) -> bool
-    ensures { result ≡ word_is_store (map (λ w. w.now) words.now) }
-{
-    match words {
-        [word, ..] => is_text(word, b"store"),
-        [] => false,
-    }
-}
-
-/// Whether the words are a command line's: it isn't skipped, and is no record.
-fn is_command_line(words: &[&[u8]]) -> bool
-    ensures { result ≡ are_command (map (λ w. w.now) words.now) }
-{
-    !is_skipped(words) && !is_store(words)
-}
-
-/// The first cause of a text that has one.
-fn first_cause(
-    alloc: Global,
-    text: &[u8],
-    words: &[&[u8]],
-    earlier: &[u32],
-) -> Result<Cause, Memory>
-    requires rises { IsNonDecreasing earlier.now }
-    requires words { map (λ w. w.now) words.now ≡ text_words text.now }
-    requires bad { IsFineText earlier.now text.now → ⊥ }
-    ensures { IfOk result (IsFirstOf (TextHas earlier.now text.now)) }
-{
-    for cause in &ORDER {
-        if text_has(alloc, *cause, text, words, earlier)? {
-            return Ok(*cause);
-        }
-    }
-    unreachable!()
-}
-
-/// Whether a text has this cause.
-fn text_has(
-    alloc: Global,
-    cause: Cause,
-    text: &[u8],
-    words: &[&[u8]],
-    earlier: &[u32],
-) -> Result<bool, Memory>
-    requires rises { IsNonDecreasing earlier.now }
-    requires words { map (λ w. w.now) words.now ≡ text_words text.now }
-    ensures { IfOk result (λ found. MatchBool found (TextHas earlier.now text.now cause) (TextHas earlier.now text.now cause → ⊥)) }
-{
-    match cause {
-        Cause::ScriptTooLong => Ok(false),
-        Cause::NotPrintable => Ok(!is_printable(text)),
-        Cause::LineTooLong => Ok(text.len() > MOST_TEXT),
-        _ => command_has(alloc, cause, words, earlier),
-    }
-}
-
-/// Whether these words are those of a command line that has this cause.
-fn command_has(
-    alloc: Global,
-    cause: Cause,
-    words: &[&[u8]],
-    earlier: &[u32],
-) -> Result<bool, Memory>
-    requires { IsNonDecreasing earlier.now }
-    ensures { IfOk result (λ found. MatchBool found (CommandHas earlier.now (map (λ w. w.now) words.now) cause)
-        (CommandHas earlier.now (map (λ w. w.now) words.now) cause → ⊥)) }
-{
-    if !is_command_line(words) {
-        return Ok(false);
-    }
-    let [actor, behind @ ..] = words else {
-        return Ok(false);
-    };
-    match cause {
-        Cause::NoActor => Ok(number(actor, 63).is_none()),
-        Cause::BadAfter => Ok(names_no_line(behind, earlier)),
-        Cause::TooManyCommands => Ok(earlier.len() >= MOST_COMMANDS),
-        _ => call_has(alloc, cause, call_of(behind)),
-    }
-}
-
-/// Whether a command's word and its arguments have this cause.
-fn call_has(alloc: Global, cause: Cause, call: &[&[u8]]) -> Result<bool, Memory>
-    ensures { IfOk result (λ found. MatchBool found (CallHas (map (λ w. w.now) call.now) cause)
-        (CallHas (map (λ w. w.now) call.now) cause → ⊥)) }
-{
-    let [word, arguments @ ..] = call else {
-        return Ok(cause == Cause::UnknownCommand);
-    };
-    match cause {
-        Cause::UnknownCommand => Ok(!is_command(word)),
-        Cause::ArgumentCount => Ok(form_of(word, arguments.len()).is_none()),
-        _ => match form_of(word, arguments.len()) {
-            Some(form) => has_wrong(alloc, cause, form.arguments(), arguments),
-            None => Ok(false),
-        },
     }
 }

@@ -12,7 +12,9 @@ mod line;
 mod records;
 mod script;
 mod store_line;
+mod trying;
 mod words;
+mod wrong;
 
 pub use cause::Cause;
 pub use forms::{Argument, Form};

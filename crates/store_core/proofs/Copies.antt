@@ -8,10 +8,10 @@ use Rattle.ledger_spec.specs.Bytes.{Bytes, Hash, Half, Nodes}
 use Rattle.ledger_spec.specs.Maps.{hash_cmp}
 use Rattle.rotating_store.specs.Stores.{Store, nodes_of, Counted, with_pair}
 use Rattle.rotating_store.specs.Puts.{Puts, MayStore}
-use Rattle.rotating_store.specs.declared.store.Put.{Put}
-use Rattle.rotating_store.specs.declared.store.Put.TheVariants as put
-use Rattle.rotating_store.specs.declared.store.StoreFault.{StoreFault}
-use Rattle.rotating_store.specs.declared.store.StoreFault.TheVariants as fault
+use Rattle.rotating_store.specs.declared.outcome.Put.{Put}
+use Rattle.rotating_store.specs.declared.outcome.Put.TheVariants as put
+use Rattle.rotating_store.specs.declared.outcome.StoreFault.{StoreFault}
+use Rattle.rotating_store.specs.declared.outcome.StoreFault.TheVariants as fault
 use Rattle.rotating_store.proofs.Merging.{get-merged}
 use Rattle.node_offer.specs.Stored as store
 use Rattle.ledger_laws.proofs.SoundForms.{get_more, same_hash}

@@ -12,10 +12,10 @@ use Rattle.ledger_machine.specs.Closing.{clash_under}
 use Rattle.ledger_machine.specs.State.{State, form_in, with_form}
 use Rattle.rotating_store.specs.Stores.{Store, nodes_of, Counted, with_pair}
 use Rattle.rotating_store.specs.Puts.{Puts, MayStore, TellsWrongHash}
-use Rattle.rotating_store.specs.declared.store.Put.{Put}
-use Rattle.rotating_store.specs.declared.store.Put.TheVariants as put
-use Rattle.rotating_store.specs.declared.store.StoreFault.{StoreFault}
-use Rattle.rotating_store.specs.declared.store.StoreFault.TheVariants as fault
+use Rattle.rotating_store.specs.declared.outcome.Put.{Put}
+use Rattle.rotating_store.specs.declared.outcome.Put.TheVariants as put
+use Rattle.rotating_store.specs.declared.outcome.StoreFault.{StoreFault}
+use Rattle.rotating_store.specs.declared.outcome.StoreFault.TheVariants as fault
 use Rattle.store_core.specs.Closing.{MayKeep, kept_by}
 use Rattle.store_core.specs.Desks.{over}
 use Rattle.ledger_machine.specs.Steps.{IsAfter}

@@ -20,10 +20,10 @@ use Rattle.ledger_spec.proofs.ReachLaws.{Grows, reach_grows}
 use Rattle.ledger_spec.proofs.Storing.{in_one}
 use Rattle.rotating_store.specs.Stores.{Store, merged, nodes_of, born_of, Counted, with_pair}
 use Rattle.rotating_store.specs.Puts.{Puts, MayStore}
-use Rattle.rotating_store.specs.declared.store.Put.{Put}
-use Rattle.rotating_store.specs.declared.store.Put.TheVariants as put
-use Rattle.rotating_store.specs.declared.store.StoreFault.{StoreFault}
-use Rattle.rotating_store.specs.declared.store.StoreFault.TheVariants as fault
+use Rattle.rotating_store.specs.declared.outcome.Put.{Put}
+use Rattle.rotating_store.specs.declared.outcome.Put.TheVariants as put
+use Rattle.rotating_store.specs.declared.outcome.StoreFault.{StoreFault}
+use Rattle.rotating_store.specs.declared.outcome.StoreFault.TheVariants as fault
 use Rattle.rotating_store.proofs.Merging.{get-merged, merged-insert, contains_hashes}
 use Rattle.node_offer.specs.declared.fault.OfferFault.{OfferFault}
 use Rattle.node_offer.specs.declared.fault.OfferFault.TheVariants as offer

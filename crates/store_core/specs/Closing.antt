@@ -16,9 +16,9 @@ use Rattle.ledger_machine.specs.declared.replies.Reply.TheVariants as says
 use Rattle.ledger_machine.specs.Scripts.{drops_in, close_in, resolution_in, flags_in}
 use Rattle.node_offer.specs.declared.fault.OfferFault.{OfferFault}
 use Rattle.node_offer.specs.declared.fault.OfferFault.TheVariants as faults
-use Rattle.rotating_store.specs.declared.store.Put.{Put}
-use Rattle.rotating_store.specs.declared.store.StoreFault.{StoreFault}
-use Rattle.rotating_store.specs.declared.store.StoreFault.TheVariants as causes
+use Rattle.rotating_store.specs.declared.outcome.Put.{Put}
+use Rattle.rotating_store.specs.declared.outcome.StoreFault.{StoreFault}
+use Rattle.rotating_store.specs.declared.outcome.StoreFault.TheVariants as causes
 use Rattle.ledger_machine.specs.Closing.{clash_under, first_clash, new_header, closing_forms, close_reply}
 use Rattle.ledger_machine.specs.State.{State, Session, form_in, with_form, with_forms}
 use Rattle.ledger_machine.specs.Steps.{IsAfter}

@@ -17,8 +17,8 @@ use Rattle.online_rotate.specs.declared.rotator.Begun.{Begun}
 use Rattle.online_rotate.specs.declared.rotator.Begun.TheVariants as begun
 use Rattle.node_backend.specs.declared.back.BackFault.{BackFault}
 use Rattle.node_backend.specs.declared.back.BackFault.TheVariants as back
-use Rattle.rotating_store.specs.declared.store.StoreFault.{StoreFault}
-use Rattle.rotating_store.specs.declared.store.StoreFault.TheVariants as faults
+use Rattle.rotating_store.specs.declared.outcome.StoreFault.{StoreFault}
+use Rattle.rotating_store.specs.declared.outcome.StoreFault.TheVariants as faults
 use Rattle.ledger_machine.specs.declared.commands.Command.{Command}
 use Rattle.ledger_machine.specs.declared.commands.Command.TheVariants as command
 use Rattle.ledger_machine.specs.declared.replies.BeginReply.{BeginReply}

@@ -4,9 +4,13 @@
 //! Its maps are asked for two things: the nodes that changed since they were last asked, and the root.
 #![tactic(auto)]
 
+mod acquiring;
+mod adding;
 mod ledgers;
 mod lines;
+mod next;
 mod plan;
+mod state;
 
 pub use ledgers::make;
 pub use lines::Lines;

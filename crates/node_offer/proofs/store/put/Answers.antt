@@ -1,6 +1,6 @@
 use Rattle.std.proofs.Common.{◌≡◌, Ok, Err, subst}
 use Rattle.rotating_store.specs.Puts.{Puts, TellsWrongHash}
-use Rattle.rotating_store.specs.declared.store.Put.TheVariants as put
+use Rattle.rotating_store.specs.declared.outcome.Put.TheVariants as put
 use Rattle.node_offer.proofs.Notes.{put_notes, put_noted, new_there, same_there}
 use Rattle.node_offer.proofs.store.put.Goals as goal
 

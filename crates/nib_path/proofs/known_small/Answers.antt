@@ -1,5 +1,0 @@
-use Rattle.nib_path.proofs.Nibbles.{nibbles-below}
-use Rattle.nib_path.proofs.known_small.Goals as goal
-
-pub returns : goal.returns
-returns c = nibbles-below c.args.id.now (λ k l. c.fits-id k)

@@ -1,0 +1,140 @@
+//! The one map of a store: reading it, writing it, copying what its archive has forward, and its hashes in their order.
+ghost use Rattle.std.specs.Prelude.{◌≡◌, ◌≤◌, ◌+◌, IsTrue, is_some, IfOk, IfErr, OnOk};
+ghost use Rattle.std.specs.FinMap as map;
+ghost use Rattle.std.specs.Option.{option_copied};
+ghost use Rattle.node_backend.specs.Order.{IsNext};
+ghost use Rattle.rotating_store.specs.Stores.{nodes_of, Counted, LeavesStore};
+ghost use Rattle.rotating_store.specs.Puts.{Puts, TellsWrongHash, Compares, IsPlain};
+ghost use Rattle.rotating_store.specs.Moves.{Moves, moved_of};
+
+use crate::outcome::{Put, StoreFault};
+use crate::pair::{Moved, copy_form, get_either, next_of_either};
+use crate::store::RotStore;
+use half_hash::{Blob, Hash32, NodeHash};
+use node_backend::{Backend, Shelf};
+use std::alloc::Global;
+
+impl<Sh: Shelf> RotStore<Sh> {
+    /// The form of a hash, or None where neither backend holds one.
+    pub fn get(&mut self, alloc: Global, h: &Hash32) -> Result<Option<Blob>, StoreFault>
+        ensures found { IsTrue Sh.B.tells → IfOk result (λ b. b ≡ map.get (nodes_of self.old) h.now) }
+        ensures same { IsTrue Sh.B.tells → Counted self.old self.new }
+        ensures few { self.new.gets ≤ self.old.gets + 2 }
+        ensures store { LeavesStore StoreFault.Fault self.old self.new result }
+        ensures kind { IfErr result IsPlain }
+    {
+        let form = get_either(&mut self.writable, &mut self.archive, alloc, h)?;
+        Ok(form)
+    }
+
+    /// Whether a form has the hash.
+    pub fn has(&mut self, alloc: Global, h: &Hash32) -> Result<bool, StoreFault>
+        ensures found { IsTrue Sh.B.tells → IfOk result (λ b. b ≡ is_some (map.get (nodes_of self.old) h.now)) }
+        ensures same { IsTrue Sh.B.tells → Counted self.old self.new }
+        ensures few { self.new.gets ≤ self.old.gets + 2 }
+        ensures store { LeavesStore StoreFault.Fault self.old self.new result }
+        ensures kind { IfErr result IsPlain }
+    {
+        let form = self.get(alloc, h)?;
+        Ok(form.is_some())
+    }
+
+    /// Stores a form under its hash. `WrongHash` and `Clash` leave the maps as they are; after `Fault` or
+    /// `Memory` the pair may be stored, and nothing else.
+    pub fn put<H: NodeHash>(
+        &mut self,
+        alloc: Global,
+        h: &Hash32,
+        form: &[u8],
+    ) -> Result<Put, StoreFault>
+        ensures puts { IsTrue Sh.B.tells → Puts self.old h.now form.now result self.new }
+        ensures wrong { TellsWrongHash H.half h.now form.now result }
+        ensures store { LeavesStore StoreFault.Fault self.old self.new result }
+    {
+        let found = H::half(form);
+        if !found.equals(h) {
+            return Err(StoreFault::WrongHash { hash: *h, found });
+        }
+        self.put_hashed::<H>(alloc, h, form)
+    }
+
+    /// The same of a form whose hash the caller knows, which isn't hashed again.
+    pub fn put_hashed<H: NodeHash>(
+        &mut self,
+        alloc: Global,
+        h: &Hash32,
+        form: &[u8],
+    ) -> Result<Put, StoreFault>
+        requires own { H.half form.now ≡ h.now }
+        ensures puts { IsTrue Sh.B.tells → Puts self.old h.now form.now result self.new }
+        ensures wrong { TellsWrongHash H.half h.now form.now result }
+        ensures store { LeavesStore StoreFault.Fault self.old self.new result }
+    {
+        if let Some(old) = get_either(&mut self.writable, &mut self.archive, alloc, h)? {
+            return compare(alloc, h, old, form);
+        }
+        self.noted.carry(h)?;
+        self.writable.put(alloc, h, form)?;
+        Ok(Put::New)
+    }
+
+    /// Copies a form from the archive to the writable backend, where that lacks it. The store's one map
+    /// stays, also after an error.
+    pub fn forward(&mut self, alloc: Global, h: &Hash32) -> Result<Moved, StoreFault>
+        ensures nodes { IsTrue Sh.B.tells → nodes_of self.new ≡ nodes_of self.old }
+        ensures moves { IsTrue Sh.B.tells → Moves self.old.writable self.old.archive h.now result self.new.writable }
+        ensures there { IsTrue Sh.B.tells → OnOk result (map.get self.new.writable h.now ≡ map.get (nodes_of self.old) h.now) }
+        ensures archive { IsTrue Sh.B.tells → self.new.archive ≡ self.old.archive }
+        ensures store { LeavesStore StoreFault.Fault self.old self.new result }
+        ensures kind { IfErr result IsPlain }
+    {
+        let (moved, _) = self.forward_form(alloc, h)?;
+        Ok(moved)
+    }
+
+    /// The same, and it hands out the form that was copied or found there, which is looked for once.
+    pub fn forward_form(
+        &mut self,
+        alloc: Global,
+        h: &Hash32,
+    ) -> Result<(Moved, Option<Blob>), StoreFault>
+        ensures nodes { IsTrue Sh.B.tells → nodes_of self.new ≡ nodes_of self.old }
+        ensures moves { IsTrue Sh.B.tells → Moves self.old.writable self.old.archive h.now (moved_of result) self.new.writable }
+        ensures form { IsTrue Sh.B.tells → IfOk result (λ r. r.1 ≡ map.get (nodes_of self.old) h.now) }
+        ensures there { IsTrue Sh.B.tells → OnOk result (map.get self.new.writable h.now ≡ map.get (nodes_of self.old) h.now) }
+        ensures archive { IsTrue Sh.B.tells → self.new.archive ≡ self.old.archive }
+        ensures store { LeavesStore StoreFault.Fault self.old self.new result }
+        ensures kind { IfErr result IsPlain }
+    {
+        self.noted.carry(h)?;
+        let moved = copy_form(&mut self.writable, &mut self.archive, alloc, h)?;
+        Ok(moved)
+    }
+
+    /// The least hash that comes after another one, or the least of all.
+    pub fn next(
+        &mut self,
+        alloc: Global,
+        after: Option<&Hash32>,
+    ) -> Result<Option<Hash32>, StoreFault>
+        ensures next { IsTrue Sh.B.tells → IfOk result (IsNext (nodes_of self.old) (option_copied after.entry)) }
+        ensures same { IsTrue Sh.B.tells → Counted self.old self.new }
+        ensures unasked { self.new.gets ≡ self.old.gets }
+        ensures store { LeavesStore StoreFault.Fault self.old self.new result }
+        ensures kind { IfErr result IsPlain }
+    {
+        let next = next_of_either(&mut self.writable, &mut self.archive, alloc, after)?;
+        Ok(next)
+    }
+}
+
+/// What a put of a form comes to where one is held.
+fn compare(alloc: Global, h: &Hash32, old: Blob, form: &[u8]) -> Result<Put, StoreFault>
+    ensures { Compares h.now old form.now result }
+{
+    if old.bytes() == form {
+        return Ok(Put::Same);
+    }
+    let new = Blob::from_slice(alloc, form)?;
+    Err(StoreFault::Clash { hash: *h, old, new })
+}

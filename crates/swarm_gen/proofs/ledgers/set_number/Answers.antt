@@ -1,7 +1,0 @@
-use Rattle.std.proofs.Common.{rules}
-use Rattle.swarm_gen.specs.Ledgers.{eight}
-use Rattle.swarm_gen.proofs.ledgers.set_number.Goals as goal
-
-pub returns-in_ok-set-in-Ok-clause-items : goal.returns-in_ok-set-in-Ok-clause-items
-unfolding eight
-returns-in_ok-set-in-Ok-clause-items g c = search rules

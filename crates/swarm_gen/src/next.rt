@@ -1,0 +1,214 @@
+//! The next ledger, as it is sent: its header over the state's root and that of four transactions, and of both maps the nodes that are
+//! others than in the ledger before.
+ghost use Rattle.std.specs.Prelude.{◌&&◌, ◌≡◌, ◌-◌, ◌≤◌, [], true, false, map, IfOk, IfSome, IsTrue, OnOk, MatchOption};
+ghost use Rattle.std.specs.List.{list_all, All};
+ghost use Rattle.ledger_spec.specs.declared.Kind.TheVariants.{State, Tx};
+ghost use Rattle.ledger_spec.specs.Bytes.{is_nonzero};
+ghost use Rattle.swarm_gen.specs.Plans.{IsPlan};
+ghost use Rattle.swarm_gen.specs.Ledgers.{state_of, txs_of, state_nodes, are_nonzero, is_made, hash_of_ledger};
+ghost use Rattle.swarm_gen.specs.Swarm.{nodes_before, ledger_of};
+ghost use Rattle.swarm_gen.specs.Adding.{ledger_from};
+ghost use Rattle.swarm_gen.specs.Changed.{IsChange};
+ghost use Rattle.swarm_gen.specs.Sending.{sent as sent_as, below};
+ghost use Rattle.map_changes.specs.Tracking.{leaves_in, items_in, shown_in};
+ghost use Rattle.swarm_gen.specs.Serving.{IsOfLedger};
+ghost use Rattle.ledger_machine.specs.Scripts.{IsLedgerMap};
+
+use crate::Plan;
+use crate::lines::{Head, Sent};
+use crate::state::{key, set_number};
+use half_hash::{Blob, Hash32, Memory, NodeHash};
+use ledger_header::Header;
+use map_changes::{PlacedNode, Root, TrackedMap};
+use shamap_node::Kind;
+use std::alloc::Global;
+
+/// All drops that there are in each ledger.
+const DROPS: u64 = 100_000_000_000_000_000;
+
+/// What the numbers of transactions' keys begin with.
+const TX_BASE: u64 = 4_294_967_296;
+
+/// A ledger as it is sent.
+#[derive(Drop)]
+pub(crate) struct Next {
+    pub(crate) head: Head,
+    pub(crate) state_nodes: Vec<Sent>,
+    pub(crate) tx_nodes: Vec<Sent>,
+}
+
+/// The transactions of a ledger.
+fn txs<H: NodeHash>(alloc: Global, plan: &Plan, seq: u32) -> Result<TrackedMap<H>, Memory>
+    ensures { IfOk result (λ txs. (leaves_in txs ≡ Tx) × (items_in txs ≡ txs_of H.half plan.now seq) × (shown_in H.half txs ≡ [])) }
+{
+    let mut txs = TrackedMap::<H>::new(alloc, Kind::Tx);
+    for m in 0..4 {
+        let key = key::<H>(plan, TX_BASE + 16 * u64::from(seq) + m);
+        set_number::<H>(alloc, &mut txs, key, m)?;
+    }
+    Ok(txs)
+}
+
+/// Whether none of the nodes has the zero hash.
+fn are_all_nonzero(nodes: &[PlacedNode]) -> bool
+    ensures { result ≡ list_all (λ p. is_nonzero p.hash) nodes.now }
+{
+    for node in nodes {
+        if node.hash.is_zero() {
+            return false;
+        }
+    }
+    true
+}
+
+/// Whether neither the hash nor that of a node is zero.
+fn is_fine(hash: &Hash32, state_nodes: &[PlacedNode], tx_nodes: &[PlacedNode]) -> bool
+    ensures { result ≡ (list_all (λ p. is_nonzero p.hash) state_nodes.now
+        && list_all (λ p. is_nonzero p.hash) tx_nodes.now && is_nonzero hash.now) }
+{
+    let state = are_all_nonzero(state_nodes);
+    let tx = are_all_nonzero(tx_nodes);
+    let header = !hash.is_zero();
+    state && tx && header
+}
+
+/// The nodes below the root, as they are sent.
+fn sent(alloc: Global, kind: Kind, nodes: Vec<PlacedNode>) -> Result<Vec<Sent>, Memory>
+    requires { IsLedgerMap kind }
+    ensures sent { IfOk result (λ sent. sent.items ≡ map (sent_as kind) (below nodes.items)) }
+    ensures maps { IfOk result (λ sent. All IsOfLedger sent.items) }
+{
+    let mut sent = Vec::new(alloc);
+    for node in nodes {
+        if node.id.depth() > 0 {
+            sent.push(Sent {
+                kind,
+                id: node.id,
+                blob: node.blob,
+            })?;
+        }
+    }
+    Ok(sent)
+}
+
+/// A ledger with this head and the nodes below its roots, as it is sent.
+fn next_of(
+    alloc: Global,
+    head: Head,
+    state_nodes: Vec<PlacedNode>,
+    tx_nodes: Vec<PlacedNode>,
+) -> Result<Next, Memory>
+    ensures head { IfOk result (λ n. n.head ≡ head) }
+    ensures state { IfOk result (λ n. n.state_nodes.items ≡ map (sent_as State) (below state_nodes.items)) }
+    ensures tx { IfOk result (λ n. n.tx_nodes.items ≡ map (sent_as Tx) (below tx_nodes.items)) }
+    ensures maps { IfOk result (λ n. All IsOfLedger n.state_nodes.items × All IsOfLedger n.tx_nodes.items) }
+{
+    let state_nodes = sent(alloc, Kind::State, state_nodes)?;
+    let tx_nodes = sent(alloc, Kind::Tx, tx_nodes)?;
+    Ok(Next {
+        head,
+        state_nodes,
+        tx_nodes,
+    })
+}
+
+/// What a ledger changes, and its roots.
+#[derive(Drop)]
+struct Changes {
+    state_root: Root,
+    tx_root: Root,
+    state_nodes: Vec<PlacedNode>,
+    tx_nodes: Vec<PlacedNode>,
+}
+
+/// What the ledger of a sequence changes, or none where one of its maps is empty.
+fn take_all<H: NodeHash>(
+    alloc: Global,
+    plan: &Plan,
+    state: &mut TrackedMap<H>,
+    seq: u32,
+) -> Result<Option<Changes>, Memory>
+    requires leaves { leaves_in state.old ≡ State }
+    requires items { items_in state.old ≡ state_of H.half plan.now seq }
+    requires shown { shown_in H.half state.old ≡ nodes_before H.half plan.now seq }
+    ensures made { IfOk result (λ changes. MatchOption changes (is_made H.half plan.now seq ≡ false)
+        (λ c. IsChange H.half plan.now seq c.state_root c.tx_root c.state_nodes.items c.tx_nodes.items)) }
+    ensures leaves { OnOk result (leaves_in state.new ≡ State) }
+    ensures items { OnOk result (items_in state.new ≡ state_of H.half plan.now seq) }
+    ensures shown { OnOk result (shown_in H.half state.new ≡ state_nodes H.half plan.now seq) }
+{
+    let mut txs = txs::<H>(alloc, plan, seq)?;
+    let state_nodes = state.take_changes(alloc)?;
+    let tx_nodes = txs.take_changes(alloc)?;
+    let Some(state_root) = state.root(alloc)? else {
+        return Ok(None);
+    };
+    let Some(tx_root) = txs.root(alloc)? else {
+        return Ok(None);
+    };
+    Ok(Some(Changes {
+        state_root,
+        tx_root,
+        state_nodes,
+        tx_nodes,
+    }))
+}
+
+/// The ledger of a sequence, as it is sent, or none where it isn't made.
+pub(crate) fn next_ledger<H: NodeHash>(
+    alloc: Global,
+    plan: &Plan,
+    state: &mut TrackedMap<H>,
+    parent: Hash32,
+    seq: u32,
+) -> Result<Option<Next>, Memory>
+    requires plan { IsPlan plan.now }
+    requires seq { (1 ≤ seq) × (seq ≤ 200) }
+    requires leaves { leaves_in state.old ≡ State }
+    requires items { items_in state.old ≡ state_of H.half plan.now seq }
+    requires shown { shown_in H.half state.old ≡ nodes_before H.half plan.now seq }
+    requires nonzero { are_nonzero H.half (nodes_before H.half plan.now seq) ≡ true }
+    requires parent { parent ≡ hash_of_ledger H.half plan.now (seq - 1) }
+    ensures made { IfOk result (λ next. MatchOption next (is_made H.half plan.now seq ≡ false)
+        (λ n. (is_made H.half plan.now seq ≡ true)
+        × (ledger_from n.head n.state_nodes.items n.tx_nodes.items ≡ ledger_of H.half plan.now seq))) }
+    ensures leaves { OnOk result (leaves_in state.new ≡ State) }
+    ensures items { OnOk result (items_in state.new ≡ state_of H.half plan.now seq) }
+    ensures shown { IfOk result (λ next. IfSome next (λ _. (shown_in H.half state.new ≡ state_nodes H.half plan.now seq)
+        × (are_nonzero H.half (state_nodes H.half plan.now seq) ≡ true))) }
+    ensures ranges { IfOk result (λ next. IfSome next (λ n. IsTrue (is_nonzero n.head.hash)
+        × All IsOfLedger n.state_nodes.items × All IsOfLedger n.tx_nodes.items)) }
+{
+    let Some(changes) = take_all::<H>(alloc, plan, state, seq)? else {
+        return Ok(None);
+    };
+    let Changes {
+        state_root,
+        tx_root,
+        state_nodes,
+        tx_nodes,
+    } = changes;
+    let header = Header {
+        seq,
+        drops: DROPS,
+        parent,
+        tx_root: tx_root.hash,
+        state_root: state_root.hash,
+        parent_close: 10 * (seq - 1),
+        close: 10 * seq,
+        resolution: 10,
+        flags: 0,
+    };
+    let hash = header.hash::<H>();
+    if !is_fine(&hash, &state_nodes, &tx_nodes) {
+        return Ok(None);
+    }
+    let head = Head {
+        seq,
+        hash,
+        header: Blob::from_slice(alloc, &header.encode())?,
+        state_root: state_root.blob,
+        tx_root: tx_root.blob,
+    };
+    Ok(Some(next_of(alloc, head, state_nodes, tx_nodes)?))
+}
