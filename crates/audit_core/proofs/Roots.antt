@@ -14,7 +14,7 @@ use Rattle.ledger_spec.specs.Bytes.{Bytes, Hash, Half, Items, branches}
 use Rattle.ledger_spec.specs.Forms.{leaf, IsHeld, inner_prefix, leaf_form, hash_or_zero}
 use Rattle.ledger_spec.specs.Findings.{held_of}
 use Rattle.ledger_spec.specs.Tree.{Entry, AreItems, part, is_alone, form_of_part, forms_of_part, forms_of, root_of}
-use Rattle.ledger_spec.proofs.Readings.{sees}
+use Rattle.ledger_spec.proofs.Seeing.{sees}
 use Rattle.tree_laws.proofs.Trees.{Sized, at_itself, under_whole, each_in_part, alone_nil, leaf_no_inner, size_or_zero, concat_map}
 use Rattle.tree_laws.proofs.Trees.{sizes_map, hashes_are, hash_at_branch}
 use Rattle.tree_laws.proofs.Shapes.{key_size}

@@ -20,7 +20,8 @@ use Rattle.cow_map.specs.Ways.{beside_at, removal_stop_at, Goes, IsFailure}
 use Rattle.run_io.specs.Bytes.{Rose}
 use Rattle.cow_map.specs.declared.fault.MapFault.{MapFault}
 use Rattle.cow_map.specs.declared.fault.MapFault.TheVariants as causes
-use Rattle.cow_map.proofs.Beside.{beside_none, beside_one, beside_fork, goes_free}
+use Rattle.cow_map.proofs.Lone.{beside_none, beside_one, beside_fork}
+use Rattle.cow_map.proofs.Beside.{goes_free}
 use Rattle.cow_map.proofs.Standing.{Below, stands_into}
 use Rattle.cow_map.proofs.Counting.{links_by, one_leads}
 use Rattle.cow_map.proofs.Settling.{only_kid}

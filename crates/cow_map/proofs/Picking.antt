@@ -20,7 +20,8 @@ use Rattle.cow_map.proofs.Leading.{body_one, body_fork, body_none, seen_one, see
 use Rattle.tree_laws.proofs.Subtrees.{inner_above, kid_forms, forms_none, forms_one, forms_fork as forms_crowd}
 use Rattle.cow_map.proofs.Branches.{AllUnder, all_range}
 use Rattle.cow_map.proofs.Standing.{Below, stands_into, stands_under}
-use Rattle.cow_map.proofs.Sealing.{crowded, part_kid, part_root, by_index, flat_each, hash_law, one_long, sound_form, own_leaf_kind}
+use Rattle.cow_map.proofs.Filters.{crowded, part_kid, part_root}
+use Rattle.cow_map.proofs.Sealing.{by_index, flat_each, hash_law, one_long, sound_form, own_leaf_kind}
 use Rattle.cow_map.proofs.Sealing.{joined_links}
 use Rattle.cow_map.proofs.Adding.{form_leaf, form_inner, made_leaf, made_inner, made_own}
 

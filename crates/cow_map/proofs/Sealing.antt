@@ -1,13 +1,13 @@
 -- The hash of a link is that of the tree of the map that it stands for.
-use Rattle.std.proofs.Common.{◌≡◌, ℕ, zero, suc, ◌+◌, ◌-◌, ◌<◌, ◌≤◌, ◌==◌, Bool, true, false, cond, List, [], ◌∷◌, ◌++◌, length, map}
-use Rattle.std.proofs.Common.{Option, None, Some, refl, sym, ap, ◌∙◌, arith, IsTrue, nat_eq, slice_index_or, append_assoc, length-append}
-use Rattle.std.proofs.Common.{replicate, not, if◌then◌else◌, filter}
-use Rattle.std.specs.List.{slice_get, flat_map, range_with_len, AllByRecursion, starts_with, concat, list_all}
+use Rattle.std.proofs.Common.{◌≡◌, ℕ, zero, suc, ◌+◌, ◌<◌, ◌==◌, Bool, true, false, List, [], ◌∷◌, ◌++◌, length, map}
+use Rattle.std.proofs.Common.{Option, None, Some, refl, sym, ap, ◌∙◌, arith, IsTrue, slice_index_or, append_assoc, length-append}
+use Rattle.std.proofs.Common.{replicate, not, if◌then◌else◌}
+use Rattle.std.specs.List.{slice_get, flat_map, range_with_len, concat, list_all}
 use Rattle.std.specs.Option.{option_map}
 use Rattle.std.proofs.lemmas.Bool.{and_parts, eqb-true}
 use Rattle.std.proofs.Math.Seq.{get_or-append_seam}
 use Rattle.ledger_spec.proofs.Readings.{holds}
-use Rattle.nib_path.specs.Paths.{nibbles, lies_under}
+use Rattle.nib_path.specs.Paths.{lies_under}
 use Rattle.ledger_spec.specs.declared.Kind.{Kind}
 use Rattle.ledger_spec.specs.declared.Kind.TheVariants.{State, Tx, Set}
 use Rattle.ledger_spec.specs.declared.ShapeFault.TheVariants.{WrongKind, LeafElsewhere, LeafAtRoot}
@@ -18,103 +18,18 @@ use Rattle.ledger_spec.specs.Forms as held
 use Rattle.ledger_spec.specs.Forms.{Held, Form, leaf_form, inner_prefix, hash_or_zero}
 use Rattle.ledger_spec.specs.Rules.{fault_of, same_kind}
 use Rattle.ledger_spec.specs.Findings.{sight_of, judged, seen_as, held_of, sound}
-use Rattle.ledger_spec.specs.Tree.{Entry, part, is_alone, form_of_part, form_at, root_of}
+use Rattle.ledger_spec.specs.Tree.{Entry, part, form_of_part, form_at, root_of}
 use Rattle.cow_map.specs.declared.link.Link.{Link}
 use Rattle.cow_map.specs.declared.link.Link.TheVariants.{Empty, Unloaded, Own}
 use Rattle.cow_map.specs.Bodies.{Body, leaf, inner, CowTree}
-use Rattle.cow_map.specs.Trees.{Found, none, one, fork, lacks, breaks, found_at, found_body, fewest, Forks, Holds, StandsAt, StandsFor}
+use Rattle.cow_map.specs.Trees.{Found, none, one, fork, lacks, breaks, found_at, found_body, Forks, Holds, StandsAt, StandsFor}
 use Rattle.cow_map.specs.Trees.{link_to}
 use Rattle.cow_map.specs.Seals.{hash_by, form_below, hash_at}
-use Rattle.tree_laws.proofs.Subtrees.{inner_above, form_none, form_one, form_fork}
-use Rattle.cow_map.proofs.Branches.{AllUnder, flat_split, flat_same, all_range, under_front}
+use Rattle.tree_laws.proofs.Subtrees.{form_none, form_one}
+use Rattle.cow_map.proofs.Branches.{AllUnder, flat_same, all_range}
 use Rattle.cow_map.proofs.Standing.{Below, stands_into, stands_under}
 use Rattle.cow_map.proofs.Leading.{body_one, body_fork, body_none, seen_one, seen_fork, seen_none}
-
--- a key lies below one branch alone
-one_branch : (ns path : List ℕ) (b c : ℕ) → starts_with nat_eq ns (path ++ b ∷ []) ≡ true → starts_with nat_eq ns (path ++ c ∷ []) ≡ true
-    → b ≡ c
-one_branch [] [] b c h g = cc
-one_branch [] (p ∷ path) b c h g = cc
-one_branch (n ∷ ns) [] b c h g =
-    let first = eqb-true b n (and_parts (nat_eq b n) true h).0 in
-    let second = eqb-true c n (and_parts (nat_eq c n) true g).0 in
-    first ∙ sym second
-one_branch (n ∷ ns) (p ∷ path) b c h g =
-    one_branch ns path b c (and_parts (nat_eq p n) (starts_with nat_eq ns (path ++ b ∷ [])) h).1
-    (and_parts (nat_eq p n) (starts_with nat_eq ns (path ++ c ∷ [])) g).1
-
--- filters of entries
-module _ {X : Type 0} where
-  filter_both : (p q : X → Bool) → ((x : X) → q x ≡ true → p x ≡ true) → (xs : List X) → filter q (filter p xs) ≡ filter q xs
-  filter_both p q f [] = refl
-  filter_both p q f (x ∷ xs) = by (q x) (p x) refl refl (filter_both p q f xs)
-    where
-      by : (a b : Bool) → q x ≡ a → p x ≡ b → filter q (filter p xs) ≡ filter q xs → filter q (filter p (x ∷ xs)) ≡ filter q (x ∷ xs)
-      by true true e g rest = ap (λ t. filter q (cond t (x ∷ filter p xs) (filter p xs))) g ∙ ap (λ ys. cond (q x) (x ∷ ys) ys) rest
-      by true false e g rest = let wrong : true ≡ false = sym (f x e) ∙ g in cc
-      by false true e g rest = ap (λ t. filter q (cond t (x ∷ filter p xs) (filter p xs))) g ∙ ap (λ ys. cond (q x) (x ∷ ys) ys) rest
-      by false false e g rest = ap (λ t. filter q (cond t (x ∷ filter p xs) (filter p xs))) g ∙ rest
-          ∙ sym (ap (λ t. cond t (x ∷ filter q xs) (filter q xs)) e)
-
-  filter_append : (q : X → Bool) (xs ys : List X) → filter q (xs ++ ys) ≡ filter q xs ++ filter q ys
-  filter_append q [] ys = refl
-  filter_append q (x ∷ xs) ys = by (q x) refl (filter_append q xs ys)
-    where
-      by : (a : Bool) → q x ≡ a → filter q (xs ++ ys) ≡ filter q xs ++ filter q ys
-          → filter q (x ∷ xs ++ ys) ≡ filter q (x ∷ xs) ++ filter q ys
-      by true e rest = ap (λ t. cond t (x ∷ filter q (xs ++ ys)) (filter q (xs ++ ys))) e ∙ ap (λ zs. x ∷ zs) rest
-          ∙ sym (ap (λ t. cond t (x ∷ filter q xs) (filter q xs) ++ filter q ys) e)
-      by false e rest = ap (λ t. cond t (x ∷ filter q (xs ++ ys)) (filter q (xs ++ ys))) e ∙ rest
-          ∙ sym (ap (λ t. cond t (x ∷ filter q xs) (filter q xs) ++ filter q ys) e)
-
-  filter_all : (q : X → Bool) (xs : List X) → AllByRecursion (λ x. q x ≡ true) xs → filter q xs ≡ xs
-  filter_all q [] h = refl
-  filter_all q (x ∷ xs) h = ap (λ t. cond t (x ∷ filter q xs) (filter q xs)) h.0 ∙ ap (λ zs. x ∷ zs) (filter_all q xs h.1)
-
-  filter_none : (q : X → Bool) (xs : List X) → AllByRecursion (λ x. q x ≡ true → ⊥) xs → filter q xs ≡ []
-  filter_none q [] h = refl
-  filter_none q (x ∷ xs) h = by (q x) refl (filter_none q xs h.1)
-    where
-      by : (a : Bool) → q x ≡ a → filter q xs ≡ [] → filter q (x ∷ xs) ≡ []
-      by true e rest = absurd (h.0 e)
-      by false e rest = ap (λ t. cond t (x ∷ filter q xs) (filter q xs)) e ∙ rest
-
-  filter_flat : (q : X → Bool) (kids : ℕ → List X) (cs : List ℕ) → AllByRecursion (λ c. filter q (kids c) ≡ []) cs
-      → filter q (flat_map kids cs) ≡ []
-  filter_flat q kids [] h = refl
-  filter_flat q kids (c ∷ cs) h = filter_append q (kids c) (flat_map kids cs) ∙ (λ i. h.0 i ++ filter_flat q kids cs h.1 i)
-
-all_map : {X : Type 0} (P Q : X → Type 0) (xs : List X) → ((x : X) → P x → Q x) → AllByRecursion P xs → AllByRecursion Q xs
-all_map P Q [] f h = tt
-all_map P Q (x ∷ xs) f h = (f x h.0, all_map P Q xs f h.1)
-
-append_none : {X : Type 0} (xs : List X) → xs ++ [] ≡ xs
-append_none [] = refl
-append_none (x ∷ xs) = ap (λ ys. x ∷ ys) (append_none xs)
-
--- the part below a branch is what the branch holds
-pub part_kid : (all : List Entry) (path : List ℕ) (kids : ℕ → List Entry) (b : ℕ) → b < 16 → part all path ≡ flat_map kids branches
-    → ((c : ℕ) → c < 16 → AllUnder (path ++ c ∷ []) (kids c))
-    → part all (path ++ b ∷ []) ≡ kids b
-part_kid all path kids b low whole under =
-    let q : Entry → Bool = λ e. lies_under (path ++ b ∷ []) e.0 in
-    let outside : (c : ℕ) → c < 16 → (c ≡ b → ⊥) → filter q (kids c) ≡ [] =
-    λ c in_16 apart. filter_none q (kids c)
-    (all_map (λ (e : Entry). IsTrue (lies_under (path ++ c ∷ []) e.0)) (λ (e : Entry). q e ≡ true → ⊥) (kids c)
-    (λ e at here. apart (one_branch (nibbles e.0) path c b at here)) (under c in_16)) in
-    let front : filter q (flat_map kids (range_with_len 0 b)) ≡ [] =
-    filter_flat q kids (range_with_len 0 b)
-    (all_range (λ c. filter q (kids c) ≡ []) b 0 (λ c at below. outside c (omega arith) (omega arith))) in
-    let back : filter q (flat_map kids (range_with_len (b + 1) (15 - b))) ≡ [] =
-    filter_flat q kids (range_with_len (b + 1) (15 - b))
-    (all_range (λ c. filter q (kids c) ≡ []) (15 - b) (b + 1) (λ c at below. outside c (omega arith) (omega arith))) in
-    sym (filter_both (λ (e : Entry). lies_under path e.0) q (λ e at. under_front (nibbles e.0) path b at) all)
-    ∙ ap (filter q) (whole ∙ flat_split kids b low)
-    ∙ filter_append q (flat_map kids (range_with_len 0 b) ++ kids b) (flat_map kids (range_with_len (b + 1) (15 - b)))
-    ∙ ap (λ xs. xs ++ filter q (flat_map kids (range_with_len (b + 1) (15 - b))))
-    (filter_append q (flat_map kids (range_with_len 0 b)) (kids b))
-    ∙ (λ i. (front i ++ filter_all q (kids b) (under b low) i) ++ back i)
-    ∙ append_none (kids b)
+use Rattle.cow_map.proofs.Filters.{part_kid, part_fork, part_root}
 
 -- what is held of the source
 pub sound_held : (rules : Held → Option ShapeFault) (held_is : Option Held) (n : Held) → judged rules held_is ≡ sound n
@@ -224,19 +139,6 @@ module _ (half : Half) (size : (x : Bytes) → length (half x) ≡ 32) (stored :
       let is = sound_form half size (λ n. fault_of n None kind path) (stored h) (held.inner seen.0) seen.1 in
       proper h is.0 is.1 ∙ ap half is.2.1 ∙ ap (λ xs. half (inner_prefix ++ xs)) (joined_links hash empty other seen.0 is.2.0.sizes)
       ∙ ap (λ ls. half (inner_prefix ++ flat_map hash ls)) (sym seen.2)
-
--- the form at a place, by what lies there
--- enough entries aren't one alone
-pub crowded : (path : List ℕ) (e : Entry) (others : List Entry) → fewest path ≤ length (e ∷ others) → is_alone path others ≡ false
-crowded [] e others enough = refl
-crowded (n ∷ path) e [] enough = absurd (omega arith)
-crowded (n ∷ path) e (f ∷ others) enough = refl
-
-part_fork : (half : Half) (kind : Kind) (all : List Entry) (left : ℕ) (path : List ℕ) (items : List Entry) → fewest path ≤ length items
-    → form_of_part half kind all (suc left) path items ≡ Some (inner_above half kind all left path)
-part_fork half kind all left [] [] enough = absurd (omega arith)
-part_fork half kind all left (n ∷ path) [] enough = absurd (omega arith)
-part_fork half kind all left path (e ∷ others) enough = form_fork half kind all left path e others (crowded path e others enough)
 
 -- a leaf stands below the root
 long_cond : (a b : Bool) (f g : ShapeFault) (k key : Hash) (v bytes : Bytes)
@@ -356,13 +258,6 @@ module _ (half : Half) (size : (x : Bytes) → length (half x) ≡ 32) (stored :
   hash_law all (suc left) path link items stands whole =
       law_suc all left (hash_law all left) path link items whole (found_at half stored kind nodes path link) refl
       (stands_into half stored kind nodes (suc left) path link items (found_at half stored kind nodes path link) refl stands)
-
-pub part_root : (items : List Entry) → part items [] ≡ items
-part_root items = filter_all (λ (e : Entry). lies_under [] e.0) items (everywhere items)
-  where
-    everywhere : (es : List Entry) → AllByRecursion (λ (e : Entry). lies_under [] e.0 ≡ true) es
-    everywhere [] = tt
-    everywhere (e ∷ es) = (refl, everywhere es)
 
 -- the hash of the top is the root hash of the map
 pub root_law : (half : Half) → ((x : Bytes) → length (half x) ≡ 32) → (stored : Lookup) → AreOwn half stored

@@ -29,7 +29,7 @@ use Rattle.cow_map.proofs.Gathered.{stands_anywhere}
 use Rattle.cow_map.proofs.Leading.{sight_judged}
 use Rattle.cow_map.proofs.Moving.{in_head}
 use Rattle.cow_map.proofs.Needing.{forked, left_held}
-use Rattle.cow_map.proofs.Sources.{counts, counts_by}
+use Rattle.cow_map.proofs.BranchWalks.{counts, counts_by}
 use Rattle.cow_map.proofs.Standing.{Below, stands_into}
 
 -- as many links lead somewhere as hashes aren't zero

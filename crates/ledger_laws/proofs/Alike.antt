@@ -19,7 +19,8 @@ use Rattle.ledger_spec.proofs.Growth.{found, met}
 use Rattle.ledger_spec.proofs.ReachLaws.{Grows}
 use Rattle.ledger_machine.specs.Sound.{IsWholeLedger}
 use Rattle.ledger_laws.proofs.SoundForms.{in_head}
-use Rattle.ledger_laws.proofs.Closure.{sound_held, held_inner, sound_header, whole_all}
+use Rattle.ledger_laws.proofs.StoredWhole.{sound_held, held_inner, sound_header}
+use Rattle.ledger_laws.proofs.Closure.{whole_all}
 use Rattle.ledger_laws.proofs.Ways.{IsNamed, branch_named, root_named}
 
 -- the places from one on, where its hash isn't zero

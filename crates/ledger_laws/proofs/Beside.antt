@@ -1,4 +1,4 @@
--- A step of a command that names no session is one whatever sessions are open.
+-- A state with other sessions, and the answers of commands beside it.
 use Rattle.std.proofs.Common.{◌≡◌, ℕ, Bool, true, false, is_some, if◌then◌else◌, List, [], ◌∷◌, Option, None, Some, refl, sym, ap, ◌∙◌}
 use Rattle.std.specs.FinMap as finite
 use Rattle.std.specs.FinSet as set
@@ -6,8 +6,6 @@ use Rattle.ledger_spec.specs.Maps.{ForActor}
 use Rattle.ledger_spec.specs.declared.Kind.{Kind}
 use Rattle.ledger_spec.specs.Bytes.{Bytes, Hash, Half}
 use Rattle.ledger_spec.specs.Forms.{Held}
-use Rattle.ledger_machine.specs.declared.commands.Command.{Command}
-use Rattle.ledger_machine.specs.declared.commands.Command.TheVariants as command
 use Rattle.ledger_machine.specs.declared.replies.WantReply.{WantReply}
 use Rattle.ledger_machine.specs.declared.replies.WantReply.TheVariants as want
 use Rattle.ledger_spec.specs.declared.replies.CheckReply.{CheckReply}
@@ -20,16 +18,12 @@ use Rattle.ledger_machine.specs.declared.replies.Reply.{Reply}
 use Rattle.ledger_machine.specs.declared.replies.Reply.TheVariants as says
 use Rattle.ledger_spec.specs.Bases.{base_forms}
 use Rattle.ledger_spec.specs.Acquiring.{is_bad, after_outcome, after_judging}
-use Rattle.ledger_machine.specs.State.{State, Session, form_in, with_form, with_forms, with_peers, stored_seq}
-use Rattle.ledger_machine.specs.Commands.{IsBeside}
-use Rattle.ledger_machine.specs.Want.{want_reply, after_want}
-use Rattle.ledger_machine.specs.Peer.{after_peer}
-use Rattle.ledger_machine.specs.Check.{check_reply, after_check}
+use Rattle.ledger_machine.specs.State.{State, Session, form_in, with_form, with_forms, with_peers}
+use Rattle.ledger_machine.specs.Want.{after_want}
+use Rattle.ledger_machine.specs.Check.{after_check}
 use Rattle.ledger_machine.specs.Base.{after_base, after_node, node_forms}
-use Rattle.ledger_machine.specs.Ticks.{tick_reply, after_tick}
-use Rattle.ledger_machine.specs.Views.{after_unview}
-use Rattle.ledger_machine.specs.Reading.{view_root}
-use Rattle.ledger_machine.specs.Steps.{Does, IsAfter, Gives, Gets, Pages, Answered, Refused, IsRow, Outcomes}
+use Rattle.ledger_machine.specs.Ticks.{after_tick}
+use Rattle.ledger_machine.specs.Steps.{IsAfter, Gives, Gets, Pages}
 
 module _ (half : Half) (es : ForActor Session) where
   -- the state with these sessions
@@ -52,20 +46,20 @@ module _ (half : Half) (es : ForActor Session) where
       ap (λ (x : State). with_forms half x forms) (form_beside s form) ∙ forms_beside (with_form half s form) forms
 
   -- what a rotation keeps is no part of the sessions
-  after_beside : (t t' s' : State) → t' ≡ beside t → IsAfter t s' → IsAfter t' (beside s')
+  pub after_beside : (t t' s' : State) → t' ≡ beside t → IsAfter t s' → IsAfter t' (beside s')
   after_beside t t' s' same e = ap beside e ∙ sym (ap (λ (x : State). record x { shaded = s'.shaded }) same)
 
-  gives_beside : (r : Reply) (t t' : State) (reply : Reply) (s' : State) → t' ≡ beside t → Gives r t reply s' → Gives r t' reply (beside s')
+  pub gives_beside : (r : Reply) (t t' : State) (reply : Reply) (s' : State) → t' ≡ beside t → Gives r t reply s' → Gives r t' reply (beside s')
   gives_beside r t t' reply s' same g = record { says = g.says; after = after_beside t t' s' same g.after }
 
-  want_beside : (s : State) (t : Hash) (seq : ℕ) (r : WantReply) → after_want (beside s) t seq r ≡ beside (after_want s t seq r)
+  pub want_beside : (s : State) (t : Hash) (seq : ℕ) (r : WantReply) → after_want (beside s) t seq r ≡ beside (after_want s t seq r)
   want_beside s t seq want.Opened = refl
   want_beside s t seq want.Open = refl
   want_beside s t seq want.Listed = refl
   want_beside s t seq (want.BelowFloor n) = refl
   want_beside s t seq want.TooMany = refl
 
-  check_beside : (s : State) (t : Hash) (seq : ℕ) (r : CheckReply) → after_check (beside s) t seq r ≡ beside (after_check s t seq r)
+  pub check_beside : (s : State) (t : Hash) (seq : ℕ) (r : CheckReply) → after_check (beside s) t seq r ≡ beside (after_check s t seq r)
   check_beside s t seq check.Complete = refl
   check_beside s t seq (check.Need peer places) = refl
   check_beside s t seq (check.SeqDiffers asked found) = refl
@@ -76,80 +70,33 @@ module _ (half : Half) (es : ForActor Session) where
   check_beside s t seq check.NoPeer = refl
   check_beside s t seq check.NotOpen = refl
 
-  tick_beside : (s : State) (t : Hash) (r : TickReply) → after_tick (beside s) t r ≡ beside (after_tick s t r)
+  pub tick_beside : (s : State) (t : Hash) (r : TickReply) → after_tick (beside s) t r ≡ beside (after_tick s t r)
   tick_beside s t (tick.Timeout n) = refl
   tick_beside s t (tick.GaveUp n) = refl
   tick_beside s t tick.NotOpen = refl
 
-  base_beside : (s : State) (p : ℕ) (t : Hash) (head : Bytes) (state tx : Option Bytes) (r : Reply)
+  pub base_beside : (s : State) (p : ℕ) (t : Hash) (head : Bytes) (state tx : Option Bytes) (r : Reply)
       → after_base half (beside s) p t head state tx r ≡ beside (after_base half s p t head state tx r)
   base_beside s p t head state tx (says.Base (base.Parts h a b)) =
       ap (λ (x : State). with_peers x t (after_judging p (record { header = h; state = a; tx = b })))
       (forms_beside s (base_forms half (form_in s) t head state tx))
   base_beside s p t head state tx _ = refl
 
-  node_beside : (s : State) (p : ℕ) (t : Hash) (kind : Kind) (path : List ℕ) (blob : Bytes) (r : Reply)
+  pub node_beside : (s : State) (p : ℕ) (t : Hash) (kind : Kind) (path : List ℕ) (blob : Bytes) (r : Reply)
       → after_node half (beside s) p t kind path blob r ≡ beside (after_node half s p t kind path blob r)
   node_beside s p t kind path blob (says.Node (node.One o)) =
       ap (λ (x : State). with_peers x t (after_outcome p (is_bad o))) (forms_beside s (node_forms half s t kind path blob))
   node_beside s p t kind path blob _ = refl
 
-  gets_beside : (s : State) (kind : Kind) (key : Hash) (root : Option Hash) (reply : Reply) (used : List Held) (s' : State)
+  pub gets_beside : (s : State) (kind : Kind) (key : Hash) (root : Option Hash) (reply : Reply) (used : List Held) (s' : State)
       → Gets half s kind key root reply used s' → Gets half (beside s) kind key root reply used (beside s')
   gets_beside s kind key None reply used s' g = gives_beside _ s (beside s) reply s' refl g
   gets_beside s kind key (Some root) reply used s' g = (g.0, after_beside s (beside s) s' refl g.1)
 
-  pages_beside : (s : State) (kind : Kind) (key : Hash) (n : ℕ) (root : Option Hash) (reply : Reply) (used : List Held) (s' : State)
+  pub pages_beside : (s : State) (kind : Kind) (key : Hash) (n : ℕ) (root : Option Hash) (reply : Reply) (used : List Held) (s' : State)
       → Pages half s kind key n root reply used s' → Pages half (beside s) kind key n root reply used (beside s')
   pages_beside s kind key n None reply used s' g = gives_beside _ s (beside s) reply s' refl g
   pages_beside s kind key n (Some root) reply used s' g = (
     record { page = g.0.page; says = g.0.says; own = g.0.own; read = g.0.read; stored = g.0.stored; every = g.0.every },
     after_beside s (beside s) s' refl g.1,
   )
-
-  answered_beside : (s : State) (a : ℕ) (c : Command) (reply : Reply) (used : List Held) (s' : State) → IsBeside c
-      → Answered half s a c reply used s' → Answered half (beside s) a c reply used (beside s')
-  answered_beside s a (command.Want t seq) reply used s' is g =
-      gives_beside _ (after_want s t seq (want_reply s t seq)) _ reply s' (want_beside s t seq (want_reply s t seq)) g
-  answered_beside s a (command.Peer p t) reply used s' is g = gives_beside _ (after_peer s p t) _ reply s' refl g
-  answered_beside s a (command.Base p t head state tx) reply used s' is g =
-      gives_beside _ (after_base half s p t head state tx reply) _ reply s' (base_beside s p t head state tx reply) g
-  answered_beside s a (command.Node p t kind path blob) reply used s' is g =
-      gives_beside _ (after_node half s p t kind path blob reply) _ reply s' (node_beside s p t kind path blob reply) g
-  answered_beside s a (command.Check t) reply used s' is g =
-      gives_beside _ (after_check s t (stored_seq s t) (check_reply half s t)) _ reply s'
-      (check_beside s t (stored_seq s t) (check_reply half s t)) g
-  answered_beside s a (command.Tick t) reply used s' is g =
-      gives_beside _ (after_tick s t (tick_reply s t)) _ reply s' (tick_beside s t (tick_reply s t)) g
-  answered_beside s a (command.Unview v) reply used s' is g = gives_beside _ (after_unview s (a, v)) _ reply s' refl g
-  answered_beside s a (command.Get v kind key) reply used s' is g =
-      gets_beside s kind key (view_root s kind (a, v)) reply used s' g
-  answered_beside s a (command.Page v kind key n) reply used s' is g =
-      pages_beside s kind key n (view_root s kind (a, v)) reply used s' g
-  answered_beside s a _ reply used s' is g = absurd is
-
-  refused_beside : (s : State) (a : ℕ) (c : Command) (s' : State) → IsBeside c → Refused half s a c s'
-      → Refused half (beside s) a c (beside s')
-  refused_beside s a (command.Close x given) s' is r = absurd is
-  refused_beside s a c s' is r = record {
-    forms = r.forms;
-    own = r.own;
-    same = after_beside (with_forms half s r.forms) (with_forms half (beside s) r.forms) s' (forms_beside s r.forms) r.same;
-  }
-
-  said_beside : (s : State) (a : ℕ) (c : Command) (reply : Reply) → IsBeside c → IsRow half s a c reply → IsRow half (beside s) a c reply
-  said_beside s a (command.Close x given) reply is e = absurd is
-  said_beside s a c reply is e = e
-
-  outcome_beside : (s : State) (a : ℕ) (c : Command) (reply : Reply) (used : List Held) (s' : State) → IsBeside c
-      → Outcomes half s a c reply used s' → Outcomes half (beside s) a c reply used (beside s')
-  outcome_beside s a c says.Fault used s' is o = (o.0, refused_beside s a c s' is o.1)
-  outcome_beside s a c says.Memory used s' is o = (o.0, refused_beside s a c s' is o.1)
-  outcome_beside s a c (says.Clash h old new) used s' is o =
-      (said_beside s a c (says.Clash h old new) is o.0, refused_beside s a c s' is o.1)
-  outcome_beside s a c (says.ZeroHash form) used s' is o = (said_beside s a c (says.ZeroHash form) is o.0, refused_beside s a c s' is o.1)
-  outcome_beside s a c reply used s' is o = answered_beside s a c reply used s' is o
-
-  pub row_beside : (s s' : State) (a : ℕ) (c : Command) (reply : Reply) (used : List Held) → IsBeside c → Does half s a c reply used s'
-      → Does half (beside s) a c reply used (beside s')
-  row_beside s s' a c reply used is does = record { outcome = outcome_beside s a c reply used s' is does.outcome; uses = does.uses }

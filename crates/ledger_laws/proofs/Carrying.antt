@@ -12,7 +12,8 @@ use Rattle.ledger_machine.specs.Rotation.{Carries, AreShaded, Tells, WhileTurnin
 use Rattle.ledger_machine.specs.Steps.{Does, Step, own_forms, own_hashes, want_target}
 use Rattle.ledger_laws.proofs.SoundForms.{some_same}
 use Rattle.ledger_laws.proofs.SoundSessions.{in_map}
-use Rattle.ledger_laws.proofs.Stored.{Stores, Goes, on, begun, swapped, row_goes}
+use Rattle.ledger_laws.proofs.Stored.{Stores, Goes, on, begun, swapped}
+use Rattle.ledger_laws.proofs.Going.{row_goes}
 
 -- what is reached is stored
 pub reach_stored : {nodes : Lookup} {roots : List Hash} {h : Hash} → Reach nodes roots h → Stored nodes h

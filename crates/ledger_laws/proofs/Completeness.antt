@@ -30,7 +30,8 @@ use Rattle.ledger_machine.specs.Runs.{Run, used_by}
 use Rattle.ledger_machine.specs.Complete.{IsAllStored, IsAcceptable, IsComplete, IsExact, AreExact}
 use Rattle.ledger_laws.proofs.SoundForms.{some_same}
 use Rattle.ledger_laws.proofs.SoundCheck.{IsWholeFor, check_complete}
-use Rattle.ledger_laws.proofs.Closure.{stored_whole, whole_all, whole_unbroken}
+use Rattle.ledger_laws.proofs.StoredWhole.{stored_whole}
+use Rattle.ledger_laws.proofs.Closure.{whole_all, whole_unbroken}
 
 -- an acceptable header decides nothing alone
 header_accepts : (asked floor : ℕ) (h : Bytes) (rest : Verdict) → IsAcceptable asked floor h

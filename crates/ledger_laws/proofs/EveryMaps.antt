@@ -24,7 +24,7 @@ use Rattle.ledger_machine.specs.Steps.{Step, Gets, Pages}
 use Rattle.ledger_machine.specs.Reading.{view_root, outcome_of, page_of, IsRead, IsPage}
 use Rattle.ledger_machine.specs.Runs.{Run, used_by}
 use Rattle.ledger_machine.specs.Exact.{IsEveryMaps, AreEveryMaps}
-use Rattle.ledger_laws.proofs.SoundSteps.{line_at}
+use Rattle.ledger_laws.proofs.SoundRuns.{line_at}
 
 -- a ledger's map is no set
 no_set : (kind : Kind) → IsLedgerMap kind → kind ≢ Set

@@ -1,33 +1,23 @@
 -- What a session closes into is a whole ledger, stored in forms of its own.
-use Rattle.std.proofs.Common.{◌≡◌, ◌≢◌, ◌⊎◌, inl, inr, ⊎_elim, ℕ, ◌+◌, ◌<◌, ◌≤◌, ◌^◌, ◌%◌, ◌/◌, ◌++◌}
-use Rattle.std.proofs.Common.{◌==◌, ◌&&◌, nat_lt, Bool, true, false, not}
-use Rattle.std.proofs.Common.{if◌then◌else◌, List, [], ◌∷◌, length, map, take, drop, is_some, IsTrue}
+use Rattle.std.proofs.Common.{◌≡◌, ◌≢◌, ◌⊎◌, ⊎_elim, ℕ, ◌+◌, ◌<◌, ◌≤◌, ◌^◌, ◌++◌}
+use Rattle.std.proofs.Common.{◌==◌, nat_lt, Bool, true, false}
+use Rattle.std.proofs.Common.{if◌then◌else◌, List, [], ◌∷◌, length, take, drop, IsTrue}
 use Rattle.std.proofs.Common.{IsSomeAnd, Option, None, Some, Contains}
 use Rattle.std.proofs.Common.{refl, sym, ap, ◌∙◌, subst, arith, length-drop}
-use Rattle.std.specs.Option.{option_and_then, option_or, unwrap_or}
-use Rattle.std.specs.List.{find, filter_map}
-use Rattle.std.specs.Cmp.Lexicographic.{same_text}
-use Rattle.std.specs.FinMap as finite
-use Rattle.std.specs.FinSet as set
-use Rattle.std.specs.Ordering.{is_eq}
-use Rattle.std.specs.Int.{w32, w64, to_be_bytes, from_be_bytes}
-use Rattle.std.proofs.lemmas.Bool.{and_parts, and_from, ltb-true, ltb-false, lt-ltb, false≢true, eq-eqb}
-use Rattle.std.proofs.lemmas.Cmp.{nat_list_cmp_total, tied_itself}
+use Rattle.std.specs.Option.{option_and_then, unwrap_or}
+use Rattle.std.specs.List.{find}
+use Rattle.std.proofs.lemmas.Bool.{ltb-false, false≢true}
 use Rattle.std.proofs.lemmas.List.{length-take-le}
-use Rattle.std.proofs.lemmas.List.Elements.{Contains-append_cases, Contains-append_left, Contains-append_right, filter_map-append}
-use Rattle.std.proofs.lemmas.Nat.{mod_below}
+use Rattle.std.proofs.lemmas.List.Elements.{Contains-append_cases, Contains-append_left, Contains-append_right}
 use Rattle.ledger_spec.specs.declared.Kind.TheVariants as kinds
-use Rattle.ledger_spec.specs.declared.Place.TheVariants.{Header}
 use Rattle.ledger_spec.specs.Maps.{hash_cmp, numbered_cmp, get_in, has_in}
-use Rattle.ledger_spec.specs.Bytes.{Bytes, Hash, Half, IsHalf, Lookup, Items, is_zero, is_nonzero, are_bytes, same_bytes}
-use Rattle.ledger_spec.specs.Header.{header_bytes, IsHeader, seq_of, tx_root_of, state_root_of, close_of}
+use Rattle.ledger_spec.specs.Bytes.{Bytes, Hash, Half, IsHalf, Lookup, Items, is_zero, is_nonzero, are_bytes}
+use Rattle.ledger_spec.specs.Header.{header_bytes, IsHeader, seq_of, state_root_of, close_of}
 use Rattle.ledger_spec.specs.Forms.{header, header_prefix, header_of, hash_or_zero}
 use Rattle.ledger_spec.specs.Spots.{header_in}
 use Rattle.ledger_spec.specs.Tree.{form_at, root_of, forms_of}
-use Rattle.ledger_spec.specs.Findings.{Whole, header_sight, header_or_foreign, maps_of, walk_map, walk_ledger}
 use Rattle.ledger_spec.specs.Offers.{Clash}
 use Rattle.ledger_spec.proofs.ByteForms.{bytes_end, bytes_join, bytes_take, bytes_drop}
-use Rattle.ledger_spec.proofs.Growth.{met, found}
 use Rattle.ledger_spec.proofs.Readings.{holds_header}
 use Rattle.tree_laws.specs.Walks.{found_below}
 use Rattle.tree_laws.proofs.Joins.{in_one}
@@ -38,72 +28,19 @@ use Rattle.ledger_header.proofs.Joined.{parted, length-header_bytes}
 use Rattle.ledger_machine.specs.declared.replies.CloseReply.TheVariants as close
 use Rattle.ledger_machine.specs.declared.replies.Reply.{Reply}
 use Rattle.ledger_machine.specs.declared.replies.Reply.TheVariants as says
-use Rattle.ledger_machine.specs.State.{State, Session, form_in, with_form, with_forms, listed_with}
+use Rattle.ledger_machine.specs.State.{State, Session, form_in, with_forms, listed_with}
 use Rattle.ledger_machine.specs.Sound.{Sound, IsWholeLedger, AreStored}
 use Rattle.ledger_machine.specs.Scripts.{AreFields, drops_in, close_in, resolution_in, flags_in}
-use Rattle.ledger_machine.specs.Closing.{new_header, closing_forms, clash_under, first_clash, closed_or_clash, zero_or, close_given}
+use Rattle.ledger_machine.specs.Closing.{new_header, closing_forms, first_clash, closed_or_clash, zero_or, close_given}
 use Rattle.ledger_machine.specs.Closing.{close_reply, closed, after_close, close_forms, closes_into, unless_zero}
 use Rattle.ledger_laws.proofs.Making.{forms_fit, forms_whole, root_nonzero}
 use Rattle.ledger_laws.proofs.SoundCheck.{listed_sound}
-use Rattle.ledger_laws.proofs.SoundForms.{IsByteForm, may_store, with_forms_keeps, with_forms_grow, in_nothing, get_more}
+use Rattle.ledger_laws.proofs.SoundForms.{IsByteForm, may_store, with_forms_keeps, in_nothing}
 use Rattle.ledger_laws.proofs.SoundKeeps.{Keeps, keeps_sound}
 use Rattle.ledger_laws.proofs.SoundTables.{all_found}
 use Rattle.ledger_laws.proofs.SoundSessions.{IsFit, fits_of, without_sound}
-
--- a number below a power is four bytes
-four_small : (xs : Bytes) → length xs ≡ 4 → IsTrue (are_bytes xs) → from_be_bytes w32 xs < 2 ^ 32
-four_small (a ∷ b ∷ c ∷ d ∷ []) size all =
-    let one = and_parts (nat_lt a 256) (are_bytes (b ∷ c ∷ d ∷ [])) all in
-    let two = and_parts (nat_lt b 256) (are_bytes (c ∷ d ∷ [])) one.1 in
-    let three = and_parts (nat_lt c 256) (are_bytes (d ∷ [])) two.1 in
-    let four = and_parts (nat_lt d 256) (are_bytes []) three.1 in
-    omega (arith, ltb-true a 256 one.0, ltb-true b 256 two.0, ltb-true c 256 three.0, ltb-true d 256 four.0)
-four_small [] size all = absurd (omega (arith, size))
-four_small (a ∷ []) size all = absurd (omega (arith, size))
-four_small (a ∷ b ∷ []) size all = absurd (omega (arith, size))
-four_small (a ∷ b ∷ c ∷ []) size all = absurd (omega (arith, size))
-four_small (a ∷ b ∷ c ∷ d ∷ e ∷ xs) size all = absurd (omega (arith, size))
-
--- a number's bytes are bytes
-digits : (ns : List ℕ) → IsTrue (are_bytes (map (λ n. n % 256) ns))
-digits [] = refl
-digits (n ∷ ns) =
-    and_from (nat_lt (n % 256) 256) (are_bytes (map (λ n. n % 256) ns)) (lt-ltb (n % 256) 256 (mod_below n 256 (omega arith))) (digits ns)
-
-bytes_of_4 : (n : ℕ) → IsTrue (are_bytes (to_be_bytes w32 n))
-bytes_of_4 n = digits (n / 16777216 ∷ n / 65536 ∷ n / 256 ∷ n ∷ [])
-
-bytes_of_8 : (n : ℕ) → IsTrue (are_bytes (to_be_bytes w64 n))
-bytes_of_8 n = digits
-    (n / 72057594037927936 ∷ n / 281474976710656 ∷ n / 1099511627776 ∷ n / 4294967296 ∷ n / 16777216 ∷ n / 65536 ∷ n / 256 ∷ n ∷ [])
-
-byte : (n : ℕ) (rest : Bytes) → n < 2 ^ 8 → IsTrue (are_bytes rest) → IsTrue (are_bytes (n ∷ rest))
-byte n rest low all = and_from (nat_lt n 256) (are_bytes rest) (lt-ltb n 256 (omega (arith, low))) all
-
--- a header of fields within their sizes, and of hashes of bytes, is bytes
-header_all : (h : Head) → IsHeader (fields h) → IsTrue (are_bytes h.parent) → IsTrue (are_bytes h.tx_root)
-    → IsTrue (are_bytes h.state_root) → IsTrue (are_bytes (header_bytes (fields h)))
-unfolding header_bytes
-header_all h is p t s =
-    let end : Bytes = h.resolution ∷ h.flags ∷ [] in
-    let last : IsTrue (are_bytes end) = byte h.resolution (h.flags ∷ []) is.resolution (byte h.flags [] is.flags refl) in
-    let b1 : Bytes = to_be_bytes w32 h.seq ++ to_be_bytes w64 h.drops in
-    let b2 : Bytes = b1 ++ h.parent in
-    let b3 : Bytes = b2 ++ h.tx_root in
-    let b4 : Bytes = b3 ++ h.state_root in
-    let b5 : Bytes = b4 ++ to_be_bytes w32 h.parent_close in
-    let b6 : Bytes = b5 ++ to_be_bytes w32 h.close in
-    bytes_join b6 end (bytes_join b5 (to_be_bytes w32 h.close) (bytes_join b4 (to_be_bytes w32 h.parent_close)
-    (bytes_join b3 h.state_root (bytes_join b2 h.tx_root (bytes_join b1 h.parent
-    (bytes_join (to_be_bytes w32 h.seq) (to_be_bytes w64 h.drops) (bytes_of_4 h.seq) (bytes_of_8 h.drops)) p) t) s)
-    (bytes_of_4 h.parent_close)) (bytes_of_4 h.close)) last
-
--- what is read of a header's form
-header_back : (bytes : Bytes) → length bytes ≡ 118 → header_of (header_prefix ++ bytes) ≡ Some bytes
-unfolding header_of
-header_back bytes size =
-    let long : length (header_prefix ++ bytes) ≡ 122 = omega (arith, size) in
-    ap (λ (t : Bool). if t && true then Some bytes else None) (eq-eqb (length (header_prefix ++ bytes)) 122 long)
+use Rattle.ledger_laws.proofs.HeaderBytes.{four_small, header_all, header_back}
+use Rattle.ledger_laws.proofs.StoringAll.{none_zero, all_stored, whole_from}
 
 -- what is known of the ledger that a session edits
 record IsParent (half : Half) (t p : Bytes) : Type 0 where
@@ -124,68 +61,6 @@ parent_of half nodes t p stored is = at (nodes t) refl is
           bytes = bytes_end header_prefix p (subst (λ (b : Bytes). IsTrue (are_bytes b)) fit.1 kept.bytes);
           own = (form, kept.own);
         }
-
--- no form of these has the zero hash
-pub none_zero : (half : Half) (forms : List Bytes) → find (λ form. is_zero (half form)) forms ≡ None → (form : Bytes) → Contains forms form
-    → IsTrue (is_nonzero (half form))
-none_zero half [] none form c = absurd (in_nothing c)
-none_zero half (x ∷ forms) none form c = by (is_zero (half x)) refl none (λ e there. none_zero half forms e form there)
-  where
-    by : (t : Bool) → is_zero (half x) ≡ t → (if t then Some x else find (λ f. is_zero (half f)) forms) ≡ None
-        → (find (λ f. is_zero (half f)) forms ≡ None → Contains forms form → IsTrue (is_nonzero (half form)))
-        → IsTrue (is_nonzero (half form))
-    by true z e rest = cc
-    by false z e rest = ⊎_elim (λ same. subst (λ (f : Bytes). IsTrue (is_nonzero (half f))) (in_one x form same) (ap not z))
-        (λ later. rest e later) (Contains-append_cases (x ∷ []) forms form c)
-
--- without a clash
-no_clash : (h form : Bytes) (o : Option Bytes) → clash_under h form o ≡ None → (o ≡ None) ⊎ (o ≡ Some form)
-no_clash h form None none = inl refl
-no_clash h form (Some old) none = by (same_bytes old form) (record { hash = h; old = old; new = form }) refl none
-  where
-    by : (t : Bool) (c : Clash) → same_bytes old form ≡ t → (if t then None else Some c) ≡ None → (Some old ≡ None) ⊎ (Some old ≡ Some form)
-    by true c is e = inr (ap Some (same_text old form (sym is)))
-    by false c is e = cc
-
-both_none : {A : Type 0} (a b : Option A) → option_or a b ≡ None → (a ≡ None) × (b ≡ None)
-both_none None b e = (refl, e)
-both_none (Some x) b e = cc
-
--- a form is stored then
-form_stored : (half : Half) (s : State) (form : Bytes) → (form_in s (half form) ≡ None) ⊎ (form_in s (half form) ≡ Some form)
-    → form_in (with_form half s form) (half form) ≡ Some form
-form_stored half s form free = at (form_in s (half form)) refl free
-  where
-    at : (o : Option Bytes) → form_in s (half form) ≡ o → (o ≡ None) ⊎ (o ≡ Some form)
-        → form_in (if is_some o then s else record s
-        { nodes = finite.insert s.nodes (half form) form; born = set.insert s.born (half form) }) (half form) ≡ Some form
-    at (Some old) e fit = ⊎_elim (λ (no : Some old ≡ None). absurd (let x : Some old ≡ None = no in cc)) (λ same. e ∙ same) fit
-    at None e fit = get_more s.nodes (half form) form (half form) true (ap is_eq (tied_itself nat_list_cmp_total (half form)))
-
--- where no form clashes, each is stored in the end
-all_stored : (half : Half) (s : State) (forms : List Bytes) → first_clash half s forms ≡ None → (form : Bytes) → Contains forms form
-    → form_in (with_forms half s forms) (half form) ≡ Some form
-all_stored half s [] none form c = absurd (in_nothing c)
-all_stored half s (x ∷ forms) none form c =
-    let parts = both_none (clash_under (half x) x (form_in s (half x))) (first_clash half (with_form half s x) forms) none in
-    let first : form_in (with_form half s x) (half x) ≡ Some x =
-    form_stored half s x (no_clash (half x) x (form_in s (half x)) parts.0) in
-    ⊎_elim
-    (λ same. subst (λ (f : Bytes). form_in (with_forms half (with_form half s x) forms) (half f) ≡ Some f) (in_one x form same)
-    (with_forms_grow half (with_form half s x) forms (half x) x first))
-    (λ later. all_stored half (with_form half s x) forms parts.1 form later) (Contains-append_cases (x ∷ []) forms form c)
-
--- a ledger is whole where its header is stored and both maps are
-whole_from : (half : Half) (nodes : Lookup) (t bytes : Bytes) → nodes t ≡ Some (header_prefix ++ bytes)
-    → header_of (header_prefix ++ bytes) ≡ Some bytes
-    → found_below half nodes kinds.State 64 None [] (state_root_of bytes) ≡ []
-    → found_below half nodes kinds.Tx 64 None [] (tx_root_of bytes) ≡ [] → Whole half nodes t
-unfolding walk_ledger walk_map found_below
-whole_from half nodes t bytes stored is accounts txs =
-    ap (λ o. filter_map found (met Header t None (header_sight o) ∷ maps_of half nodes (header_sight o))) stored
-    ∙ ap (λ o. filter_map found (met Header t None (header_or_foreign o) ∷ maps_of half nodes (header_or_foreign o))) is
-    ∙ filter_map-append found (walk_map half nodes kinds.State (state_root_of bytes)) (walk_map half nodes kinds.Tx (tx_root_of bytes))
-    ∙ (λ i. accounts i ++ txs i)
 
 -- an answer that a session is closed passed all tests
 record HasClosed (a b : Bool) (z : Option Bytes) (c : Option Clash) (h h' : Hash) : Type 0 where

@@ -1,14 +1,10 @@
--- Steps and runs keep a state sound.
-use Rattle.std.proofs.Common.{◌≡◌, ◌⊎◌, inl, inr, ⊎_elim, ℕ, List, [], ◌∷◌, Option, None, Some, Contains, slice_get, refl, sym}
-use Rattle.std.proofs.Common.{subst}
-use Rattle.std.proofs.lemmas.Option.{slice_get_within, get_or_from_slice_get}
+-- The step of each command keeps a state sound.
+use Rattle.std.proofs.Common.{◌⊎◌, inl, inr, ⊎_elim, ℕ, List, Option, None, Some, refl, sym}
 use Rattle.ledger_spec.specs.declared.Kind.{Kind}
 use Rattle.ledger_spec.specs.Bytes.{Bytes, Hash, Half, IsHalf}
 use Rattle.ledger_spec.specs.Forms.{Held}
 use Rattle.ledger_machine.specs.declared.commands.Command.{Command}
 use Rattle.ledger_machine.specs.declared.commands.Command.TheVariants as command
-use Rattle.ledger_machine.specs.declared.commands.Line.{Line}
-use Rattle.ledger_machine.specs.declared.journal.Entry.{Entry}
 use Rattle.ledger_machine.specs.declared.replies.WantReply.{WantReply}
 use Rattle.ledger_machine.specs.declared.replies.WantReply.TheVariants as want
 use Rattle.ledger_spec.specs.declared.replies.TickReply.{TickReply}
@@ -29,7 +25,6 @@ use Rattle.ledger_machine.specs.Check.{check_reply, after_check}
 use Rattle.ledger_machine.specs.Ticks.{tick_reply, after_tick}
 use Rattle.ledger_machine.specs.Sound.{Sound}
 use Rattle.ledger_machine.specs.Steps.{Step, Outcomes, Answered, Refused, Gives}
-use Rattle.ledger_machine.specs.Runs.{Run, used_by}
 use Rattle.ledger_laws.proofs.SoundKeeps.{Keeps, keeps_sound, keeps_self, keeps_after, wanted_keeps, with_peers_keeps, ended_keeps}
 use Rattle.ledger_laws.proofs.Charges.{adding_rises}
 use Rattle.ledger_laws.proofs.SoundKeeps.{same_keeps}
@@ -193,7 +188,7 @@ page_step_sound half s s' a v kind key n reply used sound step =
     (outcome_cases half s a (command.Page v kind key n) reply used s' step.outcome)
 
 -- a step of `edit`
-edit_step_sound : (half : Half) (sized : IsHalf half) (s s' : State) (a x : ℕ) (t : Hash) (reply : Reply) (used : List Held) → Sound half s
+pub edit_step_sound : (half : Half) (sized : IsHalf half) (s s' : State) (a x : ℕ) (t : Hash) (reply : Reply) (used : List Held) → Sound half s
     → Step half s a (command.Edit x t) reply used s' → Sound half s'
 edit_step_sound half sized s s' a x t reply used sound step =
     ⊎_elim (λ r. keeps_sound half s s' sound (refused_none half s a (command.Edit x t) s' refl r))
@@ -202,7 +197,7 @@ edit_step_sound half sized s s' a x t reply used sound step =
     (outcome_cases half s a (command.Edit x t) reply used s' step.outcome)
 
 -- a step of `put`
-put_step_sound : (half : Half) (s s' : State) (a x : ℕ) (item : Item) (reply : Reply) (used : List Held)
+pub put_step_sound : (half : Half) (s s' : State) (a x : ℕ) (item : Item) (reply : Reply) (used : List Held)
     → IsInRange (command.Put x item) → Sound half s → Step half s a (command.Put x item) reply used s' → Sound half s'
 put_step_sound half s s' a x item reply used range sound step =
     ⊎_elim (λ r. keeps_sound half s s' sound (refused_none half s a (command.Put x item) s' refl r))
@@ -211,7 +206,7 @@ put_step_sound half s s' a x item reply used range sound step =
     (outcome_cases half s a (command.Put x item) reply used s' step.outcome)
 
 -- a step of `tx`
-tx_step_sound : (half : Half) (s s' : State) (a x : ℕ) (item : Item) (reply : Reply) (used : List Held)
+pub tx_step_sound : (half : Half) (s s' : State) (a x : ℕ) (item : Item) (reply : Reply) (used : List Held)
     → IsInRange (command.Tx x item) → Sound half s → Step half s a (command.Tx x item) reply used s' → Sound half s'
 tx_step_sound half s s' a x item reply used range sound step =
     ⊎_elim (λ r. keeps_sound half s s' sound (refused_none half s a (command.Tx x item) s' refl r))
@@ -220,7 +215,7 @@ tx_step_sound half s s' a x item reply used range sound step =
     (outcome_cases half s a (command.Tx x item) reply used s' step.outcome)
 
 -- a step of `del`
-del_step_sound : (half : Half) (s s' : State) (a x : ℕ) (key : Hash) (reply : Reply) (used : List Held) → Sound half s
+pub del_step_sound : (half : Half) (s s' : State) (a x : ℕ) (key : Hash) (reply : Reply) (used : List Held) → Sound half s
     → Step half s a (command.Del x key) reply used s' → Sound half s'
 del_step_sound half s s' a x key reply used sound step =
     ⊎_elim (λ r. keeps_sound half s s' sound (refused_none half s a (command.Del x key) s' refl r))
@@ -228,7 +223,7 @@ del_step_sound half s s' a x key reply used sound step =
     (outcome_cases half s a (command.Del x key) reply used s' step.outcome)
 
 -- a step of `close`
-close_step_sound : (half : Half) (sized : IsHalf half) (s s' : State) (a x : ℕ) (given : List ℕ) (reply : Reply)
+pub close_step_sound : (half : Half) (sized : IsHalf half) (s s' : State) (a x : ℕ) (given : List ℕ) (reply : Reply)
     (used : List Held) → AreFields given → Sound half s → Step half s a (command.Close x given) reply used s' → Sound half s'
 close_step_sound half sized s s' a x given reply used are sound step =
     ⊎_elim (λ r. keeps_sound half s s' sound
@@ -238,7 +233,7 @@ close_step_sound half sized s s' a x given reply used are sound step =
     (outcome_cases half s a (command.Close x given) reply used s' step.outcome)
 
 -- a step of `abandon`
-abandon_step_sound : (half : Half) (s s' : State) (a x : ℕ) (reply : Reply) (used : List Held) → Sound half s
+pub abandon_step_sound : (half : Half) (s s' : State) (a x : ℕ) (reply : Reply) (used : List Held) → Sound half s
     → Step half s a (command.Abandon x) reply used s' → Sound half s'
 abandon_step_sound half s s' a x reply used sound step =
     ⊎_elim (λ r. keeps_sound half s s' sound (refused_none half s a (command.Abandon x) s' refl r))
@@ -246,7 +241,7 @@ abandon_step_sound half s s' a x reply used sound step =
     (outcome_cases half s a (command.Abandon x) reply used s' step.outcome)
 
 -- a step of `begin`
-begin_step_sound : (half : Half) (s s' : State) (a : ℕ) (reply : Reply) (used : List Held) → Sound half s
+pub begin_step_sound : (half : Half) (s s' : State) (a : ℕ) (reply : Reply) (used : List Held) → Sound half s
     → Step half s a command.Begin reply used s' → Sound half s'
 begin_step_sound half s s' a reply used sound step =
     ⊎_elim (λ r. keeps_sound half s s' sound (refused_none half s a command.Begin s' refl r))
@@ -255,7 +250,7 @@ begin_step_sound half s s' a reply used sound step =
     (outcome_cases half s a command.Begin reply used s' step.outcome)
 
 -- a step of `swap`
-swap_step_sound : (half : Half) (s s' : State) (a : ℕ) (reply : Reply) (used : List Held) → Sound half s
+pub swap_step_sound : (half : Half) (s s' : State) (a : ℕ) (reply : Reply) (used : List Held) → Sound half s
     → Step half s a command.Swap reply used s' → Sound half s'
 swap_step_sound half s s' a reply used sound step =
     ⊎_elim (λ r. keeps_sound half s s' sound (refused_none half s a command.Swap s' refl r)) (λ g. at s.turning g)
@@ -264,59 +259,3 @@ swap_step_sound half s s' a reply used sound step =
     at : (o : Option ℕ) → Swaps s o reply s' → Sound half s'
     at None g = gives_same half s s' (says.Swap swaps.Idle) reply sound g
     at (Some v) g = swap_sound half s s' g.1 sound
-
--- each step of a command in range leads from a sound state to a sound state
-pub step_sound : (half : Half) (sized : IsHalf half) (s s' : State) (a : ℕ) (c : Command) (reply : Reply)
-    (used : List Held)
-    → IsInRange c → Sound half s → Step half s a c reply used s'
-    → Sound half s'
-step_sound half sized s s' a (command.Want t seq) reply used range sound step =
-    want_sound half s s' a t seq reply used sound step
-step_sound half sized s s' a (command.Peer p t) reply used range sound step =
-    peer_sound half s s' a p t reply used sound step
-step_sound half sized s s' a (command.Base p t bytes state tx) reply used range sound step =
-    base_sound half sized s s' a p t bytes state tx reply used range sound step
-step_sound half sized s s' a (command.Node p t kind path blob) reply used range sound step =
-    node_sound half sized s s' a p t kind path blob reply used range.2 sound step
-step_sound half sized s s' a (command.Check t) reply used range sound step =
-    check_step_sound half s s' a t reply used sound step
-step_sound half sized s s' a (command.Tick t) reply used range sound step =
-    tick_sound half s s' a t reply used sound step
-step_sound half sized s s' a (command.View v t) reply used range sound step =
-    view_step_sound half s s' a v t reply used sound step
-step_sound half sized s s' a (command.Unview v) reply used range sound step =
-    unview_step_sound half s s' a v reply used sound step
-step_sound half sized s s' a (command.Get v kind key) reply used range sound step =
-    get_step_sound half s s' a v kind key reply used sound step
-step_sound half sized s s' a (command.Page v kind key n) reply used range sound step =
-    page_step_sound half s s' a v kind key n reply used sound step
-step_sound half sized s s' a (command.Edit x t) reply used range sound step =
-    edit_step_sound half sized s s' a x t reply used sound step
-step_sound half sized s s' a (command.Put x item) reply used range sound step =
-    put_step_sound half s s' a x item reply used range sound step
-step_sound half sized s s' a (command.Tx x item) reply used range sound step =
-    tx_step_sound half s s' a x item reply used range sound step
-step_sound half sized s s' a (command.Del x key) reply used range sound step =
-    del_step_sound half s s' a x key reply used sound step
-step_sound half sized s s' a (command.Close x given) reply used range sound step =
-    close_step_sound half sized s s' a x given reply used range sound step
-step_sound half sized s s' a (command.Abandon x) reply used range sound step =
-    abandon_step_sound half s s' a x reply used sound step
-step_sound half sized s s' a command.Begin reply used range sound step = begin_step_sound half s s' a reply used sound step
-step_sound half sized s s' a command.Swap reply used range sound step = swap_step_sound half s s' a reply used sound step
-
--- a line at a place is a line of the script
-pub line_at : (lines : List Line) (place : ℕ) (l : Line) → slice_get lines place ≡ Some l → Contains lines l
-line_at lines place l e = (place, slice_get_within lines place l e, get_or_from_slice_get lines place l l e)
-
--- each run over such commands leads from a sound state to a sound state
-pub run_sound : (half : Half) (sized : IsHalf half) (lines : List Line) (s : State) (entries : List Entry)
-    (s' : State)
-    → ((l : Line) → Contains lines l → IsInRange l.command) → Sound half s → Run half lines s entries s'
-    → Sound half s'
-run_sound half sized lines s [] s' each sound run = subst (λ x. Sound half x) (sym run) sound
-run_sound half sized lines s (e ∷ rest) s' each sound run =
-    let line : Line = run.1.line in
-    let fit : IsInRange line.command = each line (line_at lines run.1.place line run.1.stands) in
-    run_sound half sized lines run.0 rest s' each
-    (step_sound half sized s run.0 e.actor line.command e.reply (used_by e) fit sound run.1.step) run.2

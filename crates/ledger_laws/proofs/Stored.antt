@@ -1,4 +1,5 @@
--- What a step stores and takes: but for a swap nothing goes, and nothing comes but the command's own forms, each under its own hash.
+-- What the answer of each command stores and takes: but for a swap nothing goes, and nothing comes but the command's own forms, each
+-- under its own hash.
 use Rattle.std.proofs.Common.{◌≡◌, ◌⊎◌, inl, inr, ⊎_elim, ℕ, Bool, true, false, if◌then◌else◌, ◌==◌, nat_lt, List, [], ◌∷◌, ◌++◌, length}
 use Rattle.std.proofs.Common.{Option, None, Some, is_some, Result, Ok, Contains, refl, sym, ap, ◌∙◌, subst}
 use Rattle.std.specs.Option.{option_map_or}
@@ -9,7 +10,7 @@ use Rattle.ledger_spec.specs.declared.Kind.{Kind}
 use Rattle.ledger_spec.specs.Maps.{hash_cmp, numbered_cmp, get_in, has_in, set_in}
 use Rattle.ledger_spec.specs.Bytes.{Bytes, Hash, Half, Nodes, is_zero}
 use Rattle.ledger_spec.specs.Header.{seq_of}
-use Rattle.ledger_spec.specs.Forms.{Held, header_prefix}
+use Rattle.ledger_spec.specs.Forms.{header_prefix}
 use Rattle.ledger_spec.specs.Offers.{Clash, node_outcome}
 use Rattle.ledger_spec.specs.Bases.{Judged, base_outcome, base_forms}
 use Rattle.ledger_spec.specs.declared.outcomes.Offered.{Offered}
@@ -37,25 +38,21 @@ use Rattle.ledger_spec.specs.declared.replies.NodeReply.TheVariants as node
 use Rattle.ledger_machine.specs.declared.replies.CloseReply.TheVariants as close
 use Rattle.ledger_machine.specs.declared.replies.Reply.{Reply}
 use Rattle.ledger_machine.specs.declared.replies.Reply.TheVariants as says
-use Rattle.ledger_machine.specs.State.{State, Session, form_in, with_form, with_forms, stored_seq}
-use Rattle.ledger_machine.specs.Want.{want_reply, after_want}
-use Rattle.ledger_machine.specs.Peer.{after_peer}
-use Rattle.ledger_machine.specs.Check.{check_reply, after_check}
+use Rattle.ledger_machine.specs.State.{State, Session, form_in, with_form, with_forms}
+use Rattle.ledger_machine.specs.Want.{after_want}
+use Rattle.ledger_machine.specs.Check.{after_check}
 use Rattle.ledger_machine.specs.Base.{base_says, base_for, base_reply, after_base, base_stores}
 use Rattle.ledger_machine.specs.Base.{node_says, node_for, node_reply, node_forms, after_node, node_stores}
-use Rattle.ledger_machine.specs.Ticks.{tick_reply, after_tick}
-use Rattle.ledger_machine.specs.Views.{view_reply, after_view, after_unview}
-use Rattle.ledger_machine.specs.Reading.{view_root}
-use Rattle.ledger_machine.specs.Sessions.{edit_reply, after_edit, with_session, after_put, after_tx, after_del, without_session}
+use Rattle.ledger_machine.specs.Ticks.{after_tick}
+use Rattle.ledger_machine.specs.Views.{after_view}
+use Rattle.ledger_machine.specs.Sessions.{after_edit, with_session}
 use Rattle.ledger_machine.specs.Closing.{new_header, closing_forms, first_clash, closed_or_clash, zero_or, close_given, close_reply}
 use Rattle.ledger_machine.specs.Closing.{closed, after_close, closes_into, unless_zero, close_forms}
-use Rattle.ledger_machine.specs.Rotation.{begin_reply, after_begin, ShadesRoots, Begins, Swapped}
-use Rattle.ledger_machine.specs.Commands.{IsBeside}
-use Rattle.ledger_machine.specs.Steps.{IsAfter, Swaps, Answered, Refused, Outcomes, own_forms}
+use Rattle.ledger_machine.specs.Rotation.{after_begin, ShadesRoots, Begins, Swapped}
+use Rattle.ledger_machine.specs.Steps.{IsAfter, Swaps, Refused, own_forms}
 use Rattle.ledger_laws.proofs.SoundForms.{new_or_old, in_head, in_tail, with_forms_grow}
 use Rattle.ledger_laws.proofs.SoundKeeps.{shaded_same}
 use Rattle.ledger_laws.proofs.SoundOffers.{if_present}
-use Rattle.ledger_laws.proofs.SoundSteps.{outcome_cases, gets_after, pages_after}
 
 -- nothing of what is stored goes, and what comes is one of these forms, under its own hash
 pub record Stores (half : Half) (own : List Bytes) (s t : State) : Type 0 where
@@ -126,7 +123,7 @@ module _ (half : Half) (own : List Bytes) where
   stores_forms s more each = record { grows = with_forms_grow half s more; adds = forms_add s more each }
 
   -- a change of tables alone
-  same : (s t : State) → t.nodes ≡ s.nodes → t.turning ≡ s.turning → GoesOn half own s t
+  pub same : (s t : State) → t.nodes ≡ s.nodes → t.turning ≡ s.turning → GoesOn half own s t
   same s t nodes turning = record { stores = stores_same s t nodes; turning = turning }
 
   -- these forms, and then a change of tables alone
@@ -138,19 +135,19 @@ module _ (half : Half) (own : List Bytes) where
   }
 
   -- what a rotation keeps is no part of that
-  after : (s t s' : State) → GoesOn half own s t → IsAfter t s' → GoesOn half own s s'
+  pub after : (s t s' : State) → GoesOn half own s t → IsAfter t s' → GoesOn half own s s'
   after s t s' g e = record {
     stores = stores_on s t s' g.stores (stores_same t s' (shaded_same t s' e).nodes);
     turning = ap (λ (x : State). x.turning) e ∙ g.turning;
   }
 
   -- no answer to a command that stores nothing changes more than tables
-  want_goes : (s : State) (t : Hash) (seq : ℕ) (r : WantReply) → GoesOn half own s (after_want s t seq r)
+  pub want_goes : (s : State) (t : Hash) (seq : ℕ) (r : WantReply) → GoesOn half own s (after_want s t seq r)
   want_goes s t seq want.Opened = same s (after_want s t seq want.Opened) refl refl
   want_goes s t seq _ = same s s refl refl
 
   -- a check lists a ledger, ends an acquisition or changes its peers
-  check_goes : (s : State) (t : Hash) (seq : ℕ) (r : CheckReply) → GoesOn half own s (after_check s t seq r)
+  pub check_goes : (s : State) (t : Hash) (seq : ℕ) (r : CheckReply) → GoesOn half own s (after_check s t seq r)
   check_goes s t seq check.Complete = same s (after_check s t seq check.Complete) refl refl
   check_goes s t seq (check.Need peer places) = same s (after_check s t seq (check.Need peer places)) refl refl
   check_goes s t seq (check.SeqDiffers asked found) = same s (after_check s t seq (check.SeqDiffers asked found)) refl refl
@@ -159,21 +156,21 @@ module _ (half : Half) (own : List Bytes) where
   check_goes s t seq (check.Malformed place rule) = same s (after_check s t seq (check.Malformed place rule)) refl refl
   check_goes s t seq _ = same s s refl refl
 
-  tick_goes : (s : State) (t : Hash) (r : TickReply) → GoesOn half own s (after_tick s t r)
+  pub tick_goes : (s : State) (t : Hash) (r : TickReply) → GoesOn half own s (after_tick s t r)
   tick_goes s t (tick.Timeout n) = same s (after_tick s t (tick.Timeout n)) refl refl
   tick_goes s t (tick.GaveUp n) = same s (after_tick s t (tick.GaveUp n)) refl refl
   tick_goes s t tick.NotOpen = same s s refl refl
 
-  view_goes : (s : State) (v : ℕ × ℕ) (t : Hash) (r : ViewReply) → GoesOn half own s (after_view s v t r)
+  pub view_goes : (s : State) (v : ℕ × ℕ) (t : Hash) (r : ViewReply) → GoesOn half own s (after_view s v t r)
   view_goes s v t view.Fine = same s (after_view s v t view.Fine) refl refl
   view_goes s v t _ = same s s refl refl
 
-  edit_goes : (s : State) (x : ℕ × ℕ) (t : Hash) (r : EditReply) → GoesOn half own s (after_edit half s x t r)
+  pub edit_goes : (s : State) (x : ℕ × ℕ) (t : Hash) (r : EditReply) → GoesOn half own s (after_edit half s x t r)
   edit_goes s x t edits.Fine = same s (after_edit half s x t edits.Fine) refl refl
   edit_goes s x t _ = same s s refl refl
 
   -- an edit changes a session that is open
-  session_goes : (s : State) (x : ℕ × ℕ) (change : Session → Session) → GoesOn half own s (with_session s x change)
+  pub session_goes : (s : State) (x : ℕ × ℕ) (change : Session → Session) → GoesOn half own s (with_session s x change)
   session_goes s x change = at (get_in numbered_cmp s.sessions x)
     where
       at : (o : Option Session)
@@ -217,7 +214,7 @@ closed_open false false d None c h h' floor e = refl
 
 module _ (half : Half) (s : State) where
   -- a part more is stored only of a present peer, whose forms are the command's own
-  base_goes : (p : ℕ) (t : Hash) (head : Bytes) (state tx : Option Bytes) (reply : Reply) → reply ≡ base_reply half s p t head state tx
+  pub base_goes : (p : ℕ) (t : Hash) (head : Bytes) (state tx : Option Bytes) (reply : Reply) → reply ≡ base_reply half s p t head state tx
       → GoesOn half (base_stores half s p t head state tx) s (after_base half s p t head state tx reply)
   base_goes p t head state tx (says.Base (base.Parts h a b)) is =
       let forms : List Bytes = base_forms half (form_in s) t head state tx in
@@ -228,7 +225,7 @@ module _ (half : Half) (s : State) where
   base_goes p t head state tx reply is = same half (base_stores half s p t head state tx) s s refl refl
 
   -- so are a node's
-  node_goes : (p : ℕ) (t : Hash) (kind : Kind) (path : List ℕ) (blob : Bytes) (reply : Reply)
+  pub node_goes : (p : ℕ) (t : Hash) (kind : Kind) (path : List ℕ) (blob : Bytes) (reply : Reply)
       → reply ≡ node_reply half s p t kind path blob
       → GoesOn half (node_stores half s p t kind path blob) s (after_node half s p t kind path blob reply)
   node_goes p t kind path blob (says.Node (node.One o)) is =
@@ -240,7 +237,7 @@ module _ (half : Half) (s : State) where
   node_goes p t kind path blob reply is = same half (node_stores half s p t kind path blob) s s refl refl
 
   -- a session that is closed stores its closing forms
-  close_goes : (x : ℕ × ℕ) (given : List ℕ) (reply : Reply) → reply ≡ close_reply half s x given
+  pub close_goes : (x : ℕ × ℕ) (given : List ℕ) (reply : Reply) → reply ≡ close_reply half s x given
       → GoesOn half (close_forms half s x given) s (after_close half s x given reply)
   close_goes x given (says.Close (close.Closed h)) is = at (get_in numbered_cmp s.sessions x) is
     where
@@ -263,7 +260,7 @@ module _ (half : Half) (s : State) where
   close_goes x given reply is = same half (close_forms half s x given) s s refl refl
 
   -- at most own forms are stored of a command that is refused
-  refused_goes : (a : ℕ) (c : Command) (s' : State) → Refused half s a c s' → GoesOn half (own_forms half s a c) s s'
+  pub refused_goes : (a : ℕ) (c : Command) (s' : State) → Refused half s a c s' → GoesOn half (own_forms half s a c) s s'
   refused_goes a c s' r =
       after half (own_forms half s a c) s (with_forms half s r.forms) s'
       (forms_same half (own_forms half s a c) s (with_forms half s r.forms) r.forms (λ form i. (r.own form i).0) refl refl) r.same
@@ -276,79 +273,13 @@ pub data Goes (half : Half) (c : Command) (own : List Bytes) (s s' : State) : Ty
 
 module _ (half : Half) (s : State) (a : ℕ) where
   -- what is shaded first is what the roots reach
-  begin_goes : (r : BeginReply) (s' : State) → IsAfter (after_begin s r) s' → Begins r s' → Goes half command.Begin [] s s'
+  pub begin_goes : (r : BeginReply) (s' : State) → IsAfter (after_begin s r) s' → Begins r s' → Goes half command.Begin [] s s'
   begin_goes (begins.Begun v floor) s' e shades =
       begun (stores_same half [] s s' (shaded_same (after_begin s (begins.Begun v floor)) s' e).nodes) shades
   begin_goes begins.Busy s' e shades = on (after half [] s s s' (same half [] s s refl refl) e)
   begin_goes begins.NotDue s' e shades = on (after half [] s s s' (same half [] s s refl refl) e)
 
   -- without a rotation a swap changes nothing
-  swap_goes : (o : Option ℕ) (reply : Reply) (s' : State) → Swaps s o reply s' → Goes half command.Swap [] s s'
+  pub swap_goes : (o : Option ℕ) (reply : Reply) (s' : State) → Swaps s o reply s' → Goes half command.Swap [] s s'
   swap_goes None reply s' g = on (after half [] s s s' (same half [] s s refl refl) g.after)
   swap_goes (Some v) reply s' g = swapped refl g.1
-
-  -- the answer of a row
-  answer_goes : (c : Command) (reply : Reply) (used : List Held) (s' : State) → Answered half s a c reply used s'
-      → Goes half c (own_forms half s a c) s s'
-  answer_goes (command.Want t seq) reply used s' g =
-      on (after half [] s (after_want s t seq (want_reply s t seq)) s' (want_goes half [] s t seq (want_reply s t seq)) g.after)
-  answer_goes (command.Peer p t) reply used s' g =
-      on (after half [] s (after_peer s p t) s' (same half [] s (after_peer s p t) refl refl) g.after)
-  answer_goes (command.Base p t head state tx) reply used s' g =
-      on (after half (base_stores half s p t head state tx) s (after_base half s p t head state tx reply) s'
-      (base_goes half s p t head state tx reply g.says) g.after)
-  answer_goes (command.Node p t kind path blob) reply used s' g =
-      on (after half (node_stores half s p t kind path blob) s (after_node half s p t kind path blob reply) s'
-      (node_goes half s p t kind path blob reply g.says) g.after)
-  answer_goes (command.Check t) reply used s' g =
-      on (after half [] s (after_check s t (stored_seq s t) (check_reply half s t)) s'
-      (check_goes half [] s t (stored_seq s t) (check_reply half s t)) g.after)
-  answer_goes (command.Tick t) reply used s' g =
-      on (after half [] s (after_tick s t (tick_reply s t)) s' (tick_goes half [] s t (tick_reply s t)) g.after)
-  answer_goes (command.View v t) reply used s' g =
-      on (after half [] s (after_view s (a, v) t (view_reply s (a, v) t)) s' (view_goes half [] s (a, v) t (view_reply s (a, v) t)) g.after)
-  answer_goes (command.Unview v) reply used s' g =
-      on (after half [] s (after_unview s (a, v)) s' (same half [] s (after_unview s (a, v)) refl refl) g.after)
-  answer_goes (command.Get v kind key) reply used s' g =
-      on (after half [] s s s' (same half [] s s refl refl) (gets_after half s kind key (view_root s kind (a, v)) reply used s' g))
-  answer_goes (command.Page v kind key n) reply used s' g =
-      on (after half [] s s s' (same half [] s s refl refl) (pages_after half s kind key n (view_root s kind (a, v)) reply used s' g))
-  answer_goes (command.Edit x t) reply used s' g =
-      on (after half [] s (after_edit half s (a, x) t (edit_reply s (a, x) t)) s' (edit_goes half [] s (a, x) t (edit_reply s (a, x) t))
-      g.after)
-  answer_goes (command.Put x item) reply used s' g =
-      on (after half [] s (after_put s (a, x) item.key item.value) s' (session_goes half [] s (a, x) _) g.after)
-  answer_goes (command.Tx x item) reply used s' g =
-      on (after half [] s (after_tx s (a, x) item.key item.value) s' (session_goes half [] s (a, x) _) g.after)
-  answer_goes (command.Del x key) reply used s' g =
-      on (after half [] s (after_del s (a, x) key) s' (session_goes half [] s (a, x) _) g.after)
-  answer_goes (command.Close x given) reply used s' g =
-      on (after half (close_forms half s (a, x) given) s (after_close half s (a, x) given reply) s'
-      (close_goes half s (a, x) given reply g.says) g.after)
-  answer_goes (command.Abandon x) reply used s' g =
-      on (after half [] s (without_session s (a, x)) s' (same half [] s (without_session s (a, x)) refl refl) g.after)
-  answer_goes command.Begin reply used s' g = begin_goes (begin_reply s) s' g.0.after g.1
-  answer_goes command.Swap reply used s' g = swap_goes s.turning reply s' g
-
-  -- each command
-  pub row_goes : (c : Command) (reply : Reply) (used : List Held) (s' : State) → Outcomes half s a c reply used s'
-      → Goes half c (own_forms half s a c) s s'
-  row_goes c reply used s' o =
-      ⊎_elim (λ r. on (refused_goes half s a c s' r)) (λ g. answer_goes c reply used s' g) (outcome_cases half s a c reply used s' o)
-
--- what is found after a step was found before, or is a form of the command's own under its hash
-pub goes_adds : (half : Half) (c : Command) (own : List Bytes) (s s' : State) → Goes half c own s s' → (h : Hash) (form : Bytes)
-    → form_in s' h ≡ Some form → (form_in s h ≡ Some form) ⊎ ((h ≡ half form) × Contains own form)
-goes_adds half c own s s' (on g) h form e = g.stores.adds h form e
-goes_adds half c own s s' (begun g shades) h form e = g.adds h form e
-goes_adds half c own s s' (swapped is w) h form e = inl (w.fewer h form e)
-
--- what a command that sees no sessions finds stays
-pub beside_grows : (half : Half) (s s' : State) (a : ℕ) (c : Command) (reply : Reply) (used : List Held) → IsBeside c
-    → Outcomes half s a c reply used s' → Grows (form_in s) (form_in s')
-beside_grows half s s' a c reply used is o = at (row_goes half s a c reply used s' o)
-  where
-    at : Goes half c (own_forms half s a c) s s' → Grows (form_in s) (form_in s')
-    at (on g) = g.stores.grows
-    at (begun g shades) = g.grows
-    at (swapped same w) = absurd (subst IsBeside same is)

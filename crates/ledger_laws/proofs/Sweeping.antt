@@ -17,7 +17,8 @@ use Rattle.ledger_machine.specs.Rotation.{Swapped, Carries, WhileTurning}
 use Rattle.ledger_machine.specs.Steps.{Step, Swaps, own_forms, own_hashes}
 use Rattle.ledger_machine.specs.Runs.{Run, IsRunOf, opening_of, used_by}
 use Rattle.ledger_machine.specs.Swaps.{IsSwap, MayKeep, Sweeps, AllSwapsKeep}
-use Rattle.ledger_laws.proofs.Stored.{Goes, on, begun, swapped, row_goes}
+use Rattle.ledger_laws.proofs.Stored.{Goes, on, begun, swapped}
+use Rattle.ledger_laws.proofs.Going.{row_goes}
 
 -- a rotation that is under way is not none
 none_turns : (o : Option ℕ) → o ≡ None → IsSome o → ⊥

@@ -20,7 +20,8 @@ use Rattle.ledger_machine.specs.Sound.{Sound, IsWholeLedger}
 use Rattle.ledger_machine.specs.Runs.{Run, used_by}
 use Rattle.ledger_machine.specs.Throughout.{IsInOrder, AreInOrder}
 use Rattle.ledger_laws.proofs.Completeness.{retained_stored}
-use Rattle.ledger_laws.proofs.SoundSteps.{step_sound, line_at}
+use Rattle.ledger_laws.proofs.EachCommand.{step_sound}
+use Rattle.ledger_laws.proofs.SoundRuns.{line_at}
 use Rattle.ledger_laws.proofs.SoundTables.{all_found}
 use Rattle.ledger_laws.proofs.SoundViews.{views_whole}
 

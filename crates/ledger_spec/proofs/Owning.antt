@@ -6,7 +6,7 @@ use mathlib.Core.Path.{fun_ext}
 use Rattle.ledger_spec.specs.Bytes.{Bytes, Hash, Half, Lookup, same_bytes}
 use Rattle.ledger_spec.specs.Findings.{held_of}
 use Rattle.ledger_spec.specs.Own.{IsStoredAt, AreStored, is_own, own_form, own_forms}
-use Rattle.ledger_spec.proofs.Readings.{sees}
+use Rattle.ledger_spec.proofs.Seeing.{sees}
 
 same_number : (n : ℕ) → nat_eq n n ≡ true
 same_number n = grind (arith, nat_tests)

@@ -5,6 +5,7 @@ pub mod Steps
 pub mod Indexes
 pub mod Backends
 pub mod MemDisks
+pub mod Numbers
 pub mod Manifests
 pub mod Recovery
 pub mod Pending

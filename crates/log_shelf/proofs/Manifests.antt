@@ -1,117 +1,22 @@
 -- The live logs by the manifest, after each of a shelf's calls, answered or failed.
-use Rattle.std.proofs.Common.{◌≡◌, ◌≢◌, ◌⊎◌, inl, inr, ◌≤◌, ◌<◌, ◌+◌, ◌^◌, ℕ, Bool, true, false, not, cond, ◌||◌, List, [], ◌∷◌, ◌++◌}
-use Rattle.std.proofs.Common.{length, Option, None, Some, ◌&&◌}
+use Rattle.std.proofs.Common.{◌≡◌, ◌≢◌, ◌⊎◌, inl, inr, ◌≤◌, ◌<◌, ◌+◌, ◌^◌, ℕ, Bool, true, false, ◌||◌, List, [], ◌∷◌, ◌++◌}
+use Rattle.std.proofs.Common.{length, Option, None, ◌&&◌}
 use Rattle.std.proofs.Common.{◌==◌, IsTrue, refl, sym, subst, ap, ◌∙◌, arith, length-append}
 use Rattle.std.specs.Prelude.{Vec}
 use Rattle.std.specs.Vec.{vec_capacity}
 use Rattle.std.specs.declared.alloc.Global.{Global}
-use Rattle.std.proofs.lemmas.List.{append-nil}
-use Rattle.std.proofs.lemmas.Bool.{eqb-true, eq-eqb}
+use Rattle.std.proofs.lemmas.Bool.{eq-eqb}
 use Rattle.node_backend.specs.Numbers.{is_among, exceeds, without}
 use Rattle.node_backend.proofs.Lists.{exceeds_without, below_among, exceeds_more, exceeds_append, among_append, among_last, among_without}
-use Rattle.log_shelf.specs.Entries.{number_bytes, number_in}
 use Rattle.log_shelf.specs.Logs.{MayDoubtEntry, with_doubted, ReadsAs, told_entries, doubted}
 use Rattle.log_shelf.specs.declared.disk.Disk.{Ghosts}
 use Rattle.log_shelf.specs.declared.log.Log.{Log}
 use Rattle.log_shelf.proofs.Logs.{log-reads}
-use Rattle.log_shelf.specs.Manifests.{made_entry, gone_entry, noted, live_after, live_of, AreLive, is_listed, NamesOnly, Manifested}
+use Rattle.log_shelf.specs.Manifests.{made_entry, gone_entry, live_of, AreLive, is_listed, NamesOnly, Manifested}
 use Rattle.log_shelf.specs.Manifests.{FreshFailed}
 use Rattle.run_io.specs.Bytes.{Rose}
-use Rattle.log_shelf.proofs.Entries.{number_in-text, length-number_bytes}
-
--- what a manifest's entry does
-number_in-bytes : (n : ℕ) → n < 2 ^ 64 → number_in (number_bytes n) ≡ n
-number_in-bytes n small = ap number_in (sym (append-nil (number_bytes n))) ∙ number_in-text n [] small
-
-noted-made : (live : List ℕ) (n : ℕ) → n < 2 ^ 64 → noted live (made_entry n) ≡ live ++ n ∷ []
-unfolding noted
-noted-made live n small = rw (length-number_bytes n, number_in-bytes n small) refl
-
-noted-gone : (live : List ℕ) (n : ℕ) → n < 2 ^ 64 → noted live (gone_entry n) ≡ without live n
-unfolding noted
-noted-gone live n small = rw (length-number_bytes n, number_in-bytes n small) refl
-
-live_after-more : (live : List ℕ) (entries : List (List ℕ)) (entry : List ℕ)
-    → live_after live (entries ++ entry ∷ []) ≡ noted (live_after live entries) entry
-live_after-more live [] entry = refl
-live_after-more live (e ∷ entries) entry = live_after-more (noted live e) entries entry
-
-or_right : (a b : Bool) → b ≡ true → (a || b) ≡ true
-or_right true b p = refl
-or_right false b p = p
-
-or_left : (a b : Bool) → a ≡ true → (a || b) ≡ true
-or_left a b p = rw p refl
-
-or_split : (a b : Bool) → (a || b) ≡ true → (a ≡ true) ⊎ (b ≡ true)
-or_split true b p = inl refl
-or_split false b p = inr p
-
--- a number of a list with one more was there, or is the new one
-among_last_or : (n k : ℕ) (xs : List ℕ) → IsTrue (is_among (xs ++ n ∷ []) k) → IsTrue (is_among xs k) ⊎ (n ≡ k)
-among_last_or n k [] h =
-    elim (n == k) as (λ b. (n == k) ≡ b → (b || false) ≡ true → (false ≡ true) ⊎ (n ≡ k)) [
-      | true ↦ λ e _. inr (eqb-true n k e)
-      | false ↦ λ e r. inl r
-    ] refl h
-among_last_or n k (x ∷ xs) h =
-    elim (x == k) as (λ b. (b || is_among (xs ++ n ∷ []) k) ≡ true → ((b || is_among xs k) ≡ true) ⊎ (n ≡ k)) [
-      | true ↦ λ _. inl refl
-      | false ↦ λ r. among_last_or n k xs r
-    ] h
-
--- a number that is left was there, and is another one
-without_split : (n k : ℕ) (xs : List ℕ) → IsTrue (is_among (without xs n) k) → IsTrue (is_among xs k) × (k ≢ n)
-without_split n k [] h = absurd (cc)
-without_split n k (x ∷ xs) h =
-    elim (x == n) as (λ b. (x == n) ≡ b → IsTrue (is_among (cond (not b) (x ∷ without xs n) (without xs n)) k)
-    → (((x == k) || is_among xs k) ≡ true) × (k ≢ n)) [
-      | true ↦ λ e r. let i = without_split n k xs r in (or_right (x == k) (is_among xs k) i.0, i.1)
-      | false ↦ λ e r. elim (x == k) as (λ b. (x == k) ≡ b → (b || is_among (without xs n) k) ≡ true → ((b || is_among xs k) ≡ true)
-          × (k ≢ n)) [
-            | true ↦ λ f _. (refl, λ (q : k ≡ n). absurd (cc (eq-eqb x n (eqb-true x k f ∙ q), e)))
-            | false ↦ λ f t. without_split n k xs t
-          ] refl r
-    ] refl h
-
--- the live numbers of a list that grows
-among-made : (live all : List ℕ) (n k : ℕ) → ((m : ℕ) → IsTrue (is_among live m) → IsTrue (is_among all m))
-    → IsTrue (is_among live k) ⊎ (n ≡ k)
-    → IsTrue (is_among (all ++ n ∷ []) k)
-among-made live all n k sub (inl old) = among_append n k all (sub k old)
-among-made live all n k sub (inr new) = subst (λ (m : ℕ). IsTrue (is_among (all ++ n ∷ []) m)) new (among_last n all)
-
-above_zero : (live : List ℕ) (made n k : ℕ) → ((m : ℕ) → IsTrue (is_among live m) → 0 < m) → n ≡ made + 1
-    → IsTrue (is_among live k) ⊎ (n ≡ k) → 0 < k
-above_zero live made n k above step (inl old) = above k old
-above_zero live made n k above step (inr new) = omega arith
-
--- a listed number is listed still
-listed_in : (live undone next aside : List ℕ) (k : ℕ) → (IsTrue (is_among live k) → IsTrue (is_listed next aside k))
-    → (IsTrue (is_among undone k) → IsTrue (is_among aside k)) → IsTrue (is_listed live undone k) → IsTrue (is_listed next aside k)
-listed_in live undone next aside k first second h = elim (or_split (is_among live k) (is_among undone k) h) [
-  | inl l ↦ first l
-  | inr u ↦ or_right (is_among next k) (is_among aside k) (second u)
-]
-
-named_in : (a b c : Bool) → (IsTrue a → IsTrue b) → IsTrue (a || c) → IsTrue (b || c)
-named_in a b c f h = elim (or_split a c h) [ inl l ↦ or_left b c (f l) | inr r ↦ or_right b c r ]
-
--- what is named where an entry in doubt is none, the one before or this one
-doubt_names : (P : ℕ → Type 0) (told after : List (List ℕ)) (before later : Option (List ℕ)) (entry : List ℕ)
-    → ((k : ℕ) → IsTrue (is_among (live_of told) k) → P k) → ((k : ℕ) → IsTrue (is_among (live_of (with_doubted told before)) k) → P k)
-    → ((k : ℕ) → IsTrue (is_among (live_of (told ++ entry ∷ [])) k) → P k) → after ≡ told → MayDoubtEntry before entry later
-    → (k : ℕ) → IsTrue (is_among (live_of (with_doubted after later)) k) → P k
-doubt_names P told after before later entry sure old new same may k h = at may
-  where
-    here : (d : Option (List ℕ)) → later ≡ d → IsTrue (is_among (live_of (with_doubted told d)) k)
-    here d is = subst (λ (es : List (List ℕ)). IsTrue (is_among (live_of (with_doubted es d)) k)) same
-        (subst (λ (o : Option (List ℕ)). IsTrue (is_among (live_of (with_doubted after o)) k)) is h)
-
-    at : MayDoubtEntry before entry later → P k
-    at (inl none) = sure k (here None none)
-    at (inr (inl is)) = old k (here before is)
-    at (inr (inr is)) = new k (here (Some entry) is)
+use Rattle.log_shelf.proofs.Numbers.{noted-made, noted-gone, live_after-more, or_right, or_left, among_last_or, without_split, among-made}
+use Rattle.log_shelf.proofs.Numbers.{above_zero, listed_in, named_in, doubt_names, doubt_keeps, kept_or_left, not_there}
 
 -- a log was made
 pub manifest-made : (live undone next : List ℕ) (made n : ℕ) (may may' : Bool) (told after : List (List ℕ)) (doubt later : Option (List ℕ))
@@ -144,17 +49,6 @@ manifest-made live undone next made n may may' told after doubt later m step sma
       doubt_named = λ k h. or_left (is_listed next undone k) (may' && (k == n + 1))
           (told_named k (subst (λ (d : Option (List ℕ)). IsTrue (is_among (live_of (with_doubted after d)) k)) none h));
     }
-
--- an entry in doubt keeps the live ones, where it is none, the one before or this one
-doubt_keeps : (live : List ℕ) (told after : List (List ℕ)) (before later : Option (List ℕ)) (entry : List ℕ)
-    → ((k : ℕ) → IsTrue (is_among live k) → IsTrue (is_among (live_of told) k)) → ((k : ℕ) → IsTrue (is_among live k)
-    → IsTrue (is_among (live_of (with_doubted told before)) k))
-    → ((k : ℕ) → IsTrue (is_among live k) → IsTrue (is_among (live_of (told ++ entry ∷ [])) k)) → after ≡ told
-    → MayDoubtEntry before entry later
-    → (k : ℕ) → IsTrue (is_among live k) → IsTrue (is_among (live_of (with_doubted after later)) k)
-doubt_keeps live told after before later entry sure old new same (inl none) k h = rw (same, none) (sure k h)
-doubt_keeps live told after before later entry sure old new same (inr (inl is)) k h = rw (same, is) (old k h)
-doubt_keeps live told after before later entry sure old new same (inr (inr is)) k h = rw (same, is) (new k h)
 
 -- a log was not made
 unmade : (live undone : List ℕ) (made n : ℕ) (told after : List (List ℕ)) (doubt later : Option (List ℕ))
@@ -210,17 +104,6 @@ manifest-gone live undone next made n may told after doubt later m small left mo
           (told_named k (subst (λ (d : Option (List ℕ)). IsTrue (is_among (live_of (with_doubted after d)) k)) none h));
     }
 
--- a number of the first list stays there, or is the one that goes into the second
-kept_or_left : (live next undone aside : List ℕ) (n k : ℕ) → next ≡ without live n → aside ≡ undone ++ n ∷ [] → IsTrue (is_among live k)
-    → IsTrue (is_listed next aside k)
-kept_or_left live next undone aside n k left kept l =
-    elim (k == n) as (λ b. (k == n) ≡ b → IsTrue (is_listed next aside k)) [
-      | true ↦ λ e. or_right (is_among next k) (is_among aside k) (subst (λ (xs : List ℕ). IsTrue (is_among xs k)) (sym kept)
-          (subst (λ (j : ℕ). IsTrue (is_among (undone ++ n ∷ []) j)) (sym (eqb-true k n e)) (among_last n undone)))
-      | false ↦ λ e. or_left (is_among next k) (is_among aside k) (subst (λ (xs : List ℕ). IsTrue (is_among xs k)) (sym left)
-          (among_without n k live (λ (same : k ≡ n). absurd (cc (eq-eqb k n same, e))) l))
-    ] refl
-
 -- its number was taken out, but the entry failed: the log is kept aside
 pub manifest-kept : (live undone next aside : List ℕ) (made n : ℕ) (may : Bool) (told after : List (List ℕ)) (doubt later : Option (List ℕ))
     → Manifested live undone made may told doubt → n < 2 ^ 64
@@ -274,9 +157,6 @@ pub reserved-made : {X : Type 0} (spent kept : Vec X Global) (old : List X) (liv
 reserved-made {X} spent kept old live base first next n p q room r s t =
     subst (λ (v : Vec X Global). length v.items + length next ≤ vec_capacity v) (sym p)
     (omega (arith, ap length q, ap (λ (v : Vec ℕ Global). length v.items) r, ap length s, ap length t, length-append live.items (n ∷ [])))
-
-not_there : (live : List ℕ) (n k : ℕ) → is_among live n ≡ false → k ≡ n → IsTrue (is_among live k) → ⊥
-not_there live n k none same l = cc (subst (λ (j : ℕ). IsTrue (is_among live j)) same l, none)
 
 -- a number was taken out that was not there, or nothing was written down
 pub manifest-left : (live undone next : List ℕ) (made n : ℕ) (may : Bool) (told : List (List ℕ)) (doubt : Option (List ℕ))

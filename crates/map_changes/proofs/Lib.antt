@@ -1,8 +1,10 @@
 pub mod Closing
+pub mod Changed
 pub mod Walking
 pub mod Standings
 pub mod Listing
 pub mod Linking
 pub mod Sharing
+pub mod Telling
 pub mod Tracks
 pub mod Wires

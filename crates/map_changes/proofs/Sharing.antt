@@ -19,7 +19,8 @@ use Rattle.cow_map.specs.Seals.{form_below}
 use Rattle.cow_map.specs.Trees.{Found, none, one, fork, lacks, breaks, found_at, found_body, fewest, Forks, Holds, StandsAt}
 use Rattle.cow_map.proofs.Leading.{weaker, body_none, body_one, body_fork}
 use Rattle.cow_map.proofs.Standing.{Below, stands_into, stands_under}
-use Rattle.cow_map.proofs.Sealing.{part_kid, by_index, flat_each, crowded}
+use Rattle.cow_map.proofs.Filters.{part_kid, crowded}
+use Rattle.cow_map.proofs.Sealing.{by_index, flat_each}
 use Rattle.map_changes.specs.Trees.{IsLeafNode, hashes_below, IsInnerNode, IsNode, StandsFor}
 use Rattle.map_changes.specs.Tracking.{place_of, link_hash, node_of, node_at, kid_at, entries_in, entries_by, entries_at}
 use Rattle.map_changes.proofs.Linking.{leaf_is, inner_is}

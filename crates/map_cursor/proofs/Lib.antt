@@ -1,4 +1,5 @@
 pub mod Orders
+pub mod Places
 pub mod Visiting
 pub mod PageLaws
 pub mod WholePages

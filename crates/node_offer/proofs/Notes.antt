@@ -12,7 +12,7 @@ use Rattle.std.proofs.lemmas.Map.Views.{tells_apart}
 use Rattle.ledger_spec.specs.Bytes.{Bytes, Hash, Half, Nodes, same_bytes}
 use Rattle.ledger_spec.specs.Findings.{held_of}
 use Rattle.ledger_spec.specs.Forms.{Held, Form}
-use Rattle.ledger_spec.proofs.Readings.{sees}
+use Rattle.ledger_spec.proofs.Seeing.{sees}
 use Rattle.ledger_spec.specs.Maps.{hash_cmp}
 use Rattle.ledger_spec.specs.Own.{is_own}
 use Rattle.ledger_spec.proofs.Owning.{same_self}

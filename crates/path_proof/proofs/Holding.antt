@@ -13,7 +13,7 @@ use Rattle.ledger_spec.specs.Forms.{Held, inner, leaf, header, Form, IsHeld, for
 use Rattle.ledger_spec.specs.Forms.{leaf_of}
 use Rattle.ledger_spec.specs.Own.{own_form}
 use Rattle.ledger_spec.proofs.Owning.{same_self}
-use Rattle.ledger_spec.proofs.Readings.{sees}
+use Rattle.ledger_spec.proofs.Seeing.{sees}
 use Rattle.shamap_node.specs.Laws.{is_no_node}
 use Rattle.shamap_node.specs.declared.Node.{Node}
 use Rattle.path_proof.specs.declared.source.FetchFault.TheVariants.{Fault, Foreign, Memory}

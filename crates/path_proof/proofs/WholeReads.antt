@@ -20,9 +20,9 @@ use Rattle.ledger_spec.specs.Findings.{finding_at, walk, walk_map}
 use Rattle.ledger_spec.specs.Pages.{IsStoredNode}
 use Rattle.ledger_spec.specs.Reads.{inner_hashes, IsKey}
 use Rattle.ledger_spec.proofs.Growth.{found, met, no_cons}
-use Rattle.ledger_spec.proofs.Readings.{sees}
+use Rattle.ledger_spec.proofs.Seeing.{sees}
 use Rattle.tree_laws.proofs.Shapes.{above_bottom, below_at, none_is, passed}
-use Rattle.tree_laws.proofs.WholeLaw.{clean_each, at_branch}
+use Rattle.tree_laws.proofs.BranchCounts.{clean_each, at_branch}
 use Rattle.shamap_node.specs.Laws.{is_no_node}
 use Rattle.path_proof.specs.Sources.{Holds}
 use Rattle.path_proof.specs.Ways.{Waypoint, start, path_at, fault_at, under, below, way, Breaks, Ends, HasCause}

@@ -4,7 +4,9 @@ pub mod Cuts
 pub mod Numbers
 pub mod Pairs
 pub mod Right
+pub mod Order
 pub mod Said
+pub mod LineMore
 pub mod Scripts
 pub mod Servable
 pub mod Shapes

@@ -17,8 +17,10 @@ use Rattle.shamap_node.specs.declared.forms.FormFault.TheVariants.{Memory}
 use Rattle.shamap_node.specs.Nodes.{held}
 use Rattle.shamap_node.specs.Causes.{form_cause}
 use Rattle.shamap_node.specs.Laws.{is_node, is_no_node, HeldByForm}
-use Rattle.ledger_spec.proofs.Readings.{starts_as, chose, Three, three_parts, form_behind, holds_inner, state_form, tx_form, holds_keyed}
-use Rattle.ledger_spec.proofs.Readings.{by_reader, sees, holds}
+use Rattle.ledger_spec.proofs.Seeing.{starts_as}
+use Rattle.ledger_spec.proofs.Readings.{chose, Three, three_parts, form_behind, holds_inner, state_form, tx_form, holds_keyed}
+use Rattle.ledger_spec.proofs.Readings.{by_reader, holds}
+use Rattle.ledger_spec.proofs.Seeing.{sees}
 use Rattle.shamap_node.proofs.Reading.{no_cause, no_leaf_cause, cause_txn}
 
 -- a node that is held leaves no cause

@@ -34,7 +34,8 @@ use Rattle.ledger_machine.specs.declared.replies.Reply.{Reply}
 use Rattle.ledger_machine.specs.declared.replies.Reply.TheVariants as says
 use Rattle.ledger_machine.specs.State.{State, form_in}
 use Rattle.ledger_machine.specs.Steps.{Step, Swaps, Refused, Outcomes}
-use Rattle.ledger_laws.proofs.Stored.{Goes, on, begun, swapped, row_goes}
+use Rattle.ledger_laws.proofs.Stored.{Goes, on, begun, swapped}
+use Rattle.ledger_laws.proofs.Going.{row_goes}
 use Rattle.ledger_laws.proofs.SoundForms.{with_forms_grow}
 use Rattle.ledger_laws.proofs.SoundSteps.{outcome_cases}
 use Rattle.store_core.specs.declared.rotating.Part.{Part}

@@ -23,7 +23,7 @@ use Rattle.ledger_machine.specs.State.{State, Session, form_in, with_sessions}
 use Rattle.ledger_machine.specs.Commands.{IsBeside}
 use Rattle.ledger_machine.specs.Views.{is_retained, after_view}
 use Rattle.ledger_machine.specs.Steps.{Does}
-use Rattle.ledger_laws.proofs.Stored.{beside_grows}
+use Rattle.ledger_laws.proofs.Going.{beside_grows}
 use Rattle.open_sessions.specs.Edited.{IsKept, session_in, sessions_in}
 use Rattle.open_sessions.specs.Rows.{AllKept}
 use Rattle.open_sessions.proofs.Editing.{kept_grows}

@@ -37,7 +37,8 @@ use Rattle.ledger_laws.proofs.SoundSessions.{in_map}
 use Rattle.ledger_laws.proofs.SoundSteps.{outcome_cases}
 use Rattle.ledger_laws.proofs.SoundTables.{all_found}
 use Rattle.ledger_laws.proofs.SoundViews.{numbered_total}
-use Rattle.ledger_laws.proofs.Stored.{Goes, on, begun, swapped, row_goes}
+use Rattle.ledger_laws.proofs.Stored.{Goes, on, begun, swapped}
+use Rattle.ledger_laws.proofs.Going.{row_goes}
 use Rattle.open_sessions.proofs.Tables.{over_get, over_has, over_insert, over_remove, over_values}
 use Rattle.store_core.specs.Machines.{IsHeaderOf}
 use Rattle.store_core.specs.Halls.{AreViews, root_of, root_by}

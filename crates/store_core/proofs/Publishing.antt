@@ -22,7 +22,7 @@ use Rattle.edit_session.specs.Drafts.{Draft, StaysOverParent}
 use Rattle.node_offer.specs.declared.fault.OfferFault.{OfferFault}
 use Rattle.node_offer.specs.declared.fault.OfferFault.TheVariants as faults
 use Rattle.ledger_laws.proofs.Beside.{form_beside, forms_beside}
-use Rattle.ledger_laws.proofs.SoundClosing.{none_zero}
+use Rattle.ledger_laws.proofs.StoringAll.{none_zero}
 use Rattle.ledger_laws.proofs.SoundForms.{with_forms_grow, in_head, in_tail}
 use Rattle.ledger_machine.specs.declared.commands.Command.TheVariants as command
 use Rattle.ledger_machine.specs.declared.replies.CloseReply.TheVariants as close

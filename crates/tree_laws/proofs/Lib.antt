@@ -11,6 +11,7 @@ pub mod Sights
 pub mod ByteItems
 pub mod Standing
 pub mod PathLaw
+pub mod BranchCounts
 pub mod WholeLaw
 pub mod PageLaw
 pub mod MapPages

@@ -15,12 +15,12 @@ use Rattle.ledger_spec.specs.Tree.{Entry}
 use Rattle.ledger_spec.specs.Reads.{IsKey}
 use Rattle.ledger_spec.specs.Pages.{after_key, Heard, said, wants, wrong, page_from, heard_from, IsPageOf, IsStoredNode}
 use Rattle.ledger_spec.proofs.Growth.{met}
-use Rattle.ledger_spec.proofs.Readings.{sees}
+use Rattle.ledger_spec.proofs.Seeing.{sees}
 use Rattle.tree_laws.proofs.Shapes.{KeepsLeaf, keeps_leaf}
 use Rattle.tree_laws.proofs.Orders.{all_append, all_weaker}
 use Rattle.tree_laws.proofs.Sights.{sees_sound}
 use Rattle.tree_laws.proofs.Parts.{under_up}
-use Rattle.tree_laws.proofs.WholeLaw.{found_join}
+use Rattle.tree_laws.proofs.BranchCounts.{found_join}
 use Rattle.tree_laws.proofs.PageLaw.{Says, page_says}
 
 module _ (half : Half) (nodes : Lookup) (kind : Kind) where

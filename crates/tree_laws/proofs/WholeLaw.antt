@@ -1,26 +1,24 @@
 -- A whole tree commits to its items.
-use Rattle.std.proofs.Common.{◌≡◌, ◌≢◌, ◌⊎◌, inl, inr, ⊎_elim, ◌≤◌, ◌<◌, ◌+◌, ◌-◌, ◌*◌, ◌==◌, ◌&&◌, not, ℕ, zero, suc, Bool, true, false}
-use Rattle.std.proofs.Common.{if◌then◌else◌, List, [], ◌∷◌, ◌++◌, length, take, drop, get_or, map, nat_le, cond, IsTrue, Option, None}
+use Rattle.std.proofs.Common.{◌≡◌, ◌≢◌, ◌⊎◌, ⊎_elim, ◌≤◌, ◌<◌, ◌+◌, ◌*◌, ◌==◌, ◌&&◌, ℕ, zero, suc, Bool, true, false}
+use Rattle.std.proofs.Common.{if◌then◌else◌, List, [], ◌∷◌, ◌++◌, length, take, drop, map, nat_le, IsTrue, Option, None}
 use Rattle.std.proofs.Common.{Some, refl, sym, ap, ◌∙◌, subst, arith, length-append, length-drop, lit≤, filter_map, flat_map}
-use Rattle.std.proofs.lemmas.Bool.{cond-true, cond-false, eqb-true, eqb-false, eq-eqb, ne_eqb, leb-true, le-leb, and_parts, and_from}
-use Rattle.std.proofs.lemmas.Bool.{not-true, cases_Bool, cases_eq, false≢true}
-use Rattle.std.proofs.lemmas.List.{append-nil, get_or_past, take-take, same_from_push, same_lists, length-map, length-take-le}
-use Rattle.std.proofs.lemmas.List.Elements.{filter-append, filter_map-append, All-from_recursion, All-get_or}
-use Rattle.std.proofs.lemmas.List.FromFn.{get_or-range_with_len, length-range_with_len, get_or-map-range_with_len}
+use Rattle.std.proofs.lemmas.Bool.{cond-true, eq-eqb, leb-true, le-leb, and_parts, and_from}
+use Rattle.std.proofs.lemmas.Bool.{false≢true}
+use Rattle.std.proofs.lemmas.List.{get_or_past, length-take-le}
+use Rattle.std.proofs.lemmas.List.Elements.{filter_map-append}
 use Rattle.std.proofs.lemmas.List.Sums.{length-filter}
 use Rattle.std.specs.Option.{option_and_then}
-use Rattle.std.specs.List.{concat, list_any, list_all, slice_index_or, filter, count_by, range_with_len, AllByRecursion}
+use Rattle.std.specs.List.{concat, list_all, slice_index_or, filter, count_by, AllByRecursion}
 use Rattle.std.specs.List.Sorted.{IsStrictlySortedBy}
 use Rattle.nib_path.specs.Paths.{lies_under}
 use Rattle.ledger_spec.specs.declared.Kind.{Kind}
 use Rattle.ledger_spec.specs.declared.Kind.TheVariants.{State, Tx}
 use Rattle.ledger_spec.specs.declared.Place.TheVariants.{Header, Node}
-use Rattle.ledger_spec.specs.declared.ShapeFault.{ShapeFault}
 use Rattle.ledger_spec.specs.declared.ShapeFault.TheVariants.{Foreign}
 use Rattle.ledger_spec.specs.Maps.{hash_cmp, IsMap}
 use Rattle.ledger_spec.specs.Bytes.{Bytes, Hash, Half, Lookup, Items, zero_hash, is_zero, is_nonzero, branches, IsHalf}
 use Rattle.ledger_spec.specs.Forms.{inner, leaf, header, Form, IsHeld, inner_prefix, leaf_form, hash_or_zero, header_of}
-use Rattle.ledger_spec.specs.Rules.{fault_of, is_lone}
+use Rattle.ledger_spec.specs.Rules.{fault_of}
 use Rattle.ledger_spec.specs.Findings.{Sight, missing, broken, sound, Met, sight_of, branches_of, walk}
 use Rattle.ledger_spec.specs.Findings.{walk_map, walk_ledger, header_or_foreign, header_sight, maps_of, item_at, items_of, Whole}
 use Rattle.ledger_spec.specs.Tree.{Entry, part, form_of_part, form_at}
@@ -30,167 +28,13 @@ use Rattle.ledger_spec.specs.Commits.{AreOwn, AreByteForms, IsWholeMap, Commits}
 use Rattle.ledger_spec.proofs.Readings.{holds, holds_header}
 use Rattle.ledger_spec.proofs.Growth.{found, met, no_cons, both_nil}
 use Rattle.tree_laws.proofs.Trees.{Sized, kid_hash, concat_map}
-use Rattle.tree_laws.proofs.Parts.{filter_all, filter_none, filter_twice, under_up, under_other}
+use Rattle.tree_laws.proofs.Parts.{filter_all, filter_twice, under_up}
 use Rattle.tree_laws.proofs.Sights.{Sees, sees_sound}
 use Rattle.tree_laws.proofs.ByteItems.{byte_items}
 use Rattle.tree_laws.proofs.Shapes.{zero_is, KeepsLeaf, keeps_leaf, above_bottom}
 use Rattle.tree_laws.proofs.Orders.{all_append, all_weaker, map_branches}
-
--- nothing is found in a join where nothing is found in each part
-pub clean_each : {A B F : Type 0} (find : B → Option F) (f : A → List B) (xs : List A) → filter_map find (flat_map f xs) ≡ []
-    → AllByRecursion (λ x. filter_map find (f x) ≡ []) xs
-clean_each find f [] clean = tt
-clean_each find f (x ∷ xs) clean =
-    let both : (filter_map find (f x) ≡ []) × (filter_map find (flat_map f xs) ≡ []) =
-    both_nil _ _ (sym (filter_map-append find (f x) (flat_map f xs)) ∙ clean) in
-    (both.0, clean_each find f xs both.1)
-
-pub found_join : {A B F : Type 0} (find : B → Option F) (f : A → List B) (xs : List A)
-    → filter_map find (flat_map f xs) ≡ flat_map (λ x. filter_map find (f x)) xs
-found_join find f [] = refl
-found_join find f (x ∷ xs) = filter_map-append find (f x) (flat_map f xs) ∙ ap (λ l. filter_map find (f x) ++ l) (found_join find f xs)
-
--- what is true of each branch
-pub at_branch : (P : ℕ → Type 0) → AllByRecursion P branches → (b : ℕ) → b < 16 → P b
-at_branch P all b below =
-    let is : get_or branches b 0 ≡ b = get_or-range_with_len 0 16 b 0 below ∙ Rattle.std.proofs.Common.zero-add b in
-    subst P is (All-get_or P branches b 0 (omega (arith, length-range_with_len 0 16)) (All-from_recursion P branches all))
-
--- a branch's hash has 32 bytes, also past the end
-pub size_at : (hashes : List Hash) (b : ℕ) → IsTrue (list_all (λ h. length h == 32) hashes)
-    → length (slice_index_or hashes b zero_hash) ≡ 32
-size_at [] b sizes = refl
-size_at (h ∷ hashes) zero sizes = eqb-true (length h) 32 (and_parts (length h == 32) (list_all (λ h. length h == 32) hashes) sizes).0
-size_at (h ∷ hashes) (suc b) sizes = size_at hashes b (and_parts (length h == 32) (list_all (λ h. length h == 32) hashes) sizes).1
-
--- sixteen hashes are those at the branches
-pub hashes_at_branches : (hashes : List Hash) → length hashes ≡ 16 → hashes ≡ map (λ b. slice_index_or hashes b zero_hash) branches
-hashes_at_branches hashes count =
-    same_lists hashes (map (λ b. slice_index_or hashes b zero_hash) branches)
-    (count ∙ sym (length-map branches (λ b. slice_index_or hashes b zero_hash) ∙ length-range_with_len 0 16))
-    (λ k d below.
-    let same : get_or hashes k d ≡ get_or hashes k zero_hash = Rattle.std.proofs.lemmas.List.get_or_default hashes k d zero_hash below in
-    same ∙ sym (get_or-map-range_with_len (λ b. slice_index_or hashes b zero_hash) 0 16 k k d (omega arith) (omega arith)))
-
--- the entries of the maps under the branches that lie under one of them
-module _ (path : List ℕ) (b : ℕ) (g : ℕ → Items)
-    (under : (c : ℕ) → AllByRecursion (λ (e : Entry). lies_under (path ++ c ∷ []) e.0 ≡ true) (g c)) where
-  abbrev under_b : Entry → Bool
-  under_b e = lies_under (path ++ b ∷ []) e.0
-
-  others_skipped : (c : ℕ) → (c ≡ b → ⊥) → filter under_b (g c) ≡ []
-  others_skipped c differ = filter_none under_b (g c)
-      (all_weaker (λ (e : Entry). lies_under (path ++ c ∷ []) e.0 ≡ true) (λ e. under_b e ≡ false)
-      (λ e u. under_other path c b e.0 differ u) (g c) (under c))
-
-  skip_range : (a n : ℕ) → (b < a) ⊎ (a + n ≤ b) → filter under_b (flat_map g (range_with_len a n)) ≡ []
-  skip_range a zero away = refl
-  skip_range a (suc n) away =
-      let differ : a ≡ b → ⊥ = λ e. ⊎_elim (λ l. omega arith) (λ l. omega arith) away in
-      filter-append under_b (g a) (flat_map g (range_with_len (a + 1) n))
-      ∙ ap (λ l. l ++ filter under_b (flat_map g (range_with_len (a + 1) n))) (others_skipped a differ)
-      ∙ skip_range (a + 1) n (⊎_elim (λ l. inl (omega arith)) (λ l. inr (omega arith)) away)
-
-  pick_range : (a n : ℕ) → a ≤ b → b < a + n → filter under_b (flat_map g (range_with_len a n)) ≡ g b
-  pick_range a zero from upto = absurd (omega arith)
-  pick_range a (suc n) from upto =
-      filter-append under_b (g a) (flat_map g (range_with_len (a + 1) n))
-      ∙ ⊎_elim
-      (λ (same : a ≡ b).
-      ap (λ l. filter under_b (g a) ++ l) (skip_range (a + 1) n (inl (omega arith))) ∙ append-nil (filter under_b (g a))
-      ∙ ap (λ c. filter under_b (g c)) same ∙ filter_all under_b (g b) (under b))
-      (λ (differ : a ≡ b → ⊥).
-      ap (λ l. l ++ filter under_b (flat_map g (range_with_len (a + 1) n))) (others_skipped a differ)
-      ∙ pick_range (a + 1) n (omega arith) (omega arith))
-      (cases_eq a b)
-
-  pub pick : (16 ≤ b → g b ≡ []) → filter under_b (flat_map g branches) ≡ g b
-  pick past = ⊎_elim (λ (below : b < 16). pick_range 0 16 (omega arith) (omega arith))
-      (λ (above : 16 ≤ b). skip_range 0 16 (inr (omega arith)) ∙ sym (past above)) (Rattle.std.proofs.lemmas.Bool.cases_lt b 16)
-
--- each branch that isn't empty has some entries
-pub enough_below : (k : ℕ) (hash : ℕ → Hash) (g : ℕ → Items) → ((b : ℕ) → is_zero (hash b) ≡ false → k ≤ length (g b)) → (xs : List ℕ)
-    → k * length (filter is_nonzero (map hash xs)) ≤ length (flat_map g xs)
-enough_below k hash g each [] = omega arith
-enough_below k hash g each (x ∷ xs) = by_test (is_zero (hash x)) refl (enough_below k hash g each xs)
-  where
-    by_test : (t : Bool) → is_zero (hash x) ≡ t → k * length (filter is_nonzero (map hash xs)) ≤ length (flat_map g xs)
-        → k * length (cond (not t) (hash x ∷ filter is_nonzero (map hash xs)) (filter is_nonzero (map hash xs))) ≤ length
-        (g x ++ flat_map g xs)
-    by_test true is rest = omega (arith, length-append (g x) (flat_map g xs), rest)
-    by_test false is rest =
-        let more : k ≤ length (g x) = each x is in
-        let times : k * suc (length (filter is_nonzero (map hash xs))) ≡ k + k * length (filter is_nonzero (map hash xs)) =
-        Rattle.std.proofs.Common.mul-suc k (length (filter is_nonzero (map hash xs))) ∙ Rattle.std.proofs.Common.add_comm _ _ in
-        omega (arith, length-append (g x) (flat_map g xs), rest, more, times)
-
--- how many entries a place has at least that isn't empty: two where a leaf would stand alone
-abbrev pub weight : Option (List Hash) → List ℕ → ℕ
-weight parent path = if is_lone parent path then 2 else 1
-
-weight_most : (t : Bool) → (if t then 2 else 1) ≤ 2
-weight_most true = omega arith
-weight_most false = omega arith
-
-five_tests : (a b c d : Bool) (w r e l : ShapeFault)
-    → (if a then Some w else if b then Some r else if c then Some e else if d then Some l else None) ≡ None → d ≡ false
-five_tests true b c d w r e l h = cc
-five_tests false true c d w r e l h = cc
-five_tests false false true d w r e l h = cc
-five_tests false false false true w r e l h = cc
-five_tests false false false false w r e l h = refl
-
--- a leaf that breaks no rule isn't alone
-pub not_lone : (kind own : Kind) (key bytes : Bytes) (parent : Option (List Hash)) (path : List ℕ)
-    → fault_of (leaf own key bytes) parent kind path ≡ None → is_lone parent path ≡ false
-not_lone kind own key bytes parent path e =
-    five_tests (not (Rattle.ledger_spec.specs.Rules.same_kind own kind)) (length path == 0) (not (lies_under path key))
-    (is_lone parent path) Rattle.ledger_spec.specs.declared.ShapeFault.TheVariants.WrongKind
-    Rattle.ledger_spec.specs.declared.ShapeFault.TheVariants.LeafAtRoot
-    (Rattle.ledger_spec.specs.declared.ShapeFault.TheVariants.LeafElsewhere key)
-    Rattle.ledger_spec.specs.declared.ShapeFault.TheVariants.LoneLeaf e
-
--- some hash that isn't zero is counted
-some_counted : (hashes : List Hash) → IsTrue (list_any is_nonzero hashes) → 1 ≤ length (filter is_nonzero hashes)
-some_counted [] some = cc
-some_counted (h ∷ hashes) some = by_test (is_nonzero h) some (some_counted hashes)
-  where
-    by_test : (t : Bool) → (Rattle.std.proofs.Common.◌||◌ t (list_any is_nonzero hashes)) ≡ true
-        → (IsTrue (list_any is_nonzero hashes) → 1 ≤ length (filter is_nonzero hashes))
-        → 1 ≤ length (cond t (h ∷ filter is_nonzero hashes) (filter is_nonzero hashes))
-    by_test true is rest = omega arith
-    by_test false is rest = rest is
-
--- two entries, where one branch alone counts twice
-two_at_least : (k count size : ℕ) → 1 ≤ count → (count ≡ 1 → k ≡ 2) → 1 ≤ k → k * count ≤ size → 2 ≤ size
-two_at_least k count size some alone one fits =
-    ⊎_elim
-    (λ (e : count ≡ 1). let two : k ≡ 2 = alone e in let twice : k * count ≡ 2 = ap (λ m. m * count) two ∙ ap (λ m. 2 * m) e in omega arith)
-    (λ (other : count ≡ 1 → ⊥). let enough : 2 ≤ count = omega arith in let times : 1 * count ≤ k * count =
-    Rattle.std.proofs.Common.mul-le-mul_right count one in omega arith)
-    (cases_eq count 1)
-
-one_at_least : (k count size : ℕ) → 1 ≤ count → 1 ≤ k → k * count ≤ size → 1 ≤ size
-one_at_least k count size some one fits =
-    let times : 1 * count ≤ k * count = Rattle.std.proofs.Common.mul-le-mul_right count one in omega arith
-
--- one entry below the root is a leaf
-single_form : (half : Half) (kind : Kind) (all : Items) (left : ℕ) (path : List ℕ) (e : Entry) → 0 < length path
-    → form_of_part half kind all left path (e ∷ []) ≡ Some (leaf_form kind e.0 e.1)
-unfolding form_of_part
-single_form half kind all zero path e below = refl
-single_form half kind all (suc left) [] e below = absurd (omega arith)
-single_form half kind all (suc left) (n ∷ path) e below = refl
-
--- more are an inner node
-inner_form : (half : Half) (kind : Kind) (all : Items) (left : ℕ) (path : List ℕ) (there : Items) → (1 ≤ length there)
-    → (0 < length path → 2 ≤ length there)
-    → form_of_part half kind all (suc left) path there ≡ Some (inner_prefix ++ flat_map (kid_hash half kind all left path) branches)
-unfolding form_of_part
-inner_form half kind all left path [] some many = absurd (omega arith)
-inner_form half kind all left [] (e ∷ others) some many = refl
-inner_form half kind all left (n ∷ path) (e ∷ []) some many = absurd (omega (arith, many (omega arith)))
-inner_form half kind all left (n ∷ path) (e ∷ f ∷ others) some many = refl
+use Rattle.tree_laws.proofs.BranchCounts.{clean_each, found_join, at_branch, size_at, hashes_at_branches, pick, enough_below, weight}
+use Rattle.tree_laws.proofs.BranchCounts.{not_lone, some_counted, two_at_least, one_at_least, single_form, inner_form}
 
 module _ (half : Half) (sized : Sized half) (nodes : Lookup) (own : (h : Hash) (form : Bytes) → nodes h ≡ Some form → half form ≡ h)
     (kind : Kind) where

@@ -5,7 +5,9 @@ use Rattle.cow_map.specs.declared.link.Link.{Link}
 use Rattle.cow_map.specs.Trees.{found_at}
 use Rattle.cow_map.specs.Ways.{stop_here}
 use Rattle.cow_map.specs.Edits.{Removes, IsBelowIf}
-use Rattle.cow_map.proofs.Beside.{goes_or, nothing_leaves, leaf_leaves, fork_leaves, removal_none, removal_one, removal_step}
+use Rattle.cow_map.proofs.Stops.{goes_or}
+use Rattle.cow_map.proofs.Lone.{nothing_leaves, leaf_leaves, fork_leaves}
+use Rattle.cow_map.proofs.Beside.{removal_none, removal_one, removal_step}
 use Rattle.cow_map.proofs.Beside.{stopped_below, passed_below, left_below, some_left}
 use Rattle.cow_map.proofs.Putting.{lone_none, lone_one, lone_fork, changed_below, way_stops, goes_same}
 use Rattle.cow_map.proofs.Removing.{none_removes, leaf_removes, fork_absent, fork_removes, grows_both}

@@ -6,7 +6,7 @@ use Rattle.cow_map.specs.declared.link.Link.TheVariants.{Empty}
 use Rattle.cow_map.specs.Trees.{found_at}
 use Rattle.cow_map.specs.Edits.{IsLeaf, SettlesAt}
 use Rattle.cow_map.proofs.Settling.{settles_by, leaf_settles, root_enough, fork_enough, none_enough}
-use Rattle.cow_map.proofs.Beside.{left_at, leaf_sound, inner_sound}
+use Rattle.cow_map.proofs.Lone.{left_at, leaf_sound, inner_sound}
 use Rattle.cow_map.proofs.Maps.{positive}
 use Rattle.cow_map.proofs.Putting.{goes_same}
 use Rattle.cow_map.proofs.remove.one_left.Goals as goal

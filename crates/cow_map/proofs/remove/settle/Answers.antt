@@ -1,6 +1,6 @@
 use Rattle.std.proofs.Common.{◌-◌, length}
 use Rattle.std.specs.FinMap as map
-use Rattle.cow_map.proofs.Beside.{left_many, inner_sound}
+use Rattle.cow_map.proofs.Lone.{left_many, inner_sound}
 use Rattle.cow_map.proofs.Settling.{settles_by, nowhere_settles, many_enough}
 use Rattle.cow_map.proofs.remove.settle.Goals as goal
 

@@ -7,8 +7,10 @@ use Rattle.cow_map.specs.Bodies.{IsBelow}
 use Rattle.cow_map.specs.Taking.{ends_under}
 use Rattle.cow_map.proofs.Planting.{none_below}
 use Rattle.cow_map.proofs.Results.{ok_map}
-use Rattle.cow_map.proofs.Taking.{halfway_none, halfway_more, inner_gathers, none_gathers, leaf_gathers, two_end, none_under}
-use Rattle.cow_map.proofs.Taking.{sorted_rest, grows_twice}
+use Rattle.cow_map.proofs.Taking.{halfway_none, halfway_more, inner_gathers, none_gathers, leaf_gathers, none_under}
+use Rattle.cow_map.proofs.Ends.{two_end}
+use Rattle.cow_map.proofs.Ends.{sorted_rest}
+use Rattle.cow_map.proofs.Taking.{grows_twice}
 use Rattle.cow_map.proofs.sorted.+gather.Goals as goal
 
 pub inner_of-loop-b-init : goal.inner_of-loop-b-init

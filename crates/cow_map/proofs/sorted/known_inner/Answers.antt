@@ -1,4 +1,4 @@
-use Rattle.cow_map.proofs.Taking.{two_under}
+use Rattle.cow_map.proofs.Ends.{two_under}
 use Rattle.cow_map.proofs.sorted.known_inner.Goals as goal
 
 pub returns : goal.returns

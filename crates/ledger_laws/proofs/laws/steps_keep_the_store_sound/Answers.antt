@@ -1,4 +1,4 @@
-use Rattle.ledger_laws.proofs.SoundSteps.{step_sound}
+use Rattle.ledger_laws.proofs.EachCommand.{step_sound}
 use Rattle.ledger_laws.proofs.laws.steps_keep_the_store_sound.Goals as goal
 
 pub returns : goal.returns

@@ -1,5 +1,5 @@
 use Rattle.std.proofs.Common.{◌<◌, length, refl, arith}
-use Rattle.map_changes.proofs.Tracks.{next_told}
+use Rattle.map_changes.proofs.Telling.{next_told}
 use Rattle.map_changes.proofs.hashing.next_hash.Goals as goal
 
 -- the hash of a node is that of its form

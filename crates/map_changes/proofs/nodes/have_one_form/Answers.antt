@@ -1,5 +1,5 @@
 use Rattle.std.proofs.Common.{rules}
-use Rattle.map_changes.proofs.Tracks.{two_forms}
+use Rattle.map_changes.proofs.Telling.{two_forms}
 use Rattle.map_changes.proofs.nodes.have_one_form.Goals as goal
 
 -- forms of two hashes are two

@@ -1,4 +1,4 @@
-use Rattle.map_changes.proofs.Tracks.{are_two}
+use Rattle.map_changes.proofs.Telling.{are_two}
 use Rattle.map_changes.proofs.nodes.have_two_hashes.Goals as goal
 
 pub returns : goal.returns

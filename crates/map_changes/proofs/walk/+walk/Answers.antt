@@ -5,7 +5,8 @@ use Rattle.std.specs.List.{flat_map, range_with_len}
 use Rattle.map_changes.specs.Placed.{Placed, changed}
 use Rattle.map_changes.specs.Given.{given}
 use Rattle.map_changes.specs.Walks.{old_kid, itself, shared_nodes}
-use Rattle.map_changes.proofs.Walking.{shared_say, walk_is, branch_changes, branch_more, listed_all, changed_same}
+use Rattle.map_changes.proofs.Walking.{shared_say, walk_is, branch_changes, branch_more, listed_all}
+use Rattle.map_changes.proofs.Changed.{changed_same}
 use Rattle.map_changes.proofs.walk.+walk.Goals as goal
 
 -- both maps have the same node here, so the same nodes below it, and none has changed

@@ -2,7 +2,7 @@
 use Rattle.std.proofs.Common.{Ok, sym, ap, ◌∙◌}
 use Rattle.std.proofs.lemmas.Result.{err_from_is_err_and}
 use Rattle.ledger_spec.specs.Forms.{inner}
-use Rattle.node_wire.proofs.Taking.{all_read, chunk_refused, chunk_taken}
+use Rattle.node_wire.proofs.TakingBytes.{all_read, chunk_refused, chunk_taken}
 use Rattle.node_wire.proofs.Wires.{inner_is, inner_none}
 use Rattle.node_wire.proofs.chunks.compressed_inner.Goals as goal
 

@@ -1,5 +1,5 @@
 use Rattle.std.proofs.Common.{refl}
-use Rattle.script_form.proofs.Said.{none_before, all_met}
+use Rattle.script_form.proofs.Order.{none_before, all_met}
 use Rattle.script_form.proofs.trying.first_cause.Goals as goal
 
 -- this cause stands, and each one before it in the order was tried and doesn't

@@ -3,7 +3,7 @@ use Rattle.std.proofs.Common.{◌≡◌, ◌∙◌, ◌+◌, ◌<◌, ◌^◌, L
 use Rattle.ledger_spec.specs.Bytes.{Hash}
 use Rattle.copy_walk.specs.Walks.{Walk, ShadesSome, shaded}
 use Rattle.copy_walk.specs.Slices.{Blackens}
-use Rattle.copy_walk.proofs.Taking.{has_too, black_less, blackened, more_black}
+use Rattle.copy_walk.proofs.Shading.{has_too, black_less, blackened, more_black}
 use Rattle.copy_walk.proofs.walk.CopyWalk.blacken.Goals as goal
 
 pub returns-clause-ok : goal.returns-clause-ok

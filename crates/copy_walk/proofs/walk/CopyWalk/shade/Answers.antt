@@ -1,5 +1,5 @@
 use Rattle.std.proofs.Common.{◌∙◌, inl, refl, sym}
-use Rattle.copy_walk.proofs.Taking.{is_black}
+use Rattle.copy_walk.proofs.Shading.{is_black}
 use Rattle.copy_walk.proofs.walk.CopyWalk.shade.Goals as goal
 
 -- a black hash needn't be taken

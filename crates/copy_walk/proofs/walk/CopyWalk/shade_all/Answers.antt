@@ -2,7 +2,7 @@ use Rattle.std.proofs.Common.{◌≡◌, ◌+◌, ◌++◌, ◌∷◌, [], List,
 use Rattle.std.proofs.lemmas.Grind.{common_steps}
 use Rattle.ledger_spec.specs.Bytes.{Hash}
 use Rattle.copy_walk.specs.Walks.{Walk, ShadesSome, shaded}
-use Rattle.copy_walk.proofs.Taking.{front_shaded, one_shaded, all_shaded}
+use Rattle.copy_walk.proofs.Shading.{front_shaded, one_shaded, all_shaded}
 use Rattle.copy_walk.proofs.walk.CopyWalk.shade_all.Goals as goal
 
 -- where one is refused, some were shaded

@@ -2,7 +2,8 @@
 use Rattle.std.proofs.Common.{◌≡◌, ◌≢◌, ◌∙◌, ◌-◌, ◌<◌, [], Some, length, slice_get, refl, sym, subst, arith}
 use Rattle.std.proofs.lemmas.Option.{slice_get_read}
 use Rattle.copy_walk.specs.Walks.{Walk}
-use Rattle.copy_walk.proofs.Taking.{is_black, not_black, stands_at, leaves_at, left_less, strode_again, some_grey}
+use Rattle.copy_walk.proofs.Shading.{is_black, not_black, stands_at, leaves_at, left_less}
+use Rattle.copy_walk.proofs.Taking.{strode_again, some_grey}
 use Rattle.copy_walk.proofs.walk.CopyWalk.take.Goals as goal
 
 -- a black hash is let go

@@ -4,7 +4,8 @@ use Rattle.std.specs.Option.{option_map}
 use Rattle.ledger_spec.specs.Bytes.{Hash}
 use Rattle.copy_walk.specs.Walks.{Walk, ShadesSome}
 use Rattle.copy_walk.specs.Strides.{Leaves}
-use Rattle.copy_walk.proofs.Taking.{stands_at, leaves_at, grey_at, left_less, on_err, strode_copy, strode_left, strode_some, strode_done}
+use Rattle.copy_walk.proofs.Shading.{stands_at, leaves_at, grey_at, left_less}
+use Rattle.copy_walk.proofs.Taking.{on_err, strode_copy, strode_left, strode_some, strode_done}
 use Rattle.copy_walk.proofs.walk.CopyWalk.take_at.Goals as goal
 
 -- the form can't be copied, or what it names not be read

@@ -3,7 +3,7 @@ use Rattle.map_changes.specs.Placed.{changed}
 use Rattle.map_changes.specs.Given.{given}
 use Rattle.map_changes.specs.Walks.{shared_nodes}
 use Rattle.map_changes.specs.Tracking.{Tracking, place_of, node_at, kid_at}
-use Rattle.map_changes.proofs.Tracks.{changes_told}
+use Rattle.map_changes.proofs.Telling.{changes_told}
 use Rattle.map_changes.proofs.tracked_map.TrackedMap.changes.Goals as goal
 
 -- a walk from both tops lists what the shared nodes say, and they stand for both maps

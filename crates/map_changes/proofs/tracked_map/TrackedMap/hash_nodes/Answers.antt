@@ -1,5 +1,5 @@
 use Rattle.map_changes.specs.Tracking.{Tracking}
-use Rattle.map_changes.proofs.Tracks.{hashed_keeps}
+use Rattle.map_changes.proofs.Telling.{hashed_keeps}
 use Rattle.map_changes.proofs.tracked_map.TrackedMap.hash_nodes.Goals as goal
 
 -- the hashes that are added are right

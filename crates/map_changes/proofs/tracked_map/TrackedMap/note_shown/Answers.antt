@@ -1,5 +1,5 @@
 use Rattle.map_changes.specs.Tracking.{Tracking}
-use Rattle.map_changes.proofs.Tracks.{taken_keeps}
+use Rattle.map_changes.proofs.Telling.{taken_keeps}
 use Rattle.map_changes.proofs.tracked_map.TrackedMap.note_shown.Goals as goal
 
 -- what it is now is a map of its own, which then is also what it was

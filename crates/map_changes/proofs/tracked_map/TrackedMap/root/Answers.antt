@@ -1,7 +1,7 @@
 use Rattle.std.proofs.Common.{◌≡◌, Some, sym, ap, ◌∙◌, subst}
 use Rattle.std.specs.List.{slice_get}
 use Rattle.map_changes.specs.Tracking.{Tracking, AreHashes, place_of}
-use Rattle.map_changes.proofs.Tracks.{nothing_told, root_told}
+use Rattle.map_changes.proofs.Telling.{nothing_told, root_told}
 use Rattle.map_changes.proofs.tracked_map.TrackedMap.root.Goals as goal
 
 -- no place: no item

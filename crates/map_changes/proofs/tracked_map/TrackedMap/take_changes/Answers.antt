@@ -1,5 +1,6 @@
 use Rattle.std.proofs.Common.{◌∙◌}
-use Rattle.map_changes.proofs.Tracks.{taken_leaves, taken_items, taken_shown, hashed_changes}
+use Rattle.map_changes.proofs.Tracks.{taken_leaves, taken_items, taken_shown}
+use Rattle.map_changes.proofs.Telling.{hashed_changes}
 use Rattle.map_changes.proofs.tracked_map.TrackedMap.take_changes.Goals as goal
 
 -- hashes and what was shown are no part of the map

@@ -1,5 +1,5 @@
 use Rattle.map_changes.specs.Tracking.{Tracking}
-use Rattle.map_changes.proofs.Tracks.{node_told}
+use Rattle.map_changes.proofs.Telling.{node_told}
 use Rattle.map_changes.proofs.tracked_map.TrackedMapShared.show.Goals as goal
 
 -- the hash of a node is known only of one that is there, and then it is that of the node's form

@@ -1,0 +1,202 @@
+-- What a map tells of its changes, and its root, and what it keeps once they were taken.
+use Rattle.std.proofs.Common.{◌≡◌, ◌≢◌, ℕ, zero, suc, ◌<◌, List, [], ◌++◌, length, map, Option, None, Some, refl, Bool, true, false}
+use Rattle.std.proofs.Common.{sym, ap, ◌∙◌, subst, arith}
+use Rattle.std.specs.Prelude.{MatchBool, not}
+use Rattle.std.specs.List.{slice_get}
+use Rattle.ledger_spec.specs.declared.Kind.{Kind}
+use Rattle.ledger_spec.specs.Bytes.{Bytes, Hash, Half, Items, same_bytes}
+use Rattle.ledger_spec.specs.Forms.{form_of, hash_of, hash_or_zero}
+use Rattle.ledger_spec.specs.Tree.{form_of_part, form_at, root_of}
+use Rattle.ledger_spec.specs.Wire.{wire_of}
+use Rattle.cow_map.specs.declared.link.Link.{Link}
+use Rattle.cow_map.specs.declared.link.Link.TheVariants.{Empty, Unloaded, Own}
+use Rattle.cow_map.specs.Bodies.{Body, IsBelow, AreBodies}
+use Rattle.cow_map.specs.Gathered.{nothing_held}
+use Rattle.cow_map.specs.Trees.{StandsAt, StandsFor}
+use Rattle.cow_map.proofs.Filters.{part_root}
+use Rattle.map_changes.specs.declared.tracked.Root.{Root}
+use Rattle.map_changes.specs.declared.tracked.PlacedNode.{PlacedNode}
+use Rattle.map_changes.specs.Placed.{nodes_of, changed}
+use Rattle.map_changes.specs.Given.{given, IsRoot}
+use Rattle.map_changes.specs.Placed.{root_blob}
+use Rattle.map_changes.specs.Trees as shared
+use Rattle.map_changes.specs.Walks.{shared_nodes, placed_at}
+use Rattle.map_changes.specs.Tracking.{place_of, link_hash, node_at, kid_at, entries_at, items_at, AreHashes, AreClosed, Tracking, Keeps}
+use Rattle.map_changes.specs.Tracking.{leaves_in, items_in, shown_in, HaveTwoHashes}
+use Rattle.map_changes.proofs.Linking.{hash_is}
+use Rattle.std.specs.Cmp.Lexicographic.{same_text}
+use Rattle.map_changes.proofs.Sharing.{some_within, nothing_there, hash_law, share_law}
+use Rattle.map_changes.proofs.Standings.{shared_map}
+use Rattle.map_changes.proofs.Walking.{shared_say}
+
+-- the nodes below a link that stands for a map
+pub link_nodes : (half : Half) (kind : Kind) (nodes : List Body) (link : Link) (items : Items) → AreBodies nodes
+    → IsBelow (length nodes) link → StandsAt half nothing_held kind nodes 64 [] link items
+    → shared_nodes (node_at half kind nodes) (kid_at nodes) (place_of link) [] ≡ nodes_of half kind items
+link_nodes half kind nodes link items bodies below stands =
+    shared_map half kind items (node_at half kind nodes) (kid_at nodes) (place_of link)
+    (subst (λ (es : Items). shared.StandsFor half kind items (node_at half kind nodes) (kid_at nodes) 64 [] (place_of link) es)
+    (sym (part_root items)) (share_law half kind nodes bodies items 64 [] link items below stands (part_root items)))
+
+-- the hash of a node that is there is that of its form
+pub known_hash : (half : Half) (kind : Kind) (nodes : List Body) → AreBodies nodes → (i : ℕ) → i < length nodes
+    → link_hash half kind nodes (Own i) ≡ hash_of half (node_at half kind nodes i)
+known_hash half kind nodes bodies i low = by (slice_get nodes i) refl
+  where
+    by : (o : Option Body) → slice_get nodes i ≡ o → link_hash half kind nodes (Own i) ≡ hash_of half (node_at half kind nodes i)
+    by None is = absurd (some_within nodes i low is)
+    by (Some body) is = hash_is half kind nodes bodies i body is
+
+-- a link that leads to no place reaches nothing
+pub no_entries : (nodes : List Body) (left : ℕ) (link : Link) → place_of link ≡ None → entries_at nodes left link ≡ []
+unfolding entries_at
+no_entries nodes zero Empty e = refl
+no_entries nodes (suc left) Empty e = refl
+no_entries nodes zero (Unloaded h) e = refl
+no_entries nodes (suc left) (Unloaded h) e = refl
+no_entries nodes left (Own i) e = cc
+
+-- the root, where the top is the node at a place whose hash is known
+module _ (half : Half) (t : Tracking) (keeps : Keeps half t) (bodies : AreBodies t.tree.nodes)
+    (below : IsBelow (length t.tree.nodes) t.tree.top) where
+  abbrev items : Items
+  items = items_at t.tree.nodes t.tree.top
+
+  -- there are items where the top leads to a node
+  pub not_empty : (at : ℕ) → place_of t.tree.top ≡ Some at → items ≢ []
+  not_empty at is nothing =
+      let stands = subst (λ (es : Items). StandsFor half nothing_held t.tree es) nothing keeps.now in
+      let none : place_of t.tree.top ≡ None =
+      nothing_there half t.tree.kind [] (node_at half t.tree.kind t.tree.nodes) (kid_at t.tree.nodes) 64 [] (place_of t.tree.top)
+      (share_law half t.tree.kind t.tree.nodes bodies [] 64 [] t.tree.top [] below stands refl) in
+      cc
+
+  -- the link is the place's
+  own_is : (link : Link) (at : ℕ) → place_of link ≡ Some at → link ≡ Own at
+  own_is Empty at e = cc
+  own_is (Unloaded h) at e = cc
+  own_is (Own i) at e = let same : i ≡ at = cc in ap Own same
+
+  root_hash : (at : ℕ) (h : Hash) → place_of t.tree.top ≡ Some at → slice_get t.hashes at ≡ Some (Some h)
+      → h ≡ root_of half t.tree.kind items
+  unfolding form_at
+  root_hash at h is known =
+      keeps.hashes.each at h known ∙ ap (link_hash half t.tree.kind t.tree.nodes) (sym (own_is t.tree.top at is))
+      ∙ hash_law half t.tree.kind t.tree.nodes bodies items 64 [] t.tree.top items keeps.now (part_root items)
+      ∙ ap (λ (es : Items). hash_or_zero half (form_of_part half t.tree.kind items 64 [] es)) (sym (part_root items))
+
+  root_node : (at : ℕ) → place_of t.tree.top ≡ Some at
+      → wire_of (node_at half t.tree.kind t.tree.nodes at) ≡ root_blob (nodes_of half t.tree.kind items)
+  root_node at is =
+      let held = node_at half t.tree.kind t.tree.nodes in
+      let kid = kid_at t.tree.nodes in
+      ap root_blob (sym ((shared_say held kid).some at [] (omega arith)) ∙ ap (λ l. shared_nodes held kid l []) (sym is)
+      ∙ link_nodes half t.tree.kind t.tree.nodes t.tree.top items bodies below keeps.now)
+
+  pub root_is : (at : ℕ) (root : Root) → place_of t.tree.top ≡ Some at → slice_get t.hashes at ≡ Some (Some root.hash)
+      → root.blob ≡ wire_of (node_at half t.tree.kind t.tree.nodes at) → IsRoot half t.tree.kind items root
+  root_is at root is known blob = record { is_hash = root_hash at root.hash is known; is_blob = blob ∙ root_node at is }
+
+-- what a map tells, in the words of its clauses
+module _ (half : Half) (t : Tracking) (keeps : Keeps half t) (bodies : AreBodies t.tree.nodes)
+    (below : IsBelow (length t.tree.nodes) t.tree.top) where
+  pub root_told : (at : ℕ) (root : Root) → place_of t.tree.top ≡ Some at → slice_get t.hashes at ≡ Some (Some root.hash)
+      → root.blob ≡ wire_of (node_at half t.tree.kind t.tree.nodes at)
+      → (items_in t ≢ []) × IsRoot half (leaves_in t) (items_in t) root
+  unfolding items_in leaves_in
+  root_told at root is known blob = (not_empty half t keeps bodies below at is, root_is half t keeps bodies below at root is known blob)
+
+  changes_are : changed (shared_nodes (node_at half t.tree.kind t.tree.nodes) (kid_at t.tree.nodes) (place_of t.last) [])
+      (shared_nodes (node_at half t.tree.kind t.tree.nodes) (kid_at t.tree.nodes) (place_of t.tree.top) [])
+      ≡ changed (shown_in half t) (nodes_of half (leaves_in t) (items_in t))
+  unfolding items_in leaves_in shown_in
+  changes_are = λ i. changed
+      (link_nodes half t.tree.kind t.tree.nodes t.last (items_at t.tree.nodes t.last) bodies keeps.below keeps.before i)
+      (link_nodes half t.tree.kind t.tree.nodes t.tree.top (items_at t.tree.nodes t.tree.top) bodies below keeps.now i)
+
+  pub changes_told : (old new : Option ℕ) (root : List ℕ) (before out : List PlacedNode) → before ≡ [] → root ≡ []
+      → old ≡ place_of t.last → new ≡ place_of t.tree.top
+      → out ≡ before ++ map (given half) (changed (shared_nodes (node_at half t.tree.kind t.tree.nodes) (kid_at t.tree.nodes) old root)
+      (shared_nodes (node_at half t.tree.kind t.tree.nodes) (kid_at t.tree.nodes) new root))
+      → out ≡ map (given half) (changed (shown_in half t) (nodes_of half (leaves_in t) (items_in t)))
+  changes_told old new root before out b r o n is =
+      let nodes = shared_nodes (node_at half t.tree.kind t.tree.nodes) (kid_at t.tree.nodes) in
+      is ∙ (λ i. b i ++ map (given half) (changed (nodes (o i) (r i)) (nodes (n i) (r i)))) ∙ ap (map (given half)) changes_are
+
+  -- the changes are taken
+  pub taken_keeps : (next : Link) → next ≡ t.tree.top → Keeps half (record { tree = t.tree; last = next; hashes = t.hashes })
+  taken_keeps next is = record {
+    now = keeps.now;
+    before = subst (λ l. StandsAt half nothing_held t.tree.kind t.tree.nodes 64 [] l (items_at t.tree.nodes l)) (sym is) keeps.now;
+    below = subst (IsBelow (length t.tree.nodes)) (sym is) below;
+    hashes = keeps.hashes;
+    closed = keeps.closed;
+  }
+
+pub nothing_told : (t : Tracking) → place_of t.tree.top ≡ None → items_in t ≡ []
+unfolding items_in
+nothing_told t is = no_entries t.tree.nodes 64 t.tree.top is
+
+-- other hashes
+pub hashed_keeps : (half : Half) (t : Tracking) (hashes : List (Option Hash)) → Keeps half t
+    → AreHashes half t.tree.kind t.tree.nodes hashes → AreClosed t.tree.nodes hashes
+    → Keeps half (record { tree = t.tree; last = t.last; hashes = hashes })
+hashed_keeps half t hashes keeps are closed =
+    record { now = keeps.now; before = keeps.before; below = keeps.below; hashes = are; closed = closed }
+
+pub hashed_changes : (half : Half) (old mid : Tracking) → mid.tree ≡ old.tree → mid.last ≡ old.last
+    → map (given half) (changed (shown_in half mid) (nodes_of half (leaves_in mid) (items_in mid)))
+    ≡ map (given half) (changed (shown_in half old) (nodes_of half (leaves_in old) (items_in old)))
+unfolding leaves_in items_in shown_in
+hashed_changes half old mid tree last =
+    λ i. map (given half) (changed (nodes_of half ((tree i).kind) (items_at ((tree i).nodes) (last i)))
+    (nodes_of half ((tree i).kind) (items_at ((tree i).nodes) ((tree i).top))))
+
+-- a node with its place, its hash and its wire form
+abbrev pub placed : List ℕ → Hash → Bytes → PlacedNode
+placed id hash blob = record { id = id; hash = hash; blob = blob }
+
+-- what is shown of a node whose hash is known
+pub node_told : (half : Half) (t : Tracking) → Keeps half t → AreBodies t.tree.nodes → (hashes others : List (Option Hash))
+    → hashes ≡ t.hashes → others ≡ t.hashes → (node : ℕ) (place : List ℕ) (hash : Hash) (blob : Bytes)
+    → slice_get hashes node ≡ Some (Some hash)
+    → ((k : Half) → AreHashes k t.tree.kind t.tree.nodes others → blob ≡ wire_of (node_at k t.tree.kind t.tree.nodes node))
+    → placed place hash blob ≡ given half (placed_at place (node_at half t.tree.kind t.tree.nodes node))
+node_told half t keeps bodies hashes others same same_too node place hash blob known wire =
+    let is : slice_get t.hashes node ≡ Some (Some hash) = ap (λ (hs : List (Option Hash)). slice_get hs node) (sym same) ∙ known in
+    let at : hash ≡ hash_of half (node_at half t.tree.kind t.tree.nodes node) =
+    keeps.hashes.each node hash is ∙ known_hash half t.tree.kind t.tree.nodes bodies node (keeps.hashes.within node hash is) in
+    let told : blob ≡ wire_of (node_at half t.tree.kind t.tree.nodes node) =
+    wire half (subst (AreHashes half t.tree.kind t.tree.nodes) (sym same_too) keeps.hashes) in
+    λ i. placed place (at i) (told i)
+
+-- the hash of the next node, from its form
+pub next_told : (half : Half) (kind : Kind) (nodes : List Body) → AreBodies nodes → (hashes : List (Option Hash)) (at : ℕ)
+    → at ≡ length hashes → at < length nodes → (form bytes : Bytes) → form ≡ form_of (node_at half kind nodes at) → bytes ≡ form
+    → (h : Hash) → h ≡ half bytes → (length hashes < length nodes) × (h ≡ link_hash half kind nodes (Own (length hashes)))
+next_told half kind nodes bodies hashes at here low form bytes is same h e = (
+  subst (λ n. n < length nodes) here low,
+  e ∙ ap half (same ∙ is) ∙ sym (known_hash half kind nodes bodies at low) ∙ ap (λ n. link_hash half kind nodes (Own n)) here,
+)
+
+-- what isn't equal is two
+pub are_two : (P Q : Type 0) (same : Bool) → MatchBool same P Q → not same ≡ true → Q
+are_two P Q true one t = cc
+are_two P Q false two t = two
+
+-- nodes of two hashes have two forms
+pub two_forms : (half : Half) (kind : Kind) (nodes : List Body) → AreBodies nodes → (hashes : List (Option Hash)) (i j : ℕ)
+    → HaveTwoHashes hashes i j → AreHashes half kind nodes hashes
+    → false ≡ same_bytes (form_of (node_at half kind nodes i)) (form_of (node_at half kind nodes j))
+two_forms half kind nodes bodies hashes i j two are = by (same_bytes (form_of (node_at half kind nodes i))
+    (form_of (node_at half kind nodes j))) refl
+  where
+    hash_at : (n : ℕ) (h : Hash) → slice_get hashes n ≡ Some (Some h) → h ≡ half (form_of (node_at half kind nodes n))
+    hash_at n h is = are.each n h is ∙ known_hash half kind nodes bodies n (are.within n h is)
+
+    by : (t : Bool) → same_bytes (form_of (node_at half kind nodes i)) (form_of (node_at half kind nodes j)) ≡ t
+        → false ≡ same_bytes (form_of (node_at half kind nodes i)) (form_of (node_at half kind nodes j))
+    by false e = sym e
+    by true e = absurd (two.apart (hash_at i two.own.0 two.own.1
+        ∙ ap half (same_text (form_of (node_at half kind nodes i)) (form_of (node_at half kind nodes j)) (sym e))
+        ∙ sym (hash_at j two.others.0 two.others.1)))
