@@ -6,7 +6,7 @@ use Rattle.full_below.specs.declared.marks.Marks.{Marks}
 use Rattle.full_below.specs.Marking.{is_marked, after_use}
 use Rattle.full_below.proofs.Marked.{use_stays}
 use Rattle.missing_walk.specs.declared.todo.Todo.{Todo}
-use Rattle.missing_walk.specs.declared.view.View.{View}
+use Rattle.missing_walk.specs.declared.sight.View.{View}
 use Rattle.missing_walk.specs.declared.search.Search.{Search}
 use Rattle.missing_walk.specs.Pending.{Pending, pending_of, stacked}
 use Rattle.missing_walk.specs.Passes.{IsNothing, SeesNothing, StillMarked, key_of, AllMarked, IsIdle, Skips, PassesOne}

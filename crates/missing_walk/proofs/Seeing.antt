@@ -32,8 +32,8 @@ use Rattle.tree_cache.proofs.Using.{cached_is, still_cached, cached_more}
 use Rattle.tree_laws.specs.Walks.{at_place}
 use Rattle.tree_laws.proofs.Sights.{Sees, sees_sound}
 use Rattle.tree_laws.proofs.Below.{below_zero}
-use Rattle.missing_walk.specs.declared.view.View.{View}
-use Rattle.missing_walk.specs.declared.view.View.TheVariants as view
+use Rattle.missing_walk.specs.declared.sight.View.{View}
+use Rattle.missing_walk.specs.declared.sight.View.TheVariants as view
 use Rattle.missing_walk.specs.Pending.{Pending, branches_in, placed, FoundAs, kids_of, kids_from, IsHeldAt, IsFull}
 use Rattle.missing_walk.specs.Pending.{IsCachedTrue}
 use Rattle.missing_walk.specs.Views.{Tells, ShowsAs, Views, KeepsMarks, KeepsCache, MayPut}

@@ -13,8 +13,8 @@ use Rattle.std.proofs.lemmas.Bool.Decides.{nat_tests}
 use Rattle.ledger_spec.specs.Rules.{fault_of}
 use Rattle.missing_walk.specs.Sees.{is_sound_leaf}
 use Rattle.missing_walk.specs.Views.{ShowsAs, HasLevels}
-use Rattle.missing_walk.specs.declared.view.View.{View}
-use Rattle.missing_walk.specs.declared.view.View.TheVariants as view
+use Rattle.missing_walk.specs.declared.sight.View.{View}
+use Rattle.missing_walk.specs.declared.sight.View.TheVariants as view
 
 pub leaf_end : (sight : Sight) (place : Rattle.ledger_spec.specs.declared.Place.Place) → is_sound_leaf sight ≡ true
     → cons_option (finding_at place sight) [] ≡ []

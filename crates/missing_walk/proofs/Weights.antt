@@ -19,8 +19,8 @@ use Rattle.tree_cache.proofs.Using.{cached_is}
 use Rattle.shamap_node.specs.Nodes.{held}
 use Rattle.shamap_node.specs.declared.Node.{Node}
 use Rattle.shamap_node.specs.declared.Node.TheVariants as variant
-use Rattle.missing_walk.specs.declared.view.View.{View}
-use Rattle.missing_walk.specs.declared.view.View.TheVariants as view
+use Rattle.missing_walk.specs.declared.sight.View.{View}
+use Rattle.missing_walk.specs.declared.sight.View.TheVariants as view
 use Rattle.missing_walk.specs.Pending.{Pending, kid, kids_from, kids_of, IsHeldAt, IsCachedTrue}
 use Rattle.missing_walk.specs.Views.{ShowsAs, HasLevels}
 use Rattle.missing_walk.specs.Rests.{weight, stored_weight, most_below, most_from, most_again, load, Weighs}

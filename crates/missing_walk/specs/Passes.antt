@@ -10,8 +10,8 @@ use Rattle.full_below.specs.declared.key.MarkKey.{MarkKey}
 use Rattle.full_below.specs.declared.marks.Marks.{Marks}
 use Rattle.full_below.specs.Marking.{is_marked}
 use Rattle.missing_walk.specs.declared.todo.Todo.{Todo}
-use Rattle.missing_walk.specs.declared.view.View.{View}
-use Rattle.missing_walk.specs.declared.view.View.TheVariants as view
+use Rattle.missing_walk.specs.declared.sight.View.{View}
+use Rattle.missing_walk.specs.declared.sight.View.TheVariants as view
 use Rattle.missing_walk.specs.declared.search.Search.{Search}
 use Rattle.missing_walk.specs.declared.search.Slice.{Slice}
 use Rattle.missing_walk.specs.declared.search.Slice.TheVariants as slice

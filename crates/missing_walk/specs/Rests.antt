@@ -4,8 +4,8 @@ use Rattle.std.specs.Prelude.{List, [], ◌∷◌, length, None}
 use Rattle.std.specs.Bool.{⊤}
 use Rattle.ledger_spec.specs.Bytes.{Half, Lookup}
 use Rattle.ledger_spec.specs.Findings.{walk, walk_ledger}
-use Rattle.missing_walk.specs.declared.view.View.{View}
-use Rattle.missing_walk.specs.declared.view.View.TheVariants as view
+use Rattle.missing_walk.specs.declared.sight.View.{View}
+use Rattle.missing_walk.specs.declared.sight.View.TheVariants as view
 use Rattle.missing_walk.specs.declared.search.Search.{Search}
 use Rattle.missing_walk.specs.Pending.{Pending, stacked, noted_places, kids_of}
 

@@ -19,8 +19,8 @@ use Rattle.full_below.specs.declared.key.MarkKey.{MarkKey}
 use Rattle.full_below.specs.declared.marks.Marks.{Marks}
 use Rattle.tree_cache.specs.declared.cache.TreeCache.{TreeCache}
 use Rattle.tree_cache.specs.Caching.{after_put, AreCached}
-use Rattle.missing_walk.specs.declared.view.View.{View}
-use Rattle.missing_walk.specs.declared.view.View.TheVariants as view
+use Rattle.missing_walk.specs.declared.sight.View.{View}
+use Rattle.missing_walk.specs.declared.sight.View.TheVariants as view
 use Rattle.missing_walk.specs.Sees.{is_sound_leaf}
 use Rattle.missing_walk.specs.Pending.{Pending, branches_in, found_at, FoundAs, kids_of, IsInnerAt}
 

@@ -13,9 +13,10 @@ ghost use Rattle.missing_walk.specs.Moves.{has_ended, Heeds};
 ghost use Rattle.missing_walk.specs.Rests.{weight, stored_weight, most_from, most_again, left_in, Weighs, Lighter};
 
 use crate::search::{MOST_MISSING, Search};
+use crate::sight::View;
 use crate::stack::{go_below, note, put_back, settle, skip};
 use crate::todo::Todo;
-use crate::view::{View, see};
+use crate::view::see;
 use full_below::Marks;
 use half_hash::{Memory, NodeHash};
 use ledger_spec::Place;

@@ -16,7 +16,6 @@ ghost use Rattle.shamap_node.specs.declared.Node.TheVariants as nodes;
 ghost use Rattle.shamap_node.specs.Heads.{without_data};
 ghost use Rattle.missing_walk.specs.Views.{ShowsAs, HasLevels, is_inner_node};
 
-use crate::view::View;
 use half_hash::{Blob, Hash32, NodeHash};
 use ledger_header::Header;
 use ledger_spec::{Kind, ShapeFault};
@@ -26,6 +25,16 @@ use rotating_store::{RotStore, own_form};
 use shamap_node::{Inner, Item, Leaf, Node, inner_of, leaf_head, shape};
 use std::alloc::Global;
 use std::sync::Arc;
+
+/// What is seen at a place: its hash isn't stored, it breaks a rule, it has an inner node to go below, or nothing is found at it and
+/// below.
+#[derive(Drop)]
+pub(crate) enum View {
+    Missing,
+    Broken(ShapeFault),
+    Below(Arc<Node>),
+    Nothing,
+}
 
 /// What is seen at a place below this parent, in a map of this kind, at this path. Where it is an inner node that belongs there, that
 /// takes the memory of one node.

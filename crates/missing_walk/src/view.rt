@@ -15,27 +15,16 @@ ghost use Rattle.missing_walk.specs.Views.{Tells, Views, ShowsAs, KeepsMarks, Ke
 ghost use Rattle.missing_walk.specs.Rests.{weight, stored_weight, Weighs};
 ghost use Rattle.shamap_node.specs.declared.Node.TheVariants as nodes;
 
-use crate::sight::{judge_node, look};
+use crate::sight::{View, judge_node, look};
 use crate::todo::Todo;
 use full_below::Marks;
 use half_hash::{Hash32, NodeHash};
-use ledger_spec::ShapeFault;
 use node_backend::{BackFault, Shelf};
 use rotating_store::RotStore;
 use shamap_node::{Inner, Node};
 use std::alloc::Global;
 use std::sync::Arc;
 use tree_cache::TreeCache;
-
-/// What is seen at a place: its hash isn't stored, it breaks a rule, it has an inner node to go below, or nothing is found at it and
-/// below.
-#[derive(Drop)]
-pub(crate) enum View {
-    Missing,
-    Broken(ShapeFault),
-    Below(Arc<Node>),
-    Nothing,
-}
 
 /// What is seen at a place. It asks each backend at most once.
 pub(crate) fn see<H: NodeHash, Sh: Shelf>(

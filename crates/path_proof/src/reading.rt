@@ -15,7 +15,7 @@ use crate::way::{Progress, Reading, judged};
 use crate::{NodeSource, Outcome};
 use half_hash::{Hash32, NodeHash, known_half};
 use nib_path::NodeId;
-use shamap_node::{Inner, Kind, Node, ShapeFault};
+use shamap_node::{Inner, Kind, Node};
 use std::alloc::Global;
 use std::sync::Arc;
 

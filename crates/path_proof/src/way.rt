@@ -10,9 +10,9 @@ ghost use Rattle.path_proof.specs.Sources.{Gives, Holds, HasHash};
 ghost use Rattle.path_proof.specs.Ways.{Ends, Fits};
 ghost use Rattle.path_proof.specs.Progressing.{Comes, IsFetched, IsOnWay, levels_left, wanted_by, StaysBelow};
 
+use crate::FetchFault;
 use crate::answer::{Answer, ReadFault};
 use crate::waypoints::Waypoint;
-use crate::{FetchFault, Outcome};
 use half_hash::{Hash32, NodeHash};
 use nib_path::NodeId;
 use shamap_node::{Inner, Kind, Node, ShapeFault, shape};

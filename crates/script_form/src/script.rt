@@ -16,7 +16,7 @@ use crate::words::piece_end;
 use half_hash::{Memory, NodeHash};
 use ledger_machine::Script;
 use run_io::{AllFault, Source, read_all};
-use std::alloc::{AllocError, AllocFailed, Global};
+use std::alloc::{AllocFailed, Global};
 
 /// Why there is no script.
 #[derive(Clone, Copy, Debug, PartialEq, Eq)]
