@@ -14,7 +14,7 @@ use Rattle.ledger_spec.specs.Own.{AreStored}
 use Rattle.ledger_spec.specs.Offers.{Clash, head_outcome, head_forms, node_outcome, stored_by}
 use Rattle.ledger_spec.specs.Bases.{Judged, with_forms, joined, root_outcome, root_forms, unless_clash, behind_header}
 use Rattle.ledger_spec.specs.Bases.{behind_state, base_outcome, base_forms}
-use Rattle.ledger_spec.proofs.Storing.{head_form_fits, node_fits, forms_kept}
+use Rattle.ledger_spec.proofs.shared.Storing.{head_form_fits, node_fits, forms_kept}
 use Rattle.rotating_store.specs.Stores.{Store, Counted}
 use Rattle.rotating_store.specs.Reading.{KeepsReadable}
 use Rattle.node_offer.specs.declared.fault.OfferFault.{OfferFault}
@@ -25,7 +25,7 @@ use Rattle.node_offer.specs.declared.outcome.Offered.{Offered as Told}
 use Rattle.node_offer.specs.Outcomes.{numbered}
 use Rattle.acquire_core.specs.Parts.{said, judged as judged_by}
 use Rattle.acquire_core.specs.Answers.{forms_in, HasFront, Answers}
-use Rattle.acquire_core.proofs.Growing.{holds, has_more, front_more, front_of}
+use Rattle.acquire_core.proofs.shared.Growing.{holds, has_more, front_more, front_of}
 
 -- numbers below 256 are bytes
 pub bytes_by : (xs : Bytes) → ((i : ℕ) → get_or xs i 0 < 256) → IsTrue (are_bytes xs)

@@ -1,5 +1,4 @@
-pub mod Growing
+pub mod shared
 pub mod Judging
-pub mod Wanting
 pub mod Ticking
 pub mod Replying

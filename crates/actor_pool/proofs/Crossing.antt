@@ -8,8 +8,8 @@ use Rattle.std.proofs.MapsCrossingOver.{BTreeSet-send, HashSet-send}
 use Rattle.lru.proofs.Crosses.{KeyRef-send, List-send, Deed-send}
 use Rattle.std.specs.contracts.sync.Mutex as Mutex
 use Rattle.half_hash.specs.declared.NodeHash as hashes
-use Rattle.half_hash.proofs.Crossing.{Hash32-send, Hash32-sync}
-use Rattle.shamap_node.proofs.Crossing.{Node-send, Node-sync}
+use Rattle.half_hash.proofs.shared.Crossing.{Hash32-send, Hash32-sync}
+use Rattle.shamap_node.proofs.shared.Crossing.{Node-send, Node-sync}
 use Rattle.node_backend.specs.declared.back.Shelf as shelves
 use Rattle.node_backend.specs.declared.back.Backend as backends
 use Rattle.tree_cache.specs.contracts.cache.TreeCache as TreeCache

@@ -3,7 +3,7 @@ use Rattle.std.proofs.Common.{◌≡◌, ⊎_elim, ℕ, Bool, true, false, ◌||
 use Rattle.std.specs.List.{list_any}
 use Rattle.std.proofs.lemmas.Bool.{false≢true}
 use Rattle.std.proofs.lemmas.List.Elements.{Contains-append_left, Contains-append_right, Contains-append_cases}
-use Rattle.ledger_spec.proofs.Storing.{in_nothing, in_one}
+use Rattle.ledger_spec.proofs.shared.Storing.{in_nothing, in_one}
 use Rattle.ledger_machine.specs.declared.commands.Line.{Line}
 
 -- where a test that finds other actors finds no line, all lines are of one actor, and the other way

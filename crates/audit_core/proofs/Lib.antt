@@ -1,7 +1,4 @@
-pub mod Behind
-pub mod Decoded
+pub mod shared
 pub mod Verdicts
 pub mod Cuts
-pub mod Underway
 pub mod Roots
-pub mod Twins

@@ -14,15 +14,15 @@ use Rattle.ledger_spec.specs.Bytes.{Bytes, Hash, Half, Items, branches}
 use Rattle.ledger_spec.specs.Forms.{leaf, IsHeld, inner_prefix, leaf_form, hash_or_zero}
 use Rattle.ledger_spec.specs.Findings.{held_of}
 use Rattle.ledger_spec.specs.Tree.{Entry, AreItems, part, is_alone, form_of_part, forms_of_part, forms_of, root_of}
-use Rattle.ledger_spec.proofs.Seeing.{sees}
-use Rattle.tree_laws.proofs.Trees.{Sized, at_itself, under_whole, each_in_part, alone_nil, leaf_no_inner, size_or_zero, concat_map}
-use Rattle.tree_laws.proofs.Trees.{sizes_map, hashes_are, hash_at_branch}
-use Rattle.tree_laws.proofs.Shapes.{key_size}
-use Rattle.tree_laws.proofs.Joins.{flat_same, in_head, in_range, join_has}
-use Rattle.tree_laws.proofs.MapPages.{map_kept, all_under, part_branches}
-use Rattle.tree_laws.proofs.ByteItems.{keys_of_items}
-use Rattle.tree_laws.proofs.Subtrees.{kid_forms, kid_form, inner_above, form_none, form_bottom, form_alone, form_fork, forms_bottom}
-use Rattle.tree_laws.proofs.Subtrees.{forms_alone, forms_fork, form_at_is}
+use Rattle.ledger_spec.proofs.shared.Seeing.{sees}
+use Rattle.tree_laws.proofs.shared.Trees.{Sized, at_itself, under_whole, each_in_part, alone_nil, leaf_no_inner, size_or_zero, concat_map}
+use Rattle.tree_laws.proofs.shared.Trees.{sizes_map, hashes_are, hash_at_branch}
+use Rattle.tree_laws.proofs.shared.Shapes.{key_size}
+use Rattle.tree_laws.proofs.shared.Joins.{flat_same, in_head, in_range, join_has}
+use Rattle.tree_laws.proofs.shared.MapPages.{map_kept, all_under, part_branches}
+use Rattle.tree_laws.proofs.shared.ByteItems.{keys_of_items}
+use Rattle.tree_laws.proofs.shared.Subtrees.{kid_forms, kid_form, inner_above, form_none, form_bottom, form_alone, form_fork, forms_bottom}
+use Rattle.tree_laws.proofs.shared.Subtrees.{forms_alone, forms_fork, form_at_is}
 use Rattle.audit_core.specs.Twins.{Collide, IsZeroHashed, IsBroken}
 
 -- what breaks the half among some forms breaks it among more

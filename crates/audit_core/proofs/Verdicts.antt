@@ -9,7 +9,7 @@ use Rattle.audit_core.specs.declared.audit.Audit.{Audit}
 use Rattle.audit_core.specs.Said.{Said, items_or_none}
 use Rattle.audit_core.specs.Verdicts.{counted, ledger_hash, IsExpected, Sums}
 use Rattle.audit_core.specs.Keeping.{Keeps}
-use Rattle.audit_core.proofs.Behind.{none_given, some_given}
+use Rattle.audit_core.proofs.shared.Behind.{none_given, some_given}
 
 -- items that aren't given have whatever is asked of those that are
 pub not_given : (P : Items → Type 0) (o : Option Items) → is_some o ≡ false → IfSome o P

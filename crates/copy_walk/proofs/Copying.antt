@@ -6,15 +6,15 @@ use Rattle.std.specs.declared.cmp.Ordering.{Ordering}
 use Rattle.std.specs.declared.cmp.Ordering.TheVariants.{Less, Equal, Greater}
 use Rattle.std.specs.FinMap as finite
 use Rattle.std.specs.FinMap.{get-insert}
-use Rattle.node_backend.proofs.Tables.{hashes_antisymmetric}
+use Rattle.node_backend.proofs.shared.Tables.{hashes_antisymmetric}
 use Rattle.ledger_spec.specs.Bytes.{Bytes, Hash, Nodes}
 use Rattle.rotating_store.specs.Stores.{Store, nodes_of}
 use Rattle.rotating_store.specs.Moves.{Moves, IsOld}
 use Rattle.rotating_store.specs.declared.pair.Moved.{Moved}
 use Rattle.rotating_store.specs.declared.pair.Moved.TheVariants as moved
-use Rattle.rotating_store.proofs.Merging.{get-merged}
+use Rattle.rotating_store.proofs.shared.Merging.{get-merged}
 use Rattle.copy_walk.specs.Slices.{CopiesOne}
-use Rattle.copy_walk.proofs.Striding.{some_not_none, one_form}
+use Rattle.copy_walk.proofs.shared.Striding.{some_not_none, one_form}
 
 -- what is got after an insertion was there before, or is what was inserted
 inserted : (w : Nodes) (h : Hash) (form : Bytes) (q : Hash) (f : Bytes) → finite.get (finite.insert w h form) q ≡ Some f

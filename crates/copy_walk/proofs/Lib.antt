@@ -1,5 +1,5 @@
+pub mod shared
 pub mod Lists
-pub mod Striding
 pub mod Writing
 pub mod Moving
 pub mod Copying

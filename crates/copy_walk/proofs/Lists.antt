@@ -1,10 +1,10 @@
 -- What the lists of a walk have.
-use Rattle.std.proofs.Common.{◌≡◌, ◌⊎◌, inl, inr, ⊎_elim, ◌∷◌, [], List, Contains, sym, subst, arith, ◌<◌}
+use Rattle.std.proofs.Common.{◌≡◌, ◌⊎◌, inl, inr, ⊎_elim, ◌∷◌, [], List, Contains, arith, ◌<◌}
 use Rattle.std.proofs.lemmas.List.Sorted.{Contains-permutation, IsPermutation-sym}
 use Rattle.std.proofs.lemmas.List.Elements.{Contains-append_left, Contains-append_right, Contains-append_cases, Contains-push}
 use Rattle.ledger_spec.specs.Bytes.{Hash}
-use Rattle.ledger_spec.proofs.Storing.{in_one}
-use Rattle.copy_walk.specs.Walks.{Walk, shaded, Shades}
+use Rattle.ledger_spec.proofs.shared.Storing.{in_one}
+use Rattle.copy_walk.specs.Walks.{Walk, shaded}
 use Rattle.copy_walk.specs.Strides.{Leaves}
 
 pub in_none : (h : Hash) → Contains {X = Hash} [] h → ⊥
@@ -38,34 +38,3 @@ module _ (w : Walk) (h : Hash) (w' : Walk) (leaves : Leaves w h w') where
 
   pub still_grey : (q : Hash) → Contains w.grey q → (q ≡ h) ⊎ Contains w'.grey q
   still_grey q c = first_or_later h q w'.grey (Contains-permutation w.grey (h ∷ w'.grey) q leaves c)
-
--- what is shaded once more is shaded
-module _ (w : Walk) (h : Hash) (w' : Walk) (s : Shades w h w') where
-  pub shaded_stays : (q : Hash) → Contains (shaded w) q → Contains (shaded w') q
-  shaded_stays q c =
-      ⊎_elim
-      (λ grey. grey_shaded w' q (⊎_elim
-      (λ same. subst (λ (hs : List Hash). Contains hs q) (sym same.0) grey)
-      (λ more. subst (λ (hs : List Hash). Contains hs q) (sym more) (Contains-append_left w.grey (h ∷ []) q grey)) s.grey))
-      (λ black. black_shaded w' q (subst (λ (hs : List Hash). Contains hs q) (sym s.black) black))
-      (shaded_cases w q c)
-
-  pub is_shaded : Contains (shaded w') h
-  is_shaded =
-      ⊎_elim
-      (λ same. black_shaded w' h (subst (λ (hs : List Hash). Contains hs h) (sym s.black) same.1))
-      (λ more. grey_shaded w' h (subst (λ (hs : List Hash). Contains hs h) (sym more) (Contains-push w.grey h))) s.grey
-
-  pub grey_from : (q : Hash) → Contains w'.grey q → Contains w.grey q ⊎ (q ≡ h)
-  grey_from q c =
-      ⊎_elim
-      (λ same. inl (subst (λ (hs : List Hash). Contains hs q) same.0 c))
-      (λ more. ⊎_elim (λ old. inl old) (λ one. inr (in_one h q one))
-      (Contains-append_cases w.grey (h ∷ []) q (subst (λ (hs : List Hash). Contains hs q) more c))) s.grey
-
-  pub shaded_from : (q : Hash) → Contains (shaded w') q → Contains (shaded w) q ⊎ (q ≡ h)
-  shaded_from q c =
-      ⊎_elim
-      (λ grey. ⊎_elim (λ old. inl (grey_shaded w q old)) (λ one. inr one) (grey_from q grey))
-      (λ black. inl (black_shaded w q (subst (λ (hs : List Hash). Contains hs q) s.black black)))
-      (shaded_cases w' q c)

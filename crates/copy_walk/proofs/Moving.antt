@@ -5,14 +5,16 @@ use Rattle.std.proofs.lemmas.Bool.{false≢true}
 use Rattle.std.specs.Option.{option_or}
 use Rattle.ledger_spec.specs.Bytes.{Bytes, Hash, Lookup}
 use Rattle.ledger_spec.specs.Reach.{Reach, root, kid, Stored}
-use Rattle.ledger_spec.proofs.ReachLaws.{reach_joins}
+use Rattle.ledger_spec.proofs.shared.ReachLaws.{reach_joins}
 use Rattle.copy_walk.specs.Walks.{Walk, shaded, Keeps, Shades, Colours}
 use Rattle.copy_walk.specs.Scenes.{Scene, IsOneMap, IsTurning, IsIdle, RuleWhile, Rule}
 use Rattle.copy_walk.specs.Moves.{Writes, AddsRoot, Slices, Begins, Swaps, EndsRoots, Move, Section}
 use Rattle.copy_walk.specs.Moves.{write, new_root, slice, start, swap, end_roots, fetch, still, also}
-use Rattle.copy_walk.proofs.Lists.{in_none, in_first, grey_shaded, shaded_stays, is_shaded, shaded_from}
-use Rattle.copy_walk.proofs.Striding.{one_form, some_not_none, colours_shaded, colours_stay, kept_stays, kept_was, held_stays, held_was}
-use Rattle.copy_walk.proofs.Striding.{shaded_still, kept_held}
+use Rattle.copy_walk.proofs.Lists.{in_none, in_first, grey_shaded}
+use Rattle.copy_walk.proofs.shared.Lists.{shaded_stays, is_shaded, shaded_from}
+use Rattle.copy_walk.proofs.shared.Striding.{one_form, some_not_none, colours_shaded, colours_stay, kept_stays, kept_was, held_stays}
+use Rattle.copy_walk.proofs.shared.Striding.{held_was}
+use Rattle.copy_walk.proofs.shared.Striding.{shaded_still, kept_held}
 use Rattle.copy_walk.proofs.Writing.{turns, keeps_wider, pair_was, pair_form, by_phase, shaded_while, same_while, write_rule}
 
 -- ---- a new root, and roots that end

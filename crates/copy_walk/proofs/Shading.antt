@@ -17,7 +17,8 @@ use Rattle.ledger_spec.specs.Bytes.{Hash, same_bytes}
 use Rattle.copy_walk.specs.Walks.{Walk, shaded, left_of, Shades, ShadesSome, HasToo}
 use Rattle.copy_walk.specs.Strides.{Leaves}
 use Rattle.copy_walk.specs.Slices.{Blackens}
-use Rattle.copy_walk.proofs.Lists.{in_none, shaded_stays, is_shaded}
+use Rattle.copy_walk.proofs.Lists.{in_none}
+use Rattle.copy_walk.proofs.shared.Lists.{shaded_stays, is_shaded}
 
 -- hashes are told apart by their bytes
 bytes_laws : IsEquivalence same_bytes

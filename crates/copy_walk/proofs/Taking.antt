@@ -14,7 +14,7 @@ use Rattle.copy_walk.specs.Strides.{Strides, Copies, Leaves, here, copied, named
 use Rattle.copy_walk.specs.Counts.{IsCopied, CopiesAtMost}
 use Rattle.copy_walk.specs.Slices.{CopiesOne, KidsAt, Blackens, Strode, IsCutShort, Drains, KeepsRule, SameRest}
 use Rattle.copy_walk.proofs.Lists.{in_first}
-use Rattle.copy_walk.proofs.Striding.{strides_on, colours_stay, shaded_still, kept_stays, kept_was, held_was}
+use Rattle.copy_walk.proofs.shared.Striding.{strides_on, colours_stay, shaded_still, kept_stays, kept_was, held_was}
 
 -- ---- counts
 pub copies_none : (nodes m : Lookup) → CopiesAtMost 0 nodes m m

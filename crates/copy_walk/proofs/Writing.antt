@@ -9,8 +9,9 @@ use Rattle.copy_walk.specs.Walks.{Walk, shaded, Keeps, Shades, Colours}
 use Rattle.copy_walk.specs.Scenes.{Scene, IsOneMap, IsTurning, IsIdle, RuleWhile, Rule}
 use Rattle.copy_walk.specs.Moves.{ShadesWhile, HasPair, Writes}
 use Rattle.copy_walk.specs.Moves.{still}
-use Rattle.copy_walk.proofs.Lists.{grey_shaded, black_shaded, shaded_stays, is_shaded}
-use Rattle.copy_walk.proofs.Striding.{one_form, some_not_none}
+use Rattle.copy_walk.proofs.Lists.{grey_shaded, black_shaded}
+use Rattle.copy_walk.proofs.shared.Lists.{shaded_stays, is_shaded}
+use Rattle.copy_walk.proofs.shared.Striding.{one_form, some_not_none}
 
 -- where what is kept is what the shaded hashes reach, little is left to say of it
 pub turns : (s : Scene) → Colours s.nodes s.written s.walk

@@ -14,11 +14,11 @@ use Rattle.ledger_spec.specs.Maps.{hash_cmp, IsMap}
 use Rattle.ledger_spec.specs.Tree.{Entry}
 use Rattle.shamap_node.specs.declared.parts.Item.{Item}
 use Rattle.cow_map.specs.Gathered.{entry_of, entries_of}
-use Rattle.cow_map.proofs.Entries.{AllCompare}
-use Rattle.cow_map.proofs.Gathered.{sorted_behind, entries_append, first_less}
-use Rattle.cow_map.proofs.Keys.{under_branch}
-use Rattle.cow_map.proofs.Orders.{branch_greater}
-use Rattle.cow_map.proofs.Pushing.{get_more}
+use Rattle.cow_map.proofs.shared.Entries.{AllCompare}
+use Rattle.cow_map.proofs.shared.Gathered.{sorted_behind, entries_append, first_less}
+use Rattle.cow_map.proofs.shared.Keys.{under_branch}
+use Rattle.cow_map.proofs.shared.Orders.{branch_greater}
+use Rattle.cow_map.proofs.shared.Pushing.{get_more}
 use Rattle.cow_build.specs.Building.{IsCut}
 
 abbrev first_of : Item → ℕ

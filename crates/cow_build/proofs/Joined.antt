@@ -11,8 +11,8 @@ use Rattle.ledger_spec.specs.Maps.{hash_cmp, IsMap}
 use Rattle.ledger_spec.specs.Tree.{Entry}
 use Rattle.shamap_node.specs.declared.parts.Item.{Item}
 use Rattle.cow_map.specs.Gathered.{entries_of, nothing_held, ArePartsOf}
-use Rattle.cow_map.proofs.Gathered.{entries_append}
-use Rattle.cow_map.proofs.Keys.{under_branch}
+use Rattle.cow_map.proofs.shared.Gathered.{entries_append}
+use Rattle.cow_map.proofs.shared.Keys.{under_branch}
 use Rattle.std.proofs.Math.ListN.{get_or-map}
 use Rattle.ledger_spec.specs.Bytes.{Half, Items, Lookup, branches}
 use Rattle.cow_map.specs.Bodies.{CowTree}

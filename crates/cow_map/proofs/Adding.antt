@@ -20,7 +20,7 @@ use Rattle.cow_map.specs.Bodies.{Body, leaf, inner}
 use Rattle.cow_map.specs.Trees.{fork, breaks, found_body, Holds, StandsAt}
 use Rattle.cow_map.specs.Seals.{hash_at, form_below, made_of, made_below}
 use Rattle.cow_map.specs.Sealing.{named, first_zero, AddsAll, IsAnswer, Adds, made_at, Stand, SealsFront}
-use Rattle.cow_map.proofs.Standing.{Below, stands_into}
+use Rattle.cow_map.proofs.shared.Standing.{Below, stands_into}
 
 append_none : {X : Type 0} (xs : List X) → xs ++ [] ≡ xs
 append_none [] = refl

@@ -19,7 +19,7 @@ use Rattle.cow_map.specs.Ways.{is_leaf_of, beside_at, removal_stop_at, IsFailure
 use Rattle.cow_map.specs.declared.link.Only.TheVariants as only
 use Rattle.cow_map.specs.Edits.{Leaves}
 use Rattle.cow_map.proofs.Counting.{only_one}
-use Rattle.cow_map.proofs.Planting.{below_set, one_lower}
+use Rattle.cow_map.proofs.shared.Planting.{below_set, one_lower}
 use Rattle.cow_map.proofs.Putting.{lone_none, lone_one, way_none, way_one, way_step}
 use Rattle.cow_map.proofs.Stops.{goes_next, or_both, leaf_same, leaf_is, nothing_went}
 use Rattle.cow_map.proofs.Lone.{beside_none, beside_one, beside_fork, left_grows, left_sound}

@@ -10,10 +10,12 @@ use Rattle.nib_path.specs.Paths.{nibbles, lies_under}
 use Rattle.ledger_spec.specs.Bytes.{Bytes, Hash, branches}
 use Rattle.ledger_spec.specs.Maps.{hash_cmp, insert_in, get_in, remove_in}
 use Rattle.ledger_spec.specs.Tree.{Entry}
-pub use Rattle.tree_laws.proofs.Orders.{all_append}
-pub use Rattle.tree_laws.proofs.Joins.{all_flat, all_range, flat_same}
-use Rattle.cow_map.proofs.Orders.{branch_less, branch_greater}
-use Rattle.cow_map.proofs.Entries.{AllCompare, insert_between, get_between, remove_between}
+pub use Rattle.tree_laws.proofs.shared.Orders.{all_append}
+pub use Rattle.tree_laws.proofs.shared.Joins.{all_flat, all_range, flat_same}
+use Rattle.cow_map.proofs.Orders.{branch_less}
+use Rattle.cow_map.proofs.shared.Orders.{branch_greater}
+use Rattle.cow_map.proofs.shared.Entries.{AllCompare}
+use Rattle.cow_map.proofs.Entries.{insert_between, get_between, remove_between}
 
 range_split : (n m a k c : ℕ) → k ≡ n + suc m → c ≡ a + n → range_with_len a k ≡ range_with_len a n ++ c ∷ range_with_len (c + 1) m
 range_split zero m a k c e f =

@@ -18,11 +18,11 @@ use Rattle.cow_map.specs.Trees.{fewest}
 use Rattle.cow_map.specs.Gathered.{entries_of}
 use Rattle.cow_map.specs.Taking.{ends_under, EndUnder}
 use Rattle.cow_map.proofs.Orders.{branch_less}
-use Rattle.cow_map.proofs.Keys.{differ_above}
+use Rattle.cow_map.proofs.shared.Keys.{differ_above}
 use Rattle.cow_map.proofs.Leading.{get_last}
 use Rattle.cow_map.proofs.Branches.{AllUnder}
-use Rattle.cow_map.proofs.Planting.{fewest_two}
-use Rattle.cow_map.proofs.Gathered.{entries_append, sorted_behind, first_less}
+use Rattle.cow_map.proofs.shared.Planting.{fewest_two}
+use Rattle.cow_map.proofs.shared.Gathered.{entries_append, sorted_behind, first_less}
 
 -- a list is empty, or has a last element
 pub last_or_none : {X : Type 0} (xs : List X) → (xs ≡ []) ⊎ ((front : List X) × (x : X) × (xs ≡ front ++ x ∷ []))

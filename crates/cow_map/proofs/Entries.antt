@@ -4,15 +4,11 @@ use Rattle.std.proofs.Common.{append_assoc}
 use Rattle.std.specs.Ordering.{match_ordering, is_eq}
 use Rattle.std.specs.declared.cmp.Ordering.{Ordering}
 use Rattle.std.specs.declared.cmp.Ordering.TheVariants.{Less, Equal, Greater}
-use Rattle.std.specs.List.{AllByRecursion}
 use Rattle.std.specs.BTreeMap.{is_at}
 use Rattle.ledger_spec.specs.Bytes.{Bytes, Hash}
 use Rattle.ledger_spec.specs.Maps.{hash_cmp, insert_in, get_in, remove_in}
 use Rattle.ledger_spec.specs.Tree.{Entry}
-
--- the key compares so to each of the entries' keys
-abbrev pub AllCompare : Ordering → Hash → List Entry → Type 0
-AllCompare o key items = AllByRecursion (λ (e : Entry). hash_cmp key e.0 ≡ o) items
+use Rattle.cow_map.proofs.shared.Entries.{AllCompare}
 
 module _ (key : Hash) (value : Bytes) where
   insert_step : (o : Ordering) (e : Entry) (es : List Entry) → hash_cmp key e.0 ≡ o

@@ -22,7 +22,7 @@ use Rattle.cow_map.specs.declared.fault.MapFault.{MapFault}
 use Rattle.cow_map.specs.declared.fault.MapFault.TheVariants as causes
 use Rattle.cow_map.proofs.Lone.{beside_none, beside_one, beside_fork}
 use Rattle.cow_map.proofs.Beside.{goes_free}
-use Rattle.cow_map.proofs.Standing.{Below, stands_into}
+use Rattle.cow_map.proofs.shared.Standing.{Below, stands_into}
 use Rattle.cow_map.proofs.Counting.{links_by, one_leads}
 use Rattle.cow_map.proofs.Settling.{only_kid}
 use Rattle.cow_map.proofs.Maps.{stands_none}

@@ -16,8 +16,8 @@ use Rattle.cow_map.specs.Bodies.{Body}
 use Rattle.cow_map.specs.Trees.{none, one, fork, found_at, Forks, IsOne, StandsAt}
 use Rattle.cow_map.specs.Edits.{Gets}
 use Rattle.cow_map.proofs.Branches.{AllUnder, get_kids}
-use Rattle.cow_map.proofs.Standing.{Below, stands_into, stands_under}
-use Rattle.cow_map.proofs.Planting.{one_lower}
+use Rattle.cow_map.proofs.shared.Standing.{Below, stands_into, stands_under}
+use Rattle.cow_map.proofs.shared.Planting.{one_lower}
 use Rattle.cow_map.proofs.Putting.{equal_self}
 
 pub same_key : (own key : Hash) (bytes : Bytes) → own ≡ key → Some bytes ≡ get_in hash_cmp ((own, bytes) ∷ []) key

@@ -1,3 +1,4 @@
+pub mod shared
 pub mod Orders
 pub mod Entries
 pub mod Branches
@@ -5,8 +6,6 @@ pub mod Leading
 pub mod Standing
 pub mod Pushing
 pub mod Looking
-pub mod Planting
-pub mod Keys
 pub mod Putting
 pub mod Results
 pub mod Maps
@@ -14,7 +13,6 @@ pub mod Getting
 pub mod Counting
 pub mod Settling
 pub mod Removing
-pub mod Filters
 pub mod Sealing
 pub mod BranchWalks
 pub mod Sources
@@ -27,7 +25,6 @@ pub mod Stops
 pub mod Lone
 pub mod Beside
 pub mod Freeing
-pub mod Gathered
 pub mod Ends
 pub mod Taking
 pub mod Shifting

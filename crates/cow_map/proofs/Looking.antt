@@ -15,7 +15,7 @@ use Rattle.shamap_node.specs.declared.Node.{Node}
 use Rattle.shamap_node.specs.declared.Node.TheVariants as nodes
 use Rattle.shamap_node.specs.Nodes.{held as held_in}
 use Rattle.shamap_node.specs.Laws.{is_no_node}
-use Rattle.ledger_spec.proofs.Seeing.{sees}
+use Rattle.ledger_spec.proofs.shared.Seeing.{sees}
 use Rattle.cow_map.specs.declared.link.Link.{Link}
 use Rattle.cow_map.specs.declared.link.Link.TheVariants.{Empty}
 use Rattle.cow_map.specs.declared.look.Seen.{Seen}

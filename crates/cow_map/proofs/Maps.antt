@@ -14,7 +14,7 @@ use Rattle.cow_map.specs.declared.link.Link.{Link}
 use Rattle.cow_map.specs.declared.link.Link.TheVariants.{Empty, Unloaded, Own}
 use Rattle.cow_map.specs.Bodies.{Body, leaf, inner, IsBelow}
 use Rattle.cow_map.specs.Trees.{Found, none, one, fork, lacks, breaks, found_at, found_body, found_seen, fewest, Holds, StandsAt}
-use Rattle.cow_map.proofs.Standing.{Below, stands_into}
+use Rattle.cow_map.proofs.shared.Standing.{Below, stands_into}
 
 -- nodes that were added are cut off again
 pub cut_back : (old more now cut : List Body) (n : ℕ) → n ≡ length old → now ≡ old ++ more → cut ≡ take n now → cut ≡ old

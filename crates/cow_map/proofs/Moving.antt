@@ -13,14 +13,16 @@ use Rattle.ledger_spec.specs.Rules.{fault_of}
 use Rattle.ledger_spec.specs.Findings.{sight_of, held_of, sound}
 use Rattle.ledger_spec.specs.Reach.{Reach, root, kid, named_by, Stored}
 use Rattle.ledger_spec.specs.Tree.{Entry}
-pub use Rattle.tree_laws.proofs.Joins.{in_head}
+pub use Rattle.tree_laws.proofs.shared.Joins.{in_head}
 use Rattle.cow_map.specs.declared.link.Link.{Link}
 use Rattle.cow_map.specs.declared.link.Link.TheVariants.{Empty, Unloaded, Own}
 use Rattle.cow_map.specs.Bodies.{Body, leaf, inner}
 use Rattle.cow_map.specs.Trees.{none, fork, lacks, found_at, found_seen, StandsAt, link_to}
 use Rattle.cow_map.specs.Unloaded.{unloaded_of, unloaded_at, unloaded, StaysOverReach}
-use Rattle.cow_map.proofs.Leading.{body_fork, seen_fork}
-use Rattle.cow_map.proofs.Standing.{Below, stands_from, stands_into, holds_map}
+use Rattle.cow_map.proofs.shared.Leading.{body_fork}
+use Rattle.cow_map.proofs.Leading.{seen_fork}
+use Rattle.cow_map.proofs.shared.Standing.{Below, stands_into, holds_map}
+use Rattle.cow_map.proofs.Standing.{stands_from}
 use Rattle.cow_map.proofs.Sealing.{sound_held}
 
 pub in_tail : {A : Type 0} (x y : A) (xs : List A) → Contains xs y → Contains (x ∷ xs) y

@@ -22,7 +22,8 @@ use Rattle.cow_map.specs.Edits.{IsSub, Sets, Removes}
 use Rattle.cow_map.specs.Trees.{Found, none, one, fork, lacks, breaks, found_at, found_body, found_seen, Forks, StandsAt, StandsFor}
 use Rattle.cow_map.specs.Unloaded.{unloaded_of, unloaded_at, unloaded, KeepsReach}
 use Rattle.cow_map.proofs.Moving.{kid_reached, link_reached, link_stored, own_end, not_in_none, in_one, in_head}
-use Rattle.cow_map.proofs.Standing.{Below, stands_from, stands_into, holds_map}
+use Rattle.cow_map.proofs.shared.Standing.{Below, stands_into, holds_map}
+use Rattle.cow_map.proofs.Standing.{stands_from}
 
 -- whether a hash is in the list
 abbrev is_in : Hash → List Hash → Bool

@@ -1,12 +1,12 @@
 -- Keys below different branches of one place are ordered as the branches are.
 use Rattle.std.proofs.Common.{◌≡◌, ℕ, ◌/◌, ◌%◌, ◌<◌, List, [], ◌∷◌, ◌++◌, length, drop, sym, ap, ◌∙◌, arith, IsTrue, append_assoc}
-use Rattle.std.specs.Ordering.{nat_cmp, ordering_then, ordering_reverse}
-use Rattle.std.specs.declared.cmp.Ordering.TheVariants.{Less, Equal, Greater}
+use Rattle.std.specs.Ordering.{nat_cmp, ordering_then}
+use Rattle.std.specs.declared.cmp.Ordering.TheVariants.{Less, Equal}
 use Rattle.std.specs.Cmp.{nat_cmp_is}
-use Rattle.std.specs.Cmp.Lexicographic.{slice_cmp, nat_list_cmp_total}
+use Rattle.std.specs.Cmp.Lexicographic.{slice_cmp}
 use Rattle.ledger_spec.specs.Maps.{hash_cmp}
 use Rattle.nib_path.specs.Paths.{nibbles, lies_under}
-use Rattle.ledger_spec.proofs.Readings.{starts_split}
+use Rattle.ledger_spec.proofs.shared.Readings.{starts_split}
 
 -- the nibbles of the key, from the path on
 pub under_splits : (path key : List ℕ) → IsTrue (lies_under path key) → nibbles key ≡ path ++ drop (length path) (nibbles key)
@@ -57,7 +57,3 @@ branch_less path b c k l under over h =
     let f : nibbles l ≡ path ++ c ∷ drop (length (path ++ c ∷ [])) (nibbles l) = under_splits (path ++ c ∷ []) l over
     ∙ append_assoc path (c ∷ []) _ in
     split_less k l path b c _ _ e f h
-
-pub branch_greater : (path : List ℕ) (b c : ℕ) (k l : List ℕ) → IsTrue (lies_under (path ++ b ∷ []) k)
-    → IsTrue (lies_under (path ++ c ∷ []) l) → c < b → hash_cmp k l ≡ Greater
-branch_greater path b c k l under over h = nat_list_cmp_total.antisymm k l ∙ ap ordering_reverse (branch_less path c b l k over under h)

@@ -16,12 +16,14 @@ use Rattle.cow_map.specs.Bodies.{Body, leaf, inner, CowTree}
 use Rattle.cow_map.specs.Trees.{Found, none, one, fork, lacks, breaks, found_at, fewest, Forks, Holds, StandsAt, StandsFor, link_to}
 use Rattle.cow_map.specs.Seals.{Picks, hash_at, form_below, made_of, made_below}
 use Rattle.cow_map.specs.Sealing.{made_at, made_of_map}
-use Rattle.cow_map.proofs.Leading.{body_one, body_fork, body_none, seen_one, seen_fork, seen_none}
-use Rattle.tree_laws.proofs.Subtrees.{inner_above, kid_forms, forms_none, forms_one, forms_fork as forms_crowd}
+use Rattle.cow_map.proofs.shared.Leading.{body_one, body_fork, body_none}
+use Rattle.cow_map.proofs.Leading.{seen_one, seen_fork, seen_none}
+use Rattle.tree_laws.proofs.shared.Subtrees.{inner_above, kid_forms, forms_none, forms_one, forms_fork as forms_crowd}
 use Rattle.cow_map.proofs.Branches.{AllUnder, all_range}
-use Rattle.cow_map.proofs.Standing.{Below, stands_into, stands_under}
-use Rattle.cow_map.proofs.Filters.{crowded, part_kid, part_root}
-use Rattle.cow_map.proofs.Sealing.{by_index, flat_each, hash_law, one_long, sound_form, own_leaf_kind}
+use Rattle.cow_map.proofs.shared.Standing.{Below, stands_into, stands_under}
+use Rattle.cow_map.proofs.shared.Filters.{crowded, part_kid, part_root}
+use Rattle.cow_map.proofs.shared.Sealing.{by_index, flat_each}
+use Rattle.cow_map.proofs.Sealing.{hash_law, one_long, sound_form, own_leaf_kind}
 use Rattle.cow_map.proofs.Sealing.{joined_links}
 use Rattle.cow_map.proofs.Adding.{form_leaf, form_inner, made_leaf, made_inner, made_own}
 

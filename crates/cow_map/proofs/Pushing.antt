@@ -1,5 +1,5 @@
 -- Lists of nodes that grow at their end, and are cut there again.
-use Rattle.std.proofs.Common.{◌≡◌, ◌⊎◌, inl, inr, ℕ, zero, suc, ◌<◌, arith, slice_index_or, List, [], ◌∷◌, ◌++◌, length, take, map, Some}
+use Rattle.std.proofs.Common.{◌≡◌, inl, inr, ℕ, zero, suc, ◌<◌, arith, slice_index_or, List, [], ◌∷◌, ◌++◌, length, take, map, Some}
 use Rattle.std.proofs.Common.{refl, sym, ap, ◌∙◌, subst}
 use Rattle.std.specs.List.{slice_get}
 use Rattle.std.specs.declared.alloc.Global.{Global}
@@ -8,13 +8,7 @@ use Rattle.std.proofs.lemmas.List.{map-append}
 use Rattle.cow_map.specs.declared.node.Cow.{Cow}
 use Rattle.cow_map.specs.Bodies.{Body, IsBody, AreBodies}
 use Rattle.cow_map.specs.Shown.{body_of, bodies_of}
-
-pub get_more : {A : Type 0} (xs : List A) (y x : A) (i : ℕ) → slice_get (xs ++ y ∷ []) i ≡ Some x → (slice_get xs i ≡ Some x)
-    ⊎ ((i ≡ length xs) × (x ≡ y))
-get_more [] y x zero e = inr (refl, cc)
-get_more [] y x (suc i) e = cc
-get_more (z ∷ xs) y x zero e = inl e
-get_more (z ∷ xs) y x (suc i) e = elim (get_more xs y x i e) [ inl at ↦ inl at | inr at ↦ inr (ap suc at.0, at.1) ]
+use Rattle.cow_map.proofs.shared.Pushing.{get_more}
 
 get_fewer : {A : Type 0} (xs : List A) (n i : ℕ) (x : A) → slice_get (take n xs) i ≡ Some x → slice_get xs i ≡ Some x
 get_fewer xs zero i x e = cc

@@ -23,11 +23,13 @@ use Rattle.cow_map.specs.Trees.{Found, none, one, fork, lacks, breaks, found_at,
 use Rattle.cow_map.specs.Ways.{lone_or, Stop, misfit, stop_in, stop_at, Goes, is_only}
 use Rattle.cow_map.specs.Looks.{Stops}
 use Rattle.cow_map.specs.Edits.{Sets, LeadsTo}
-use Rattle.cow_map.proofs.Leading.{get_last, fork_below, leaf_moves, weaker}
+use Rattle.cow_map.proofs.Leading.{get_last, fork_below, leaf_moves}
+use Rattle.cow_map.proofs.shared.Leading.{weaker}
 use Rattle.cow_map.proofs.Branches.{AllUnder, with_kid, insert_kids}
 use Rattle.cow_map.proofs.Entries.{insert_longer}
-use Rattle.cow_map.proofs.Standing.{Below, stands_into, stands_under, stands_grows, found_small, forks_set}
-use Rattle.cow_map.proofs.Planting.{inner_stands, below_set, one_lower}
+use Rattle.cow_map.proofs.shared.Standing.{Below, stands_into, stands_under, stands_grows}
+use Rattle.cow_map.proofs.Standing.{found_small, forks_set}
+use Rattle.cow_map.proofs.shared.Planting.{inner_stands, below_set, one_lower}
 
 module _ (half : Half) (stored : Lookup) (kind : Kind) where
   -- below a branch

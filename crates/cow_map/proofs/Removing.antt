@@ -16,8 +16,9 @@ use Rattle.cow_map.specs.Trees.{none, one, fork, found_at, Forks, IsOne, StandsA
 use Rattle.cow_map.specs.Edits.{IsSub, Settles, Removes, IsBelowIf, GrowsBy}
 use Rattle.cow_map.proofs.Leading.{fork_below}
 use Rattle.cow_map.proofs.Branches.{AllUnder, with_kid, get_kids, remove_kids}
-use Rattle.cow_map.proofs.Standing.{Below, stands_into, stands_under, stands_grows, found_small, each_set}
-use Rattle.cow_map.proofs.Planting.{empty_stands, one_lower}
+use Rattle.cow_map.proofs.shared.Standing.{Below, stands_into, stands_under, stands_grows}
+use Rattle.cow_map.proofs.Standing.{found_small, each_set}
+use Rattle.cow_map.proofs.shared.Planting.{empty_stands, one_lower}
 use Rattle.cow_map.proofs.Putting.{equal_self}
 use Rattle.cow_map.proofs.Getting.{same_key, other_key, none_gets, leaf_gets, fork_gets}
 

@@ -18,7 +18,7 @@ use Rattle.cow_map.specs.Trees.{Found, none, one, fork, lacks, breaks, found_at,
 use Rattle.cow_map.specs.Laws.{IsFiniteMap}
 use Rattle.cow_map.proofs.Orders.{branch_less}
 use Rattle.cow_map.proofs.Branches.{AllUnder, all_flat, all_range, all_map, all_append}
-use Rattle.cow_map.proofs.Standing.{Below, stands_into, stands_under}
+use Rattle.cow_map.proofs.shared.Standing.{Below, stands_into, stands_under}
 
 -- the key comes before those of the entries
 abbrev AllAfter : Entry → List Entry → Type 0

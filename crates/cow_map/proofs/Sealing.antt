@@ -1,18 +1,17 @@
 -- The hash of a link is that of the tree of the map that it stands for.
-use Rattle.std.proofs.Common.{◌≡◌, ℕ, zero, suc, ◌+◌, ◌<◌, ◌==◌, Bool, true, false, List, [], ◌∷◌, ◌++◌, length, map}
-use Rattle.std.proofs.Common.{Option, None, Some, refl, sym, ap, ◌∙◌, arith, IsTrue, slice_index_or, append_assoc, length-append}
+use Rattle.std.proofs.Common.{◌≡◌, ℕ, zero, suc, ◌<◌, ◌==◌, Bool, true, false, List, [], ◌∷◌, ◌++◌, length, map}
+use Rattle.std.proofs.Common.{Option, None, Some, refl, sym, ap, ◌∙◌, arith, IsTrue, slice_index_or}
 use Rattle.std.proofs.Common.{replicate, not, if◌then◌else◌}
-use Rattle.std.specs.List.{slice_get, flat_map, range_with_len, concat, list_all}
+use Rattle.std.specs.List.{slice_get, flat_map, concat, list_all}
 use Rattle.std.specs.Option.{option_map}
 use Rattle.std.proofs.lemmas.Bool.{and_parts, eqb-true}
-use Rattle.std.proofs.Math.Seq.{get_or-append_seam}
-use Rattle.ledger_spec.proofs.Readings.{holds}
+use Rattle.ledger_spec.proofs.shared.Readings.{holds}
 use Rattle.nib_path.specs.Paths.{lies_under}
 use Rattle.ledger_spec.specs.declared.Kind.{Kind}
 use Rattle.ledger_spec.specs.declared.Kind.TheVariants.{State, Tx, Set}
 use Rattle.ledger_spec.specs.declared.ShapeFault.TheVariants.{WrongKind, LeafElsewhere, LeafAtRoot}
 use Rattle.ledger_spec.specs.declared.ShapeFault.{ShapeFault}
-use Rattle.ledger_spec.specs.Bytes.{Bytes, Hash, Half, Lookup, Items, branches, zero_hash, is_zero}
+use Rattle.ledger_spec.specs.Bytes.{Bytes, Hash, Half, Lookup, Items, zero_hash, is_zero}
 use Rattle.ledger_spec.specs.Commits.{AreOwn}
 use Rattle.ledger_spec.specs.Forms as held
 use Rattle.ledger_spec.specs.Forms.{Held, Form, leaf_form, inner_prefix, hash_or_zero}
@@ -25,11 +24,13 @@ use Rattle.cow_map.specs.Bodies.{Body, leaf, inner, CowTree}
 use Rattle.cow_map.specs.Trees.{Found, none, one, fork, lacks, breaks, found_at, found_body, Forks, Holds, StandsAt, StandsFor}
 use Rattle.cow_map.specs.Trees.{link_to}
 use Rattle.cow_map.specs.Seals.{hash_by, form_below, hash_at}
-use Rattle.tree_laws.proofs.Subtrees.{form_none, form_one}
-use Rattle.cow_map.proofs.Branches.{AllUnder, flat_same, all_range}
-use Rattle.cow_map.proofs.Standing.{Below, stands_into, stands_under}
-use Rattle.cow_map.proofs.Leading.{body_one, body_fork, body_none, seen_one, seen_fork, seen_none}
-use Rattle.cow_map.proofs.Filters.{part_kid, part_fork, part_root}
+use Rattle.tree_laws.proofs.shared.Subtrees.{form_none, form_one}
+use Rattle.cow_map.proofs.Branches.{AllUnder}
+use Rattle.cow_map.proofs.shared.Standing.{Below, stands_into, stands_under}
+use Rattle.cow_map.proofs.shared.Leading.{body_one, body_fork, body_none}
+use Rattle.cow_map.proofs.Leading.{seen_one, seen_fork, seen_none}
+use Rattle.cow_map.proofs.shared.Filters.{part_kid, part_fork, part_root}
+use Rattle.cow_map.proofs.shared.Sealing.{by_index, flat_each}
 
 -- what is held of the source
 pub sound_held : (rules : Held → Option ShapeFault) (held_is : Option Held) (n : Held) → judged rules held_is ≡ sound n
@@ -69,25 +70,6 @@ pub own_leaf_kind : (own kind : Kind) (key : Hash) (bytes : Bytes) (path : List 
     → fault_of (held.leaf own key bytes) None kind path ≡ None → own ≡ kind
 own_leaf_kind own kind key bytes path e =
     kind_same own kind (own_kind (same_kind own kind) (length path == 0) (lies_under path key) WrongKind LeafAtRoot (LeafElsewhere key) e)
-
--- lists by their places
-index_from : {X Y : Type 0} (f : X → List Y) (d : X) (pre xs : List X)
-    → flat_map f xs ≡ flat_map (λ b. f (slice_index_or (pre ++ xs) b d)) (range_with_len (length pre) (length xs))
-index_from f d pre [] = refl
-index_from f d pre (x ∷ xs) =
-    let here : x ≡ slice_index_or (pre ++ x ∷ xs) (length pre) d = sym (get_or-append_seam pre x xs d) in
-    let longer : length (pre ++ x ∷ []) ≡ length pre + 1 = length-append pre (x ∷ []) in
-    let seam : pre ++ x ∷ [] ++ xs ≡ pre ++ x ∷ xs = append_assoc pre (x ∷ []) xs in
-    (λ i. f (here i) ++ index_from f d (pre ++ x ∷ []) xs i)
-    ∙ (λ i. f (slice_index_or (pre ++ x ∷ xs) (length pre) d) ++ flat_map (λ b. f (slice_index_or (seam i) b d))
-    (range_with_len (longer i) (length xs)))
-
-pub by_index : {X Y : Type 0} (f : X → List Y) (d : X) (xs : List X) → length xs ≡ 16
-    → flat_map f xs ≡ flat_map (λ b. f (slice_index_or xs b d)) branches
-by_index f d xs width = index_from f d [] xs ∙ ap (λ n. flat_map (λ b. f (slice_index_or xs b d)) (range_with_len 0 n)) width
-
-pub flat_each : {Y : Type 0} (f g : ℕ → List Y) → ((b : ℕ) → b < 16 → f b ≡ g b) → flat_map f branches ≡ flat_map g branches
-flat_each f g h = flat_same f g branches (all_range (λ b. f b ≡ g b) 16 0 (λ b at low. h b low))
 
 -- the zero hash is the one whose bytes are all zero
 pub zero_bytes : (h : Hash) (n : ℕ) → length h ≡ n → is_zero h ≡ true → h ≡ replicate n 0

@@ -15,8 +15,9 @@ use Rattle.cow_map.specs.Edits.{IsSub, Branches, SettlesAt, Counts}
 use Rattle.cow_map.proofs.Leading.{get_last, leaf_moves}
 use Rattle.cow_map.proofs.Branches.{AllUnder, with_kid, kid_same, kid_other, flat_split, flat_with, flat_one, flat_same, all_range}
 use Rattle.cow_map.proofs.Branches.{under_place}
-use Rattle.cow_map.proofs.Standing.{Below, stands_into, stands_grows, found_small}
-use Rattle.cow_map.proofs.Planting.{empty_stands, inner_stands, leads_stands}
+use Rattle.cow_map.proofs.shared.Standing.{Below, stands_into, stands_grows}
+use Rattle.cow_map.proofs.Standing.{found_small}
+use Rattle.cow_map.proofs.shared.Planting.{empty_stands, inner_stands, leads_stands}
 use Rattle.cow_map.proofs.Maps.{stands_none, stands_some}
 
 -- what one branch holds is no longer than all

@@ -22,8 +22,9 @@ use Rattle.cow_map.specs.Trees.{Found, none, one, fork, lacks, breaks, found_at,
 use Rattle.cow_map.specs.Gathered.{nothing_held, moved_link, moved_body, branch_in, branch_at, ArePartsOf}
 use Rattle.cow_map.proofs.Branches.{AllUnder, flat_split}
 use Rattle.cow_map.proofs.Settling.{only_kid}
-use Rattle.cow_map.proofs.Planting.{empty_stands}
-use Rattle.cow_map.proofs.Standing.{Below, stands_from, stands_into, stands_under, stands_grows}
+use Rattle.cow_map.proofs.shared.Planting.{empty_stands}
+use Rattle.cow_map.proofs.shared.Standing.{Below, stands_into, stands_under, stands_grows}
+use Rattle.cow_map.proofs.Standing.{stands_from}
 
 -- the element at a place
 pub get_told : {A : Type 0} (xs : List A) (i : ℕ) (x : A) → i < length xs → x ≡ slice_index_or xs i x → slice_get xs i ≡ Some x

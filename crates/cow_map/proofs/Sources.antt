@@ -17,8 +17,9 @@ use Rattle.cow_map.specs.declared.link.Link.TheVariants.{Empty, Unloaded}
 use Rattle.cow_map.specs.Bodies.{Body}
 use Rattle.cow_map.specs.Trees.{one, fork, found_at, found_seen, found_held, fewest, Forks, StandsAt, link_to}
 use Rattle.cow_map.proofs.Leading.{sight_judged}
-use Rattle.cow_map.proofs.Standing.{Below, stands_from, stands_into}
-use Rattle.cow_map.proofs.Planting.{empty_stands}
+use Rattle.cow_map.proofs.shared.Standing.{Below, stands_into}
+use Rattle.cow_map.proofs.Standing.{stands_from}
+use Rattle.cow_map.proofs.shared.Planting.{empty_stands}
 use Rattle.cow_map.proofs.Settling.{two_lengths, kid_length, some_length, fewest_most, fewest_below}
 use Rattle.cow_map.proofs.Maps.{stands_some}
 use Rattle.cow_map.proofs.Sealing.{sound_form}

@@ -19,11 +19,13 @@ use Rattle.cow_map.specs.Bodies.{Body, leaf, inner, IsBelow, AreBodies}
 use Rattle.cow_map.specs.Trees.{fewest, Forks, StandsAt}
 use Rattle.cow_map.specs.Gathered.{entries_of}
 use Rattle.cow_map.specs.Taking.{ends_under, EndUnder, Grows, Gathers}
-use Rattle.cow_map.proofs.Leading.{get_last, weaker}
+use Rattle.cow_map.proofs.Leading.{get_last}
+use Rattle.cow_map.proofs.shared.Leading.{weaker}
 use Rattle.cow_map.proofs.Branches.{AllUnder, with_kid, kid_same, kid_other, flat_same, all_range}
-use Rattle.cow_map.proofs.Standing.{Below, stands_grows, stands_under, each_set}
-use Rattle.cow_map.proofs.Planting.{below_set, inner_stands, leaf_stands, empty_stands, one_lower}
-use Rattle.cow_map.proofs.Gathered.{entries_append}
+use Rattle.cow_map.proofs.shared.Standing.{Below, stands_grows, stands_under}
+use Rattle.cow_map.proofs.Standing.{each_set}
+use Rattle.cow_map.proofs.shared.Planting.{below_set, inner_stands, leaf_stands, empty_stands, one_lower}
+use Rattle.cow_map.proofs.shared.Gathered.{entries_append}
 use Rattle.cow_map.proofs.Ends.{last_or_none, ends_last, front_is, enough_taken, sorted_rest, append_none, still_none}
 
 -- The branches from b on have their items, which are taken, and none of those lies at the end of what is left. The links of the others are free.

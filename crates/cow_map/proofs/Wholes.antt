@@ -15,7 +15,7 @@ use Rattle.ledger_spec.specs.Findings.{Sight, missing, broken, sound, Finding}
 use Rattle.ledger_spec.specs.Tree.{Entry}
 use Rattle.nib_path.specs.Paths.{lies_under}
 use Rattle.tree_laws.specs.Walks.{at_place, found_below, found_in}
-use Rattle.tree_laws.proofs.Below.{below_zero, below_end, below_inner}
+use Rattle.tree_laws.proofs.shared.Below.{below_zero, below_end, below_inner}
 use Rattle.cow_map.specs.declared.link.Link.{Link}
 use Rattle.cow_map.specs.declared.link.Link.TheVariants.{Empty, Unloaded, Own}
 use Rattle.cow_map.specs.Bodies.{Body, leaf, inner}
@@ -25,12 +25,12 @@ use Rattle.cow_map.specs.Gathered.{nothing_held}
 use Rattle.cow_map.specs.Unloaded.{unloaded, EachIn, EachLeft, IsLeftWhole, StandsAnywhere}
 use Rattle.cow_map.proofs.Counting.{links_in, links_by}
 use Rattle.cow_map.proofs.Freeing.{kid_fine, Fine}
-use Rattle.cow_map.proofs.Gathered.{stands_anywhere}
+use Rattle.cow_map.proofs.shared.Gathered.{stands_anywhere}
 use Rattle.cow_map.proofs.Leading.{sight_judged}
 use Rattle.cow_map.proofs.Moving.{in_head}
 use Rattle.cow_map.proofs.Needing.{forked, left_held}
 use Rattle.cow_map.proofs.BranchWalks.{counts, counts_by}
-use Rattle.cow_map.proofs.Standing.{Below, stands_into}
+use Rattle.cow_map.proofs.shared.Standing.{Below, stands_into}
 
 -- as many links lead somewhere as hashes aren't zero
 count_step : (h : Hash) (hs : List Hash) (t : Bool) → is_zero h ≡ t → links_in (map link_to hs) ≡ counts hs

@@ -5,7 +5,7 @@ use Rattle.ledger_spec.specs.declared.Kind.{Kind}
 use Rattle.ledger_spec.specs.Bytes.{Bytes, Hash, Half, Lookup, Items, is_zero}
 use Rattle.ledger_spec.specs.Maps.{hash_cmp, insert_in, remove_in}
 use Rattle.ledger_spec.specs.Reach.{Reach, root, kid}
-use Rattle.ledger_spec.proofs.ReachLaws.{reach_joins}
+use Rattle.ledger_spec.proofs.shared.ReachLaws.{reach_joins}
 use Rattle.cow_map.specs.declared.link.Link.TheVariants.{Empty, Unloaded}
 use Rattle.cow_map.specs.Bodies.{Body, CowTree}
 use Rattle.cow_map.specs.Edits.{IsSub, SetsItem, RemovesKey}

@@ -1,3 +1,2 @@
+pub mod shared
 pub mod Paths
-pub mod Using
-pub mod Marked

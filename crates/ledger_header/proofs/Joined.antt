@@ -1,10 +1,10 @@
 -- The fields joined to the 118 bytes, and the bytes taken apart.
 use Rattle.std.proofs.Common.{◌≡◌, ◌≤◌, ◌<◌, ◌+◌, ℕ, zero, suc, [], ◌∷◌, ◌++◌, length, take, drop, get_or, refl, sym, ap, ◌∙◌, arith, inl}
-use Rattle.std.proofs.Common.{inr, length-append, length-drop, length-take}
+use Rattle.std.proofs.Common.{inr, length-drop, length-take}
 use Rattle.std.proofs.lemmas.Bool.{cases_lt}
-use Rattle.std.proofs.lemmas.List.{append_assoc, drop-drop, take_at, drop_at, take_all, drop_more, take-append-drop, length-take-le}
+use Rattle.std.proofs.lemmas.List.{drop-drop, take_at, drop_at, take_all, drop_more, take-append-drop, length-take-le}
 use Rattle.std.proofs.lemmas.List.{get_or-take, get_or-drop, get_or_past, nil_from_length}
-use Rattle.std.proofs.lemmas.Nat.{be_bytes_4, be_bytes_8, from_be_bytes-to_be_bytes_4, from_be_bytes-to_be_bytes_8}
+use Rattle.std.proofs.lemmas.Nat.{be_bytes_4, be_bytes_8}
 use Rattle.std.specs.Int.{w32, w64, to_be_bytes, from_be_bytes}
 use Rattle.ledger_spec.specs.Bytes.{Bytes}
 use Rattle.ledger_spec.specs.Header.{header_bytes, IsHeader}
@@ -78,11 +78,11 @@ joined h b fits size r =
     ∙ last_two 116 b size
 
 -- a piece, and what is behind it
-record IsCut (b piece rest : Bytes) (at end : ℕ) : Type 0 where
-  piece_is : take (length piece) (drop at b) ≡ piece
-  rest_is : rest ≡ drop end b
+pub record IsCut (b piece rest : Bytes) (at end : ℕ) : Type 0 where
+  pub piece_is : take (length piece) (drop at b) ≡ piece
+  pub rest_is : rest ≡ drop end b
 
-cut : (b tail piece rest : Bytes) (at end : ℕ) → end ≡ at + length piece → tail ≡ drop at b → tail ≡ piece ++ rest
+pub cut : (b tail piece rest : Bytes) (at end : ℕ) → end ≡ at + length piece → tail ≡ drop at b → tail ≡ piece ++ rest
     → IsCut b piece rest at end
 cut b tail piece rest at end e is parts = record {
   piece_is = ap (take (length piece)) (sym is ∙ parts) ∙ take_at piece rest (length piece) refl;
@@ -90,46 +90,8 @@ cut b tail piece rest at end e is parts = record {
       ∙ drop_at piece rest (length piece) refl);
 }
 
-sized : (n : ℕ) (piece t : Bytes) → length piece ≡ n → take (length piece) t ≡ piece → take n t ≡ piece
+pub sized : (n : ℕ) (piece t : Bytes) → length piece ≡ n → take (length piece) t ≡ piece → take n t ≡ piece
 sized n piece t e is = ap (λ k. take k t) (sym e) ∙ is
-
--- the fields' bytes read as the fields
-pub parted : (h : Header) (b : Bytes) → IsHeader (fields h) → b ≡ header_bytes (fields h) → Reads b h
-unfolding header_bytes
-parted h b is e =
-    let s = to_be_bytes w32 h.seq in
-    let d = to_be_bytes w64 h.drops in
-    let pc = to_be_bytes w32 h.parent_close in
-    let c = to_be_bytes w32 h.close in
-    let e7 : Bytes = h.resolution ∷ h.flags ∷ [] in
-    let e6 : Bytes = c ++ e7 in
-    let e5 : Bytes = pc ++ e6 in
-    let e4 : Bytes = h.state_root ++ e5 in
-    let e3 : Bytes = h.tx_root ++ e4 in
-    let e2 : Bytes = h.parent ++ e3 in
-    let e1 : Bytes = d ++ e2 in
-    let whole : b ≡ s ++ e1 = e ∙ simp append_assoc in
-    let c0 : IsCut b s e1 0 4 = cut b b s e1 0 4 refl refl whole in
-    let c1 : IsCut b d e2 4 12 = cut b e1 d e2 4 12 refl c0.rest_is refl in
-    let c2 : IsCut b h.parent e3 12 44 = cut b e2 h.parent e3 12 44 (omega (arith, is.parent)) c1.rest_is refl in
-    let c3 : IsCut b h.tx_root e4 44 76 = cut b e3 h.tx_root e4 44 76 (omega (arith, is.tx_root)) c2.rest_is refl in
-    let c4 : IsCut b h.state_root e5 76 108 = cut b e4 h.state_root e5 76 108 (omega (arith, is.state_root)) c3.rest_is refl in
-    let c5 : IsCut b pc e6 108 112 = cut b e5 pc e6 108 112 refl c4.rest_is refl in
-    let c6 : IsCut b c e7 112 116 = cut b e6 c e7 112 116 refl c5.rest_is refl in
-    record {
-      seq = ap (from_be_bytes w32) c0.piece_is ∙ from_be_bytes-to_be_bytes_4 h.seq is.seq;
-      drops = ap (from_be_bytes w64) c1.piece_is ∙ from_be_bytes-to_be_bytes_8 h.drops is.drops;
-      parent = sized 32 h.parent (drop 12 b) is.parent c2.piece_is;
-      tx_root = sized 32 h.tx_root (drop 44 b) is.tx_root c3.piece_is;
-      state_root = sized 32 h.state_root (drop 76 b) is.state_root c4.piece_is;
-      parent_close = ap (from_be_bytes w32) c5.piece_is ∙ from_be_bytes-to_be_bytes_4 h.parent_close is.parent_close;
-      close = ap (from_be_bytes w32) c6.piece_is ∙ from_be_bytes-to_be_bytes_4 h.close is.close;
-      resolution = at_end b h.resolution h.flags 116 0 c6.rest_is;
-      flags = at_end b h.resolution h.flags 116 1 c6.rest_is;
-    }
-  where
-    at_end : (b : Bytes) (x y : ℕ) (n k : ℕ) → x ∷ y ∷ [] ≡ drop n b → get_or b (n + k) 0 ≡ get_or (x ∷ y ∷ []) k 0
-    at_end b x y n k e = sym (get_or-drop n b k 0) ∙ ap (λ t. get_or t k 0) (sym e)
 
 -- bytes read as one header
 pub one_header : (h k : Header) (b : Bytes) → Reads b h → Reads b k → h ≡ k
@@ -171,30 +133,6 @@ written h b1 b2 b3 b4 b5 b6 b7 b8 is size w =
     let p7 = w.close ∙ ap (λ t. t ++ to_be_bytes w32 h.close) p6 in
     let all : length b8 ≤ 118 = omega arith in
     sym (take_all 118 b8 all) ∙ w.last ∙ ap (λ t. t ++ h.resolution ∷ h.flags ∷ []) p7
-
-pub length-header_bytes : (h : Header) (b : Bytes) → IsHeader (fields h) → b ≡ header_bytes (fields h) → length b ≡ 118
-unfolding header_bytes
-length-header_bytes h b is e =
-    let s = to_be_bytes w32 h.seq ++ to_be_bytes w64 h.drops in
-    let p = s ++ h.parent in
-    let t = p ++ h.tx_root in
-    let r = t ++ h.state_root in
-    let pc = r ++ to_be_bytes w32 h.parent_close in
-    let c = pc ++ to_be_bytes w32 h.close in
-    let last : Bytes = h.resolution ∷ h.flags ∷ [] in
-    omega (
-      arith,
-      is.parent,
-      is.tx_root,
-      is.state_root,
-      ap length e,
-      length-append c last,
-      length-append pc (to_be_bytes w32 h.close),
-      length-append r (to_be_bytes w32 h.parent_close),
-      length-append t h.state_root,
-      length-append p h.tx_root,
-      length-append s h.parent,
-    )
 
 -- a prefix, and what is behind it, put one after the other
 pub two_puts : (b1 b2 p e front back : Bytes) → p ≡ front → e ≡ back → length front ≡ 4 → take (0 + length p) b1 ≡ p

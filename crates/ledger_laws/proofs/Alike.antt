@@ -15,13 +15,13 @@ use Rattle.ledger_spec.specs.Reach.{Reach, root, kid}
 use Rattle.ledger_spec.specs.Spots.{header_in}
 use Rattle.ledger_spec.specs.Findings.{Sight, missing, broken, sound, Met, held_of, sight_of, branches_of, walk, walk_map}
 use Rattle.ledger_spec.specs.Findings.{header_sight, maps_of, walk_ledger, Whole}
-use Rattle.ledger_spec.proofs.Growth.{found, met}
-use Rattle.ledger_spec.proofs.ReachLaws.{Grows}
+use Rattle.ledger_spec.proofs.shared.Growth.{found, met}
+use Rattle.ledger_spec.proofs.shared.ReachLaws.{Grows}
 use Rattle.ledger_machine.specs.Sound.{IsWholeLedger}
-use Rattle.ledger_laws.proofs.SoundForms.{in_head}
+use Rattle.ledger_laws.proofs.shared.SoundForms.{in_head}
 use Rattle.ledger_laws.proofs.StoredWhole.{sound_held, held_inner, sound_header}
 use Rattle.ledger_laws.proofs.Closure.{whole_all}
-use Rattle.ledger_laws.proofs.Ways.{IsNamed, branch_named, root_named}
+use Rattle.ledger_laws.proofs.shared.Ways.{IsNamed, branch_named, root_named}
 
 -- the places from one on, where its hash isn't zero
 by_zero : (z : Bool) (xs ys : List Met) → (z ≡ false → xs ≡ ys) → (if z then [] else xs) ≡ (if z then [] else ys)

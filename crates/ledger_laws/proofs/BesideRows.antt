@@ -11,7 +11,7 @@ use Rattle.ledger_machine.specs.State.{State, Session, with_forms}
 use Rattle.ledger_machine.specs.Commands.{IsBeside}
 use Rattle.ledger_machine.specs.Steps.{Does, Refused, IsRow, Outcomes}
 use Rattle.ledger_laws.proofs.EachCommand.{answered_beside}
-use Rattle.ledger_laws.proofs.Beside.{beside, forms_beside, after_beside}
+use Rattle.ledger_laws.proofs.shared.Beside.{beside, forms_beside, after_beside}
 
 module _ (half : Half) (es : ForActor Session) where
   refused_beside : (s : State) (a : ℕ) (c : Command) (s' : State) → IsBeside c → Refused half s a c s'

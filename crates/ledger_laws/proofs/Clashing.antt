@@ -30,8 +30,8 @@ use Rattle.ledger_machine.specs.Base.{base_says, base_for, node_says, node_for}
 use Rattle.ledger_spec.specs.Replies.{parts_said, node_said}
 use Rattle.ledger_machine.specs.Steps.{Step, own_forms}
 use Rattle.ledger_machine.specs.Collisions.{form_read, part_form, head_form, offered_by, Clashes, made_by}
-use Rattle.ledger_laws.proofs.SoundForms.{in_head, in_tail, forms_looked_up}
-use Rattle.ledger_laws.proofs.Going.{row_goes, goes_adds}
+use Rattle.ledger_laws.proofs.shared.SoundForms.{in_head, in_tail, forms_looked_up}
+use Rattle.ledger_laws.proofs.shared.Going.{row_goes, goes_adds}
 use Rattle.ledger_laws.proofs.Offered.{AreFrom, IsFrom, with_forms_from, own_among}
 
 -- what is found holds

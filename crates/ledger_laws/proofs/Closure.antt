@@ -22,12 +22,12 @@ use Rattle.ledger_spec.specs.Reach.{Reach, root, kid, Stored, named_by, kids}
 use Rattle.ledger_spec.specs.Findings.{Sight, missing, broken, sound, Met, breaks, held_of, sight_of}
 use Rattle.ledger_spec.specs.Findings.{branches_of, walk, walk_map, walk_ledger, header_or_foreign, header_sight, maps_of}
 use Rattle.ledger_spec.specs.Findings.{Whole}
-use Rattle.ledger_spec.proofs.Growth.{no_cons, both_nil, found, met, whole_stored}
-use Rattle.ledger_spec.proofs.OfferLaws.{count_hashes}
+use Rattle.ledger_spec.proofs.shared.Growth.{no_cons, both_nil, found, met, whole_stored}
+use Rattle.ledger_spec.proofs.shared.OfferLaws.{count_hashes}
 use Rattle.ledger_machine.specs.Complete.{IsAllStored, IsUnbroken}
-use Rattle.ledger_laws.proofs.SoundForms.{some_same, in_nothing, in_head, in_tail}
-use Rattle.ledger_spec.proofs.Storing.{in_one}
-use Rattle.ledger_laws.proofs.Ways.{header_names}
+use Rattle.ledger_laws.proofs.shared.SoundForms.{some_same, in_nothing, in_head, in_tail}
+use Rattle.ledger_spec.proofs.shared.Storing.{in_one}
+use Rattle.ledger_laws.proofs.shared.Ways.{header_names}
 use Rattle.ledger_laws.proofs.StoredWhole.{some_none, missing_sound, broken_sound, sound_same, sound_held}
 
 -- what passes a test is in the list, and passes it

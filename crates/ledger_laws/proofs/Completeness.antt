@@ -1,6 +1,6 @@
 -- A check is complete exactly where nothing that the header reaches is absent and the ledger is acceptable.
 use Rattle.std.proofs.Common.{◌≡◌, ◌⊎◌, inl, inr, ⊎_elim, ◌↔◌, ◌≢◌, ℕ, Bool, true, false, not, if◌then◌else◌, ◌==◌, ◌&&◌, nat_lt, List}
-use Rattle.std.proofs.Common.{[], ◌∷◌, Option, None, Some, filter_map, Contains, refl, sym, ap, ◌∙◌, subst, IsSomeAnd}
+use Rattle.std.proofs.Common.{[], Option, None, Some, filter_map, refl, sym, ap, ◌∙◌, subst, IsSomeAnd}
 use Rattle.std.specs.Option.{option_map, option_map_or}
 use Rattle.std.proofs.lemmas.Bool.{eq-eqb, le-ltb}
 use Rattle.ledger_spec.specs.Maps.{hash_cmp, get_in}
@@ -13,22 +13,18 @@ use Rattle.ledger_spec.specs.declared.replies.CheckReply.{CheckReply}
 use Rattle.ledger_spec.specs.declared.replies.CheckReply.TheVariants as check
 use Rattle.ledger_machine.specs.declared.commands.Command.{Command}
 use Rattle.ledger_machine.specs.declared.commands.Command.TheVariants as command
-use Rattle.ledger_machine.specs.declared.commands.Line.{Line}
-use Rattle.ledger_machine.specs.declared.journal.Entry.{Entry}
 use Rattle.ledger_machine.specs.declared.replies.Reply.{Reply}
 use Rattle.ledger_machine.specs.declared.replies.Reply.TheVariants as says
-use Rattle.ledger_machine.specs.State.{State, form_in, retained}
+use Rattle.ledger_machine.specs.State.{State, form_in}
 use Rattle.ledger_machine.specs.Check.{told_by, check_given, check_reply}
 use Rattle.ledger_spec.specs.Replies.{check_said}
 use Rattle.ledger_spec.specs.Findings.{missing_of, first_broken}
 use Rattle.ledger_spec.specs.Peers.{Peers}
 use Rattle.ledger_spec.specs.Acquiring.{Acquiring, Verdict, complete, seq_differs, zero_state, below_floor}
 use Rattle.ledger_spec.specs.Acquiring.{place_verdict, header_verdict}
-use Rattle.ledger_machine.specs.Sound.{Sound}
 use Rattle.ledger_machine.specs.Steps.{Step, Outcomes}
-use Rattle.ledger_machine.specs.Runs.{Run, used_by}
-use Rattle.ledger_machine.specs.Complete.{IsAllStored, IsAcceptable, IsComplete, IsExact, AreExact}
-use Rattle.ledger_laws.proofs.SoundForms.{some_same}
+use Rattle.ledger_machine.specs.Complete.{IsAcceptable, IsComplete, IsExact}
+use Rattle.ledger_laws.proofs.shared.SoundForms.{some_same}
 use Rattle.ledger_laws.proofs.SoundCheck.{IsWholeFor, check_complete}
 use Rattle.ledger_laws.proofs.StoredWhole.{stored_whole}
 use Rattle.ledger_laws.proofs.Closure.{whole_all, whole_unbroken}
@@ -110,20 +106,9 @@ complete_exactly half s s' actor t a reply used is step fault memory =
     let row : reply ≡ says.Check (check_reply half s t) = row_says half s actor t reply used s' step.outcome fault memory in
     (λ e. checked_complete half s t a is (check_same (sym row ∙ e)), λ c. row ∙ ap says.Check (complete_checks half s t a is c))
 
--- nothing that a retained ledger of a sound state reaches is absent
-pub retained_stored : (half : Half) (s : State) (t : Hash) → Sound half s → Contains (retained s) t → IsAllStored (form_in s) t
-retained_stored half s t sound c = whole_all half (form_in s) t (sound.retained_whole t c).whole
-
 -- a step of a check is exact
 pub step_exact : (half : Half) (s s' : State) (actor : ℕ) (c : Command) (reply : Reply) (used : List Held)
     → Step half s actor c reply used s' → IsExact half s c reply
 step_exact half s s' actor (command.Check t) reply used step =
     λ a is fault memory. complete_exactly half s s' actor t a reply used is step fault memory
 step_exact half s s' actor _ reply used step = tt
-
--- and so is each check of a run
-pub run_exact : (half : Half) (lines : List Line) (s : State) (entries : List Entry) (s' : State) (run : Run half lines s entries s')
-    → AreExact half lines s entries s' run
-run_exact half lines s [] s' run = tt
-run_exact half lines s (e ∷ rest) s' run =
-    (step_exact half s run.0 e.actor run.1.line.command e.reply (used_by e) run.1.step, run_exact half lines run.0 rest s' run.2)

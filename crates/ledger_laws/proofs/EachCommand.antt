@@ -18,16 +18,19 @@ use Rattle.ledger_machine.specs.Sessions.{edit_reply, after_edit, after_put, aft
 use Rattle.ledger_machine.specs.Closing.{after_close, close_forms}
 use Rattle.ledger_machine.specs.Rotation.{begin_reply}
 use Rattle.ledger_machine.specs.Steps.{Answered, own_forms, Step}
-use Rattle.ledger_laws.proofs.SoundSteps.{gets_after, pages_after, want_sound, peer_sound, tick_sound, check_step_sound, base_sound}
+use Rattle.ledger_laws.proofs.shared.SoundSteps.{gets_after, pages_after}
+use Rattle.ledger_laws.proofs.SoundSteps.{want_sound, peer_sound, tick_sound, check_step_sound, base_sound}
 use Rattle.ledger_laws.proofs.SoundSteps.{node_sound, view_step_sound, unview_step_sound, get_step_sound, page_step_sound, edit_step_sound}
 use Rattle.ledger_laws.proofs.SoundSteps.{put_step_sound, tx_step_sound, del_step_sound, close_step_sound, abandon_step_sound}
 use Rattle.ledger_laws.proofs.SoundSteps.{begin_step_sound, swap_step_sound}
 use Rattle.ledger_laws.proofs.Stored.{same, after, want_goes, check_goes, tick_goes, view_goes, edit_goes, session_goes, base_goes}
-use Rattle.ledger_laws.proofs.Stored.{node_goes, close_goes, Goes, on, begin_goes, swap_goes}
+use Rattle.ledger_laws.proofs.Stored.{node_goes, close_goes, begin_goes, swap_goes}
+use Rattle.ledger_laws.proofs.shared.Stored.{Goes, on}
 use Rattle.ledger_spec.specs.Maps.{ForActor}
 use Rattle.ledger_machine.specs.Commands.{IsBeside, IsInRange}
-use Rattle.ledger_laws.proofs.Beside.{beside, gives_beside, want_beside, check_beside, tick_beside, base_beside, node_beside, gets_beside}
-use Rattle.ledger_laws.proofs.Beside.{pages_beside}
+use Rattle.ledger_laws.proofs.shared.Beside.{beside, gives_beside, want_beside, check_beside, tick_beside, base_beside, node_beside}
+use Rattle.ledger_laws.proofs.shared.Beside.{gets_beside}
+use Rattle.ledger_laws.proofs.shared.Beside.{pages_beside}
 use Rattle.ledger_machine.specs.Sound.{Sound}
 
 module _ (half : Half) (s : State) (a : ℕ) where

@@ -10,7 +10,7 @@ use Rattle.std.proofs.lemmas.Nat.{mod_below}
 use Rattle.ledger_spec.specs.Bytes.{Bytes, are_bytes}
 use Rattle.ledger_spec.specs.Header.{header_bytes, IsHeader}
 use Rattle.ledger_spec.specs.Forms.{header_prefix, header_of}
-use Rattle.ledger_spec.proofs.ByteForms.{bytes_join}
+use Rattle.ledger_spec.proofs.shared.ByteForms.{bytes_join}
 use Rattle.ledger_header.specs.declared.Header.{Header as Head}
 use Rattle.ledger_header.specs.Fields.{fields}
 

@@ -19,16 +19,17 @@ use Rattle.ledger_spec.specs.Forms.{hash_or_zero}
 use Rattle.ledger_spec.specs.Rules.{fault_of, same_kind, is_lone}
 use Rattle.ledger_spec.specs.Findings.{sound, sight_of, judged, seen_as}
 use Rattle.ledger_spec.specs.Tree.{Entry, IsByteEntry, AreItems, part, is_alone, form_of_part, forms_of_part, form_at, root_of, forms_of}
-use Rattle.ledger_spec.proofs.ByteForms.{bytes_join}
-use Rattle.ledger_spec.proofs.Seeing.{sees}
+use Rattle.ledger_spec.proofs.shared.ByteForms.{bytes_join}
+use Rattle.ledger_spec.proofs.shared.Seeing.{sees}
 use Rattle.tree_laws.specs.Walks.{at_place, found_below, found_in}
-use Rattle.tree_laws.proofs.Below.{below_zero, below_end, below_inner}
-use Rattle.tree_laws.proofs.ByteItems.{keys_of_items}
-use Rattle.tree_laws.proofs.Joins.{in_one, in_join, in_range, join_has}
-use Rattle.tree_laws.proofs.MapPages.{all_under, map_kept, part_branches}
-use Rattle.tree_laws.proofs.Subtrees.{form_none, form_bottom, form_alone, form_fork, forms_none, forms_bottom, forms_alone, forms_fork}
-use Rattle.tree_laws.proofs.Trees.{alone_nil, concat_map, each_in_part, kid_hash, size_or_zero, sizes_map}
-use Rattle.ledger_laws.proofs.SoundForms.{IsByteForm, in_nothing}
+use Rattle.tree_laws.proofs.shared.Below.{below_zero, below_end, below_inner}
+use Rattle.tree_laws.proofs.shared.ByteItems.{keys_of_items}
+use Rattle.tree_laws.proofs.shared.Joins.{in_one, in_join, in_range, join_has}
+use Rattle.tree_laws.proofs.shared.MapPages.{all_under, map_kept, part_branches}
+use Rattle.tree_laws.proofs.shared.Subtrees.{form_none, form_bottom, form_alone, form_fork, forms_none, forms_bottom, forms_alone}
+use Rattle.tree_laws.proofs.shared.Subtrees.{forms_fork}
+use Rattle.tree_laws.proofs.shared.Trees.{alone_nil, concat_map, each_in_part, kid_hash, size_or_zero, sizes_map}
+use Rattle.ledger_laws.proofs.shared.SoundForms.{IsByteForm, in_nothing}
 use Rattle.ledger_laws.proofs.NonzeroHashes.{one_at_bottom, key_sizes, leaf_bytes, kind_itself, leaf_fits, both_true, nonzeros, nonzeros_by}
 use Rattle.ledger_laws.proofs.NonzeroHashes.{one_counted, flat_none, not_zero, below_64, in_16, or_false, nonzero_is, top_part}
 

@@ -18,11 +18,11 @@ use Rattle.ledger_spec.specs.Forms.{leaf, IsHeld, IsItem, leaf_form, leaf_prefix
 use Rattle.ledger_spec.specs.Rules.{same_kind}
 use Rattle.ledger_spec.specs.Findings.{Finding}
 use Rattle.ledger_spec.specs.Tree.{Entry, part}
-use Rattle.ledger_spec.proofs.ByteForms.{bytes_join}
-use Rattle.tree_laws.proofs.Parts.{filter_all}
-use Rattle.tree_laws.proofs.Shapes.{key_size}
-use Rattle.tree_laws.proofs.Trees.{at_itself, under_whole}
-use Rattle.ledger_laws.proofs.SoundForms.{in_nothing}
+use Rattle.ledger_spec.proofs.shared.ByteForms.{bytes_join}
+use Rattle.tree_laws.proofs.shared.Parts.{filter_all}
+use Rattle.tree_laws.proofs.shared.Shapes.{key_size}
+use Rattle.tree_laws.proofs.shared.Trees.{at_itself, under_whole}
+use Rattle.ledger_laws.proofs.shared.SoundForms.{in_nothing}
 
 -- two keys under a path of 64 nibbles don't rise
 pub one_at_bottom : (path : List ℕ) (e : Entry) (others : Items) → length path ≡ 64 → IsMap hash_cmp (e ∷ others)

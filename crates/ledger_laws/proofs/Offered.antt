@@ -26,8 +26,9 @@ use Rattle.ledger_spec.specs.Offers.{head_forms}
 use Rattle.ledger_machine.specs.Steps.{own_forms}
 use Rattle.ledger_machine.specs.Collisions.{form_read, part_form, head_form, offered_by, made_by}
 use Rattle.ledger_machine.specs.Closing.{closes_into, unless_zero}
-use Rattle.ledger_laws.proofs.SoundOffers.{present_form, parts_cases}
-use Rattle.ledger_laws.proofs.SoundForms.{new_or_old, in_nothing, in_head, in_tail}
+use Rattle.ledger_laws.proofs.SoundOffers.{present_form}
+use Rattle.ledger_laws.proofs.shared.SoundOffers.{parts_cases}
+use Rattle.ledger_laws.proofs.shared.SoundForms.{new_or_old, in_nothing, in_head, in_tail}
 
 -- each form that is looked up stands under its own hash and is one of these
 abbrev pub AreFrom : Half → List Bytes → Lookup → Type 0

@@ -1,16 +1,13 @@
 -- What a store that began with records holds.
-use Rattle.std.proofs.Common.{◌≡◌, ⊎_elim, ℕ, List, [], ◌∷◌, ◌∙◌, Some, All, Contains, sym, subst}
+use Rattle.std.proofs.Common.{◌≡◌, ⊎_elim, List, [], ◌∷◌, ◌∙◌, Some, All, Contains, sym, subst}
 use Rattle.std.specs.FinMap as finite
 use Rattle.std.proofs.lemmas.List.Elements.{All-nil, All-cons, All-head, All-tail, All-weaker}
 use Rattle.std.proofs.lemmas.Option.{none-some}
 use Rattle.ledger_spec.specs.Maps.{hash_cmp}
-use Rattle.ledger_spec.specs.Bytes.{Bytes, Hash, Half, Nodes}
+use Rattle.ledger_spec.specs.Bytes.{Bytes, Hash, Nodes}
 use Rattle.ledger_machine.specs.declared.commands.Record.{Record}
-use Rattle.ledger_machine.specs.Records.{AreRecords, forms_of, with_records}
-use Rattle.ledger_machine.specs.Runs.{opening_of}
-use Rattle.ledger_machine.specs.Sound.{Sound, IsStoredAt}
-use Rattle.ledger_laws.proofs.SoundForms.{new_or_old, in_head, in_tail}
-use Rattle.ledger_laws.proofs.Soundness.{opening_is_sound}
+use Rattle.ledger_machine.specs.Records.{forms_of, with_records}
+use Rattle.ledger_laws.proofs.shared.SoundForms.{new_or_old, in_head, in_tail}
 
 -- what holds of each stored form and of each record holds of each form that is stored with the records
 pub stored_all : (P : Hash → Bytes → Type 0) (nodes : Nodes) (records : List Record)
@@ -27,13 +24,6 @@ stored_all P nodes (r ∷ records) each all h form e =
 -- nothing is in the empty map
 pub none_in_empty : (P : Hash → Bytes → Type 0) (h : Hash) (form : Bytes) → finite.get {R = hash_cmp} finite.empty h ≡ Some form → P h form
 none_in_empty P h form e = absurd (none-some _ (sym (finite.get-empty hash_cmp h) ∙ e))
-
--- a store that has only records is sound
-pub records_are_sound : (half : Half) (records : List Record) (interval : ℕ) → AreRecords half records
-    → Sound half (opening_of records interval)
-records_are_sound half records interval are =
-    opening_is_sound half (with_records finite.empty records) interval
-    (stored_all (IsStoredAt half) finite.empty records (none_in_empty (IsStoredAt half)) are.own)
 
 -- each record's form is among those of the records
 pub forms_among : (records : List Record) → All (λ r. Contains (forms_of records) r.form) records

@@ -14,8 +14,8 @@ use Rattle.ledger_spec.specs.Reach.{Reach, root, kid}
 use Rattle.ledger_spec.specs.Rules.{fault_of}
 use Rattle.ledger_spec.specs.Spots.{Spot, no_base, no_parent, empty_branch, under_leaf, wanted, spot_of}
 use Rattle.ledger_spec.specs.Wire.{read_wire}
-use Rattle.ledger_spec.proofs.OfferLaws.{err_ok, ok_same}
-use Rattle.ledger_spec.proofs.ReachLaws.{Grows, reach_grows, reach_joins}
+use Rattle.ledger_spec.proofs.shared.OfferLaws.{err_ok, ok_same}
+use Rattle.ledger_spec.proofs.shared.ReachLaws.{Grows, reach_grows, reach_joins}
 use Rattle.ledger_spec.specs.declared.outcomes.Offered.{Offered}
 use Rattle.ledger_spec.specs.declared.outcomes.Offered.TheVariants as offered
 use Rattle.ledger_spec.specs.declared.outcomes.HeadOffered.{HeadOffered}
@@ -28,9 +28,9 @@ use Rattle.ledger_machine.specs.Base.{node_forms}
 use Rattle.ledger_machine.specs.Steps.{IsAfter}
 use Rattle.ledger_machine.specs.Receipts.{IsReceived, IsHeadReceived, IsReceivedPart, IsKept}
 use Rattle.ledger_laws.proofs.SoundKeeps.{shaded_same}
-use Rattle.ledger_laws.proofs.SoundForms.{get_more, in_head, with_forms_grow}
-use Rattle.ledger_spec.proofs.Storing.{in_one}
-use Rattle.ledger_laws.proofs.Ways.{IsNamed, named_reached, wanted_named}
+use Rattle.ledger_laws.proofs.shared.SoundForms.{get_more, in_head, with_forms_grow}
+use Rattle.ledger_spec.proofs.shared.Storing.{in_one}
+use Rattle.ledger_laws.proofs.shared.Ways.{IsNamed, named_reached, wanted_named}
 
 -- what a rotation keeps is no part of what is stored
 pub after_grows : (t s' : State) → IsAfter t s' → Grows (form_in t) (form_in s')

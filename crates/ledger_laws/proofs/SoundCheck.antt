@@ -1,17 +1,13 @@
 -- A ledger that a check calls complete is whole, and listing it keeps a state sound.
-use Rattle.std.proofs.Common.{◌≡◌, ◌⊎◌, inl, inr, ⊎_elim, ◌≤◌, ℕ, suc, Bool, true, false, not, cond, if◌then◌else◌, ◌==◌, ◌&&◌, nat_lt}
-use Rattle.std.proofs.Common.{List, [], ◌∷◌, ◌++◌, Option, None, Some, All, Contains, filter_map, refl, sym, ap, ◌∙◌, subst, IsSomeAnd}
-use Rattle.std.proofs.Common.{IsTrue, Ordering, Less, Equal, Greater}
+use Rattle.std.proofs.Common.{◌≡◌, ◌⊎◌, inl, inr, ⊎_elim, ◌≤◌, ℕ, suc, Bool, true, false, not, if◌then◌else◌, ◌==◌, ◌&&◌, nat_lt}
+use Rattle.std.proofs.Common.{List, [], ◌∷◌, ◌++◌, Option, None, Some, Contains, filter_map, refl, sym, ap, ◌∙◌, subst, IsSomeAnd}
+use Rattle.std.proofs.Common.{IsTrue}
 use Rattle.std.specs.Option.{option_map, option_map_or, option_and_then}
-use Rattle.std.specs.Ordering.{eq_by_cmp, match_ordering}
 use Rattle.std.specs.Map.{keys_of, values_of}
-use Rattle.std.specs.BTreeMap.{insert_entry}
 use Rattle.std.proofs.lemmas.Bool.{ltb-false, eqb-true}
-use Rattle.std.proofs.lemmas.Map.Lookups.{exact_bytes}
-use Rattle.std.proofs.lemmas.Map.Views.{All-keys-insert_entry}
-use Rattle.std.proofs.lemmas.List.Elements.{All-contains_itself, All-weaker, All-contains, Contains-append_cases, Contains-append_left}
+use Rattle.std.proofs.lemmas.List.Elements.{Contains-append_cases, Contains-append_left}
 use Rattle.std.proofs.lemmas.List.Elements.{Contains-append_right}
-use Rattle.ledger_spec.specs.Maps.{ForHash, hash_cmp, get_in, insert_in}
+use Rattle.ledger_spec.specs.Maps.{hash_cmp, get_in, insert_in}
 use Rattle.ledger_spec.specs.declared.Place.{Place}
 use Rattle.ledger_spec.specs.declared.Place.TheVariants.{Header}
 use Rattle.ledger_spec.specs.declared.ShapeFault.{ShapeFault}
@@ -20,7 +16,7 @@ use Rattle.ledger_spec.specs.Header.{seq_of, state_root_of}
 use Rattle.ledger_spec.specs.Forms.{header_of}
 use Rattle.ledger_spec.specs.Spots.{header_in}
 use Rattle.ledger_spec.specs.Findings.{Finding, lacks, breaks, findings, up_to, Whole}
-use Rattle.ledger_spec.proofs.Growth.{found, met, no_cons, whole_stored}
+use Rattle.ledger_spec.proofs.shared.Growth.{found, met, no_cons, whole_stored}
 use Rattle.ledger_spec.specs.declared.replies.CheckReply.{CheckReply}
 use Rattle.ledger_spec.specs.declared.replies.CheckReply.TheVariants as check
 use Rattle.ledger_machine.specs.State.{State, form_in, retained, bases, ended, listed_with, stored_seq}
@@ -37,7 +33,7 @@ use Rattle.ledger_machine.specs.Complete.{IsAcceptable}
 use Rattle.std.specs.Cmp.Lexicographic.{nat_list_cmp_total}
 use Rattle.ledger_laws.proofs.SoundTables.{insert_rises}
 use Rattle.ledger_laws.proofs.SoundKeeps.{keeps_sound, with_wanted_keeps, ended_keeps}
-use Rattle.ledger_laws.proofs.SoundForms.{some_same, same_hash}
+use Rattle.ledger_laws.proofs.shared.SoundCheck.{get_inserted, key_inserted}
 
 -- a verdict that is answered `complete` is complete
 said_complete : (v : Verdict) → check_said v ≡ check.Complete → v ≡ complete
@@ -176,50 +172,6 @@ check_complete half s t e = at (get_in hash_cmp s.wanted t) refl e
         → (a : Acquiring) × (get_in hash_cmp s.wanted t ≡ Some a) × IsWholeFor half s t a
     at None is e = absurd (not_open_ends e)
     at (Some a) is e = (a, is, given_complete half s t a (said_complete (verdict_of half s t a) e))
-
--- a look-up that an entry ends, or not
-first_found : {X : Type 0} (b : Bool) (A : Type 0) (x v : X) (rest : Option X) → (b ≡ true → A) → cond b (Some x) rest ≡ Some v
-    → (A × (v ≡ x)) ⊎ (rest ≡ Some v)
-first_found true A x v rest here e = inl (here refl, sym (some_same e))
-first_found false A x v rest here e = inr e
-
--- a look-up past an entry that stays
-later_found : {X : Type 0} (b : Bool) (A : Type 0) (x v : X) (rest more : Option X) → (more ≡ Some v → A ⊎ (rest ≡ Some v))
-    → cond b (Some x) more ≡ Some v
-    → A ⊎ (cond b (Some x) rest ≡ Some v)
-later_found true A x v rest more later e = inr e
-later_found false A x v rest more later e = later e
-
--- a look-up past an entry whose value changes
-changed_found : {X : Type 0} (b : Bool) (A : Type 0) (x y v : X) (rest : Option X) → (b ≡ true → A) → cond b (Some x) rest ≡ Some v
-    → (A × (v ≡ x)) ⊎ (cond b (Some y) rest ≡ Some v)
-changed_found true A x y v rest here e = inl (here refl, sym (some_same e))
-changed_found false A x y v rest here e = inr e
-
--- what is found after an entry was put is that entry, or was found before
-pub get_inserted : {X : Type 0} (m : ForHash X) (k : Hash) (x : X) (q : Hash) (v : X)
-    → get_in hash_cmp (insert_in hash_cmp m k x) q ≡ Some v
-    → ((q ≡ k) × (v ≡ x)) ⊎ (get_in hash_cmp m q ≡ Some v)
-get_inserted {X} [] k x q v found = first_found (eq_by_cmp hash_cmp q k) (q ≡ k) x v None (same_hash q k) found
-get_inserted {X} (e ∷ m) k x q v found = at (get_inserted m k x q v) (hash_cmp k e.0) refl found
-  where
-    at : (get_in hash_cmp (insert_in hash_cmp m k x) q ≡ Some v → ((q ≡ k) × (v ≡ x)) ⊎ (get_in hash_cmp m q ≡ Some v))
-        → (r : Ordering) → hash_cmp k e.0 ≡ r → get_in hash_cmp
-        (match_ordering r ((k, x) ∷ e ∷ m) ((e.0, x) ∷ m) (e ∷ insert_entry hash_cmp m k x)) q ≡ Some v
-        → ((q ≡ k) × (v ≡ x)) ⊎ (get_in hash_cmp (e ∷ m) q ≡ Some v)
-    at later Less is found = first_found (eq_by_cmp hash_cmp q k) (q ≡ k) x v (get_in hash_cmp (e ∷ m) q) (same_hash q k) found
-    at later Equal is found = changed_found (eq_by_cmp hash_cmp q e.0) (q ≡ k) x e.1 v (get_in hash_cmp m q)
-        (λ b. same_hash q e.0 b ∙ sym (exact_bytes k e.0 is)) found
-    at later Greater is found = later_found (eq_by_cmp hash_cmp q e.0) ((q ≡ k) × (v ≡ x)) e.1 v (get_in hash_cmp m q)
-        (get_in hash_cmp (insert_entry hash_cmp m k x) q) later found
-
--- a key after an entry was put is its key, or was one before
-pub key_inserted : {X : Type 0} (m : ForHash X) (k : Hash) (x : X) (q : Hash) → Contains (keys_of (insert_in hash_cmp m k x)) q
-    → (q ≡ k) ⊎ Contains (keys_of m) q
-key_inserted m k x q c =
-    let P : Hash → Type 0 = λ h. (h ≡ k) ⊎ Contains (keys_of m) h in
-    let before : All P (keys_of m) = All-weaker (Contains (keys_of m)) P (λ h i. inr i) (keys_of m) (All-contains_itself (keys_of m)) in
-    All-contains P (keys_of (insert_in hash_cmp m k x)) q (All-keys-insert_entry hash_cmp k x P m before (inl refl)) c
 
 -- the ledgers retained once one more is listed
 pub retained_more : (s : State) (t : Hash) (seq : ℕ) (u : Hash) → Contains (retained (ended (listed_with s t seq) t)) u

@@ -7,18 +7,20 @@ use Rattle.std.specs.FinMap as finite
 use Rattle.std.specs.List.{All}
 use Rattle.std.proofs.lemmas.Map.Views.{All-values-set_value, All-map-remove_entry}
 use Rattle.ledger_spec.specs.Maps.{ForHash, hash_cmp, IsMap, get_in, set_in, remove_in}
-use Rattle.ledger_spec.specs.Bytes.{Bytes, Hash, Half, Lookup, Nodes}
+use Rattle.ledger_spec.specs.Bytes.{Bytes, Hash, Half, Nodes}
 use Rattle.ledger_spec.specs.Header.{seq_of}
 use Rattle.ledger_spec.specs.Acquiring.{Acquiring}
 use Rattle.ledger_spec.specs.Peers.{Peers}
 use Rattle.ledger_spec.specs.Spots.{header_in}
-use Rattle.ledger_spec.proofs.ReachLaws.{Grows}
-use Rattle.ledger_spec.proofs.Growth.{whole_grows, header_grows}
+use Rattle.ledger_spec.proofs.shared.ReachLaws.{Grows}
+use Rattle.ledger_spec.proofs.shared.Growth.{header_grows}
 use Rattle.ledger_machine.specs.State.{State, form_in, retained, bases, changed, with_wanted, with_peers, ended}
-use Rattle.ledger_machine.specs.Sound.{Sound, IsStoredAt, IsWholeLedger, AreTables}
+use Rattle.ledger_machine.specs.Sound.{Sound, IsStoredAt, AreTables}
 use Rattle.ledger_laws.proofs.Charges.{AreCharges}
-use Rattle.ledger_laws.proofs.SoundTables.{set_rises, remove_rises, all_found, same_tables}
+use Rattle.ledger_laws.proofs.SoundTables.{set_rises, remove_rises, same_tables}
+use Rattle.ledger_laws.proofs.shared.SoundTables.{all_found}
 use Rattle.ledger_machine.specs.Steps.{IsAfter}
+use Rattle.ledger_laws.proofs.shared.SoundKeeps.{whole_ledger_grows}
 
 -- the charges of an acquisition are a finite map
 abbrev pub HasCharges : Acquiring → Type 0
@@ -33,10 +35,6 @@ pub record Keeps (half : Half) (s s' : State) : Type 0 where
   pub sessions : s'.sessions ≡ s.sessions
   pub floor : s'.floor ≡ s.floor
   pub tables : AreTables half s → AreTables half s'
-
--- a whole ledger stays whole as the store grows
-pub whole_ledger_grows : (half : Half) (m n : Lookup) (t : Hash) → Grows m n → IsWholeLedger half m t → IsWholeLedger half n t
-whole_ledger_grows half m n t up w = record { header = header_grows m n t _ up w.header; whole = whole_grows half m n t up w.whole }
 
 -- the same tables retain the same ledgers
 pub same_retained : (half : Half) (s s' : State) → Keeps half s s' → retained s' ≡ retained s

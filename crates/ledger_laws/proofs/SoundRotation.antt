@@ -14,14 +14,14 @@ use Rattle.ledger_spec.specs.Header.{seq_of}
 use Rattle.ledger_spec.specs.Reach.{Reach, root}
 use Rattle.ledger_spec.specs.Retaining.{listed_from}
 use Rattle.ledger_spec.specs.Spots.{header_in}
-use Rattle.ledger_spec.proofs.ReachLaws.{reach_joins}
-use Rattle.ledger_spec.proofs.Storing.{in_one}
+use Rattle.ledger_spec.proofs.shared.ReachLaws.{reach_joins}
+use Rattle.ledger_spec.proofs.shared.Storing.{in_one}
 use Rattle.ledger_machine.specs.declared.replies.BeginReply.{BeginReply}
 use Rattle.ledger_machine.specs.declared.replies.BeginReply.TheVariants as begins
 use Rattle.ledger_machine.specs.State.{State, form_in, retained, roots, bases}
 use Rattle.ledger_machine.specs.Sound.{Sound}
 use Rattle.ledger_machine.specs.Rotation.{after_begin, Swapped}
-use Rattle.ledger_laws.proofs.SoundForms.{some_same, same_hash, in_head, in_tail}
+use Rattle.ledger_laws.proofs.shared.SoundForms.{some_same, same_hash, in_head, in_tail}
 use Rattle.ledger_laws.proofs.SoundTables.{filter_rises, same_tables}
 use Rattle.ledger_laws.proofs.Alike.{ledger_alike, header_in_alike}
 

@@ -2,17 +2,15 @@
 use Rattle.std.proofs.Common.{◌≡◌, ⊎_elim, ℕ, zero, suc, ◌+◌, ◌<◌, ◌^◌, ◌++◌, ◌==◌, nat_le, Bool, true, false, not}
 use Rattle.std.proofs.Common.{if◌then◌else◌, List, [], ◌∷◌, length, map, cond, IsTrue, IsSomeAnd, Option, None, Some, Contains}
 use Rattle.std.proofs.Common.{get_or, refl, sym, ap, subst, arith}
-use Rattle.std.specs.Option.{option_map_or, option_and_then, option_or, unwrap_or}
+use Rattle.std.specs.Option.{option_map_or}
 use Rattle.std.specs.Map.{keys_of, values_of, remove_entry}
-use Rattle.std.specs.BTreeMap.{is_at}
 use Rattle.std.specs.Ordering.{match_ordering}
 use Rattle.std.specs.declared.cmp.Ordering.{Ordering}
 use Rattle.std.specs.declared.cmp.Ordering.TheVariants.{Less, Equal, Greater}
-use Rattle.std.specs.List.{All, AllByRecursion, find, filter_map}
+use Rattle.std.specs.List.{All, AllByRecursion}
 use Rattle.std.specs.Cmp.Lexicographic.{nat_list_cmp_total}
-use Rattle.std.specs.Int.{w32, w64, to_be_bytes, from_be_bytes}
 use Rattle.std.proofs.lemmas.Bool.{leb-false}
-use Rattle.std.proofs.lemmas.List.Elements.{Contains-append_cases, Contains-append_left, Contains-append_right}
+use Rattle.std.proofs.lemmas.List.Elements.{Contains-append_cases, Contains-append_left}
 use Rattle.std.proofs.lemmas.Map.Views.{All-values-insert_entry, All-values-set_value, All-map-remove_entry}
 use Rattle.ledger_spec.specs.declared.Kind.{Kind}
 use Rattle.ledger_spec.specs.declared.Kind.TheVariants as kinds
@@ -23,42 +21,19 @@ use Rattle.ledger_spec.specs.Forms.{leaf, IsHeld, IsItem}
 use Rattle.ledger_spec.specs.Spots.{header_in, header_root}
 use Rattle.ledger_spec.specs.Tree.{Entry, IsByteEntry, AreItems}
 use Rattle.ledger_spec.specs.Findings.{items_of}
-use Rattle.tree_laws.proofs.Trees.{same_key}
-use Rattle.tree_laws.proofs.WholeLaw.{ledger_commits}
+use Rattle.tree_laws.proofs.shared.Trees.{same_key}
+use Rattle.tree_laws.proofs.shared.WholeLaw.{ledger_commits}
 use Rattle.ledger_machine.specs.declared.replies.EditReply.{EditReply}
 use Rattle.ledger_machine.specs.declared.replies.EditReply.TheVariants as edits
 use Rattle.ledger_machine.specs.State.{State, Session, form_in, retained, bases, stored_seq}
 use Rattle.ledger_machine.specs.Sound.{Sound, IsWholeLedger, AreStored}
 use Rattle.ledger_machine.specs.Views.{is_retained}
 use Rattle.ledger_machine.specs.Sessions.{edit_reply, session_on, after_edit, with_session, after_put, after_tx, after_del, without_session}
-use Rattle.ledger_laws.proofs.SoundForms.{in_nothing}
-use Rattle.ledger_laws.proofs.SoundForms.{in_tail}
-use Rattle.ledger_laws.proofs.SoundTables.{insert_rises, remove_rises, set_rises, none_rises, all_found}
-use Rattle.ledger_laws.proofs.SoundViews.{among, numbered_total}
-
--- what holds of a session in a sound state: its base is whole and has a next one, and it edits two maps of items
-pub record IsFit (half : Half) (s : State) (e : Session) : Type 0 where
-  pub whole : IsWholeLedger half (form_in s) e.base
-  pub next : IsSomeAnd (header_in (form_in s) e.base) (λ h. seq_of h + 1 < 2 ^ 32)
-  pub accounts : AreItems half kinds.State e.accounts
-  pub txs : AreItems half kinds.Tx e.txs
-
--- each value's image is among the images
-pub in_map : {A B : Type 0} (f : A → B) (xs : List A) (k : ℕ) (d : A) → k < length xs → Contains (map f xs) (f (get_or xs k d))
-in_map f [] k d lt = absurd (omega arith)
-in_map f (x ∷ xs) zero d lt = (0, omega arith, refl)
-in_map f (x ∷ xs) (suc k) d lt = in_tail (f x) (f (get_or xs k d)) (map f xs) (in_map f xs k d (omega (arith, lt)))
-
-pub fits_of : (half : Half) (s : State) → Sound half s → All (IsFit half s) (values_of s.sessions)
-fits_of half s sound k d lt =
-    let e : Session = get_or (values_of s.sessions) k d in
-    let base : Contains (bases s) e.base = in_map (λ (x : Session). x.base) (values_of s.sessions) k d lt in
-    record {
-      whole = sound.retained_whole e.base (Contains-append_right (keys_of s.listed ++ values_of s.views) (bases s) e.base base);
-      next = sound.base_seq e.base base;
-      accounts = (sound.tables.edits k d lt).0;
-      txs = (sound.tables.edits k d lt).1;
-    }
+use Rattle.ledger_laws.proofs.shared.SoundForms.{in_nothing}
+use Rattle.ledger_laws.proofs.SoundTables.{insert_rises, remove_rises, set_rises, none_rises}
+use Rattle.ledger_laws.proofs.shared.SoundTables.{all_found}
+use Rattle.ledger_laws.proofs.shared.SoundViews.{among, numbered_total}
+use Rattle.ledger_laws.proofs.shared.SoundSessions.{IsFit, fits_of}
 
 -- an image is that of a value for which this is so
 all_images : {A B : Type 0} (f : A → B) (P : A → Type 0) (Q : B → Type 0) → ((x : A) → P x → Q (f x)) → (xs : List A) → All P xs

@@ -1,9 +1,8 @@
 -- The step of each command keeps a state sound.
-use Rattle.std.proofs.Common.{◌⊎◌, inl, inr, ⊎_elim, ℕ, List, Option, None, Some, refl, sym}
+use Rattle.std.proofs.Common.{◌⊎◌, ⊎_elim, ℕ, List, Option, None, Some, refl, sym}
 use Rattle.ledger_spec.specs.declared.Kind.{Kind}
 use Rattle.ledger_spec.specs.Bytes.{Bytes, Hash, Half, IsHalf}
 use Rattle.ledger_spec.specs.Forms.{Held}
-use Rattle.ledger_machine.specs.declared.commands.Command.{Command}
 use Rattle.ledger_machine.specs.declared.commands.Command.TheVariants as command
 use Rattle.ledger_machine.specs.declared.replies.WantReply.{WantReply}
 use Rattle.ledger_machine.specs.declared.replies.WantReply.TheVariants as want
@@ -24,20 +23,20 @@ use Rattle.ledger_machine.specs.Peer.{peer_reply, after_peer}
 use Rattle.ledger_machine.specs.Check.{check_reply, after_check}
 use Rattle.ledger_machine.specs.Ticks.{tick_reply, after_tick}
 use Rattle.ledger_machine.specs.Sound.{Sound}
-use Rattle.ledger_machine.specs.Steps.{Step, Outcomes, Answered, Refused, Gives}
+use Rattle.ledger_machine.specs.Steps.{Step, Gives}
 use Rattle.ledger_laws.proofs.SoundKeeps.{Keeps, keeps_sound, keeps_self, keeps_after, wanted_keeps, with_peers_keeps, ended_keeps}
 use Rattle.ledger_laws.proofs.Charges.{adding_rises}
 use Rattle.ledger_laws.proofs.SoundKeeps.{same_keeps}
 use Rattle.std.specs.Ordering.{nat_cmp}
 use Rattle.ledger_laws.proofs.SoundTables.{none_rises, insert_rises}
 use Rattle.ledger_laws.proofs.SoundKeeps.{HasCharges, shaded_same, shaded_tables}
-use Rattle.ledger_laws.proofs.SoundForms.{refused_keeps, refused_none}
+use Rattle.ledger_laws.proofs.shared.SoundForms.{refused_keeps, refused_none}
 use Rattle.ledger_laws.proofs.SoundCheck.{check_sound}
 use Rattle.ledger_machine.specs.Views.{view_reply, after_view, unview_reply, after_unview}
 use Rattle.ledger_machine.specs.Reading.{view_root}
 use Rattle.ledger_machine.specs.declared.replies.SwapReply.TheVariants as swaps
 use Rattle.ledger_machine.specs.Rotation.{begin_reply, after_begin}
-use Rattle.ledger_machine.specs.Steps.{Gets, Pages, Swaps, IsAfter}
+use Rattle.ledger_machine.specs.Steps.{Swaps}
 use Rattle.ledger_laws.proofs.SoundRotation.{begin_sound, swap_sound}
 use Rattle.ledger_laws.proofs.SoundViews.{view_sound, unview_sound}
 use Rattle.shamap_node.specs.declared.parts.Item.{Item}
@@ -45,18 +44,9 @@ use Rattle.ledger_machine.specs.Scripts.{AreFields}
 use Rattle.ledger_machine.specs.Sessions.{edit_reply, after_edit, has_session, after_put, after_tx, del_reply, after_del, without_session}
 use Rattle.ledger_machine.specs.Closing.{close_reply, after_close}
 use Rattle.ledger_laws.proofs.SoundSessions.{edit_sound, put_sound, tx_sound, del_sound, without_sound}
-use Rattle.ledger_laws.proofs.SoundClosing.{close_sound, close_own}
+use Rattle.ledger_laws.proofs.shared.SoundClosing.{close_sound, close_own}
 use Rattle.ledger_laws.proofs.SoundOffers.{after_base_keeps, after_node_keeps, base_own, node_own}
-
--- a command is refused, or answered by its row
-pub outcome_cases : (half : Half) (s : State) (a : ℕ) (c : Command) (reply : Reply) (used : List Held) (s' : State)
-    → Outcomes half s a c reply used s'
-    → Refused half s a c s' ⊎ Answered half s a c reply used s'
-outcome_cases half s a c says.Fault used s' o = inl o.1
-outcome_cases half s a c says.Memory used s' o = inl o.1
-outcome_cases half s a c (says.Clash h old new) used s' o = inl o.1
-outcome_cases half s a c (says.ZeroHash form) used s' o = inl o.1
-outcome_cases half s a c reply used s' o = inr o
+use Rattle.ledger_laws.proofs.shared.SoundSteps.{outcome_cases, gets_after, pages_after}
 
 -- each answer to `want` keeps a state sound
 want_keeps : (half : Half) (s : State) (t : Hash) (seq : ℕ) (r : WantReply) → Keeps half s (after_want s t seq r)
@@ -157,12 +147,6 @@ unview_step_sound half s s' a v reply used sound step =
     (λ g. gives_same half (after_unview s (a, v)) s' (says.Unview (unview_reply s (a, v))) reply (unview_sound half s (a, v) sound) g)
     (outcome_cases half s a (command.Unview v) reply used s' step.outcome)
 
--- a read leaves the state
-pub gets_after : (half : Half) (s : State) (kind : Kind) (key : Hash) (root : Option Hash) (reply : Reply) (used : List Held) (s' : State)
-    → Gets half s kind key root reply used s' → IsAfter s s'
-gets_after half s kind key None reply used s' g = g.after
-gets_after half s kind key (Some root) reply used s' g = g.1
-
 -- a step of `get`
 pub get_step_sound : (half : Half) (s s' : State) (a v : ℕ) (kind : Kind) (key : Hash) (reply : Reply) (used : List Held) → Sound half s
     → Step half s a (command.Get v kind key) reply used s' → Sound half s'
@@ -171,12 +155,6 @@ get_step_sound half s s' a v kind key reply used sound step =
     (λ g. keeps_sound half s s' sound (keeps_after half s s s' (keeps_self half s)
     (gets_after half s kind key (view_root s kind (a, v)) reply used s' g)))
     (outcome_cases half s a (command.Get v kind key) reply used s' step.outcome)
-
--- so does a page
-pub pages_after : (half : Half) (s : State) (kind : Kind) (key : Hash) (n : ℕ) (root : Option Hash) (reply : Reply) (used : List Held)
-    (s' : State) → Pages half s kind key n root reply used s' → IsAfter s s'
-pages_after half s kind key n None reply used s' g = g.after
-pages_after half s kind key n (Some root) reply used s' g = g.1
 
 -- a step of `page`
 pub page_step_sound : (half : Half) (s s' : State) (a v : ℕ) (kind : Kind) (key : Hash) (n : ℕ) (reply : Reply) (used : List Held)

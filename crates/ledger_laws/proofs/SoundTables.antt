@@ -1,14 +1,13 @@
 -- Tables whose keys rise stay such tables as entries come, change and go.
-use Rattle.std.proofs.Common.{◌≡◌, suc, arith, Bool, true, false, cond, List, [], ◌∷◌, Some, refl, sym, ap, ◌∙◌, subst}
+use Rattle.std.proofs.Common.{◌≡◌, Bool, true, false, cond, List, [], ◌∷◌, Some, refl, sym, ap, ◌∙◌, subst}
 use Rattle.std.specs.List.{All, AllByRecursion, filter}
 use Rattle.std.specs.List.Sorted.{IsStrictlySortedBy}
-use Rattle.std.specs.Map.{keys_of, values_of, lookup, remove_entry, set_value}
+use Rattle.std.specs.Map.{keys_of, values_of, remove_entry, set_value}
 use Rattle.std.specs.Cmp.{IsTotalOrder}
 use Rattle.std.specs.Ordering.{match_ordering, ordering_reverse, nat_cmp}
 use Rattle.std.specs.declared.cmp.Ordering.{Ordering}
 use Rattle.std.specs.declared.cmp.Ordering.TheVariants.{Less, Equal, Greater}
 use Rattle.std.proofs.lemmas.Map.{keys-set_value}
-use Rattle.std.proofs.lemmas.Option.{none-some}
 use Rattle.ledger_spec.specs.declared.Kind.TheVariants as kinds
 use Rattle.ledger_spec.specs.Maps.{ForHash, ForActor, hash_cmp, numbered_cmp, IsMap, insert_in}
 use Rattle.ledger_spec.specs.Bytes.{Half}
@@ -99,18 +98,8 @@ pub set_rises : {K X : Type 0} (R : K → K → Ordering) (test : K → Bool) (m
     → IsMap R (set_value test m x)
 set_rises R test m x rises = subst (λ ks. IsStrictlySortedBy R ks) (sym (keys-set_value test m x)) rises
 
-same_some : {A : Type 0} {x y : A} → Some x ≡ Some y → x ≡ y
+pub same_some : {A : Type 0} {x y : A} → Some x ≡ Some y → x ≡ y
 same_some e = cc
-
--- what is true of each value is true of one that is found
-pub all_found : {K X : Type 0} (P : X → Type 0) (test : K → Bool) (m : List (K × X)) (x : X) → All P (values_of m) → lookup test m ≡ Some x
-    → P x
-all_found P test [] x all e = absurd (none-some _ e)
-all_found {K} {X} P test (e ∷ m) x all is = by (test e.0) (all_found P test m x (λ k d lt. all (suc k) d (omega arith))) is
-  where
-    by : (b : Bool) → (lookup test m ≡ Some x → P x) → cond b (Some e.1) (lookup test m) ≡ Some x → P x
-    by true rest same = subst P (same_some same) (all 0 e.1 (omega arith))
-    by false rest later = rest later
 
 -- the same tables
 pub same_tables : (half : Half) (s s' : State) → s'.listed ≡ s.listed → s'.wanted ≡ s.wanted → s'.views ≡ s.views → s'.sessions ≡ s.sessions

@@ -1,46 +1,20 @@
 -- Views keep a state sound: each is of a ledger that was retained before.
-use Rattle.std.proofs.Common.{◌≡◌, ⊎_elim, ℕ, ◌++◌, Bool, true, false, not, if◌then◌else◌, ◌||◌, ◌==◌, List, [], ◌∷◌, length}
-use Rattle.std.proofs.Common.{Contains, get_or, refl, sym, arith}
+use Rattle.std.proofs.Common.{◌≡◌, ⊎_elim, ℕ, ◌++◌, Bool, true, false, not, if◌then◌else◌, ◌==◌, length}
+use Rattle.std.proofs.Common.{get_or, refl}
 use Rattle.std.specs.Map.{keys_of, values_of}
-use Rattle.std.specs.List.{All, list_any}
-use Rattle.std.specs.Cmp.{IsTotalOrder}
-use Rattle.std.specs.Cmp.Lexicographic.{same_text}
-use Rattle.std.proofs.lemmas.Cmp.{nat_cmp_total, then_total}
+use Rattle.std.specs.List.{All}
 use Rattle.std.proofs.lemmas.List.Elements.{All-contains, Contains-get_or, Contains-append_cases}
 use Rattle.std.proofs.lemmas.List.Elements.{Contains-append_left, Contains-append_right}
 use Rattle.std.proofs.lemmas.Map.Views.{All-values-insert_entry, All-map-remove_entry}
 use Rattle.ledger_spec.specs.Maps.{ForActor, numbered_cmp, IsMap, insert_in, remove_in, has_in}
-use Rattle.ledger_spec.specs.Bytes.{Hash, Half, same_bytes}
+use Rattle.ledger_spec.specs.Bytes.{Hash, Half}
 use Rattle.ledger_machine.specs.State.{State, form_in, retained, bases}
 use Rattle.ledger_machine.specs.Sound.{Sound, IsWholeLedger}
 use Rattle.ledger_machine.specs.Views.{is_retained, view_reply, after_view, after_unview}
 use Rattle.ledger_machine.specs.declared.replies.ViewReply.{ViewReply}
 use Rattle.ledger_machine.specs.declared.replies.ViewReply.TheVariants as view
 use Rattle.ledger_laws.proofs.SoundTables.{insert_rises, remove_rises}
-
--- the order of an actor's numbers is total
-pub numbered_total : IsTotalOrder numbered_cmp
-numbered_total = then_total
-    (record {
-      antisymm = λ x y. nat_cmp_total.antisymm x.0 y.0;
-      trans = λ x y z. nat_cmp_total.trans x.0 y.0 z.0;
-      congr = λ x y z. nat_cmp_total.congr x.0 y.0 z.0;
-    })
-    (record {
-      antisymm = λ x y. nat_cmp_total.antisymm x.1 y.1;
-      trans = λ x y z. nat_cmp_total.trans x.1 y.1 z.1;
-      congr = λ x y z. nat_cmp_total.congr x.1 y.1 z.1;
-    })
-
--- what is found among hashes is one of them
-pub among : (t : Hash) (ts : List Hash) → list_any (same_bytes t) ts ≡ true → Contains ts t
-among t [] e = cc
-among t (x ∷ ts) e = first (same_bytes t x) refl (among t ts) e
-  where
-    first : (b : Bool) → same_bytes t x ≡ b → (list_any (same_bytes t) ts ≡ true → Contains ts t)
-        → (b || list_any (same_bytes t) ts) ≡ true → Contains (x ∷ ts) t
-    first true same rest found = (0, omega arith, sym (same_text t x (sym same)))
-    first false other rest found = Contains-append_right (x ∷ []) ts t (rest found)
+use Rattle.ledger_laws.proofs.shared.SoundViews.{numbered_total, among}
 
 -- a view that is opened is of a retained ledger
 fine_retained : (a b c : Bool)

@@ -18,7 +18,6 @@ use Rattle.ledger_spec.specs.declared.outcomes.HeadOffered.{HeadOffered}
 use Rattle.ledger_spec.specs.Peers.{is_present}
 use Rattle.ledger_spec.specs.Acquiring.{Acquiring}
 use Rattle.ledger_spec.specs.Replies.{parts_said, node_said}
-use Rattle.ledger_spec.proofs.ReachLaws.{Grows}
 use Rattle.ledger_machine.specs.declared.commands.Command.{Command}
 use Rattle.ledger_machine.specs.declared.commands.Command.TheVariants as command
 use Rattle.ledger_machine.specs.declared.replies.WantReply.{WantReply}
@@ -48,21 +47,12 @@ use Rattle.ledger_machine.specs.Views.{after_view}
 use Rattle.ledger_machine.specs.Sessions.{after_edit, with_session}
 use Rattle.ledger_machine.specs.Closing.{new_header, closing_forms, first_clash, closed_or_clash, zero_or, close_given, close_reply}
 use Rattle.ledger_machine.specs.Closing.{closed, after_close, closes_into, unless_zero, close_forms}
-use Rattle.ledger_machine.specs.Rotation.{after_begin, ShadesRoots, Begins, Swapped}
+use Rattle.ledger_machine.specs.Rotation.{after_begin, Begins}
 use Rattle.ledger_machine.specs.Steps.{IsAfter, Swaps, Refused, own_forms}
-use Rattle.ledger_laws.proofs.SoundForms.{new_or_old, in_head, in_tail, with_forms_grow}
+use Rattle.ledger_laws.proofs.shared.SoundForms.{new_or_old, in_head, in_tail, with_forms_grow}
 use Rattle.ledger_laws.proofs.SoundKeeps.{shaded_same}
-use Rattle.ledger_laws.proofs.SoundOffers.{if_present}
-
--- nothing of what is stored goes, and what comes is one of these forms, under its own hash
-pub record Stores (half : Half) (own : List Bytes) (s t : State) : Type 0 where
-  pub grows : Grows (form_in s) (form_in t)
-  pub adds : (h : Hash) (form : Bytes) → form_in t h ≡ Some form → (form_in s h ≡ Some form) ⊎ ((h ≡ half form) × Contains own form)
-
--- and no rotation begins or ends
-pub record GoesOn (half : Half) (own : List Bytes) (s t : State) : Type 0 where
-  pub stores : Stores half own s t
-  pub turning : t.turning ≡ s.turning
+use Rattle.ledger_laws.proofs.shared.SoundOffers.{if_present}
+use Rattle.ledger_laws.proofs.shared.Stored.{Stores, GoesOn, Goes, on, begun, swapped}
 
 -- a form more begins and ends no rotation
 with_form_turning : (half : Half) (s : State) (form : Bytes) → (with_form half s form).turning ≡ s.turning
@@ -264,12 +254,6 @@ module _ (half : Half) (s : State) where
   refused_goes a c s' r =
       after half (own_forms half s a c) s (with_forms half s r.forms) s'
       (forms_same half (own_forms half s a c) s (with_forms half s r.forms) r.forms (λ form i. (r.own form i).0) refl refl) r.same
-
--- what a step is to what is stored and to a rotation: both go on, a rotation begins, or a swap ends it
-pub data Goes (half : Half) (c : Command) (own : List Bytes) (s s' : State) : Type 0 where
-  on : GoesOn half own s s' → Goes half c own s s'
-  begun : Stores half own s s' → ShadesRoots s' → Goes half c own s s'
-  swapped : c ≡ command.Swap → Swapped s s' → Goes half c own s s'
 
 module _ (half : Half) (s : State) (a : ℕ) where
   -- what is shaded first is what the roots reach

@@ -19,10 +19,10 @@ use Rattle.ledger_spec.specs.Reach.{Stored}
 use Rattle.ledger_spec.specs.Findings.{Sight, missing, broken, sound, Met, Finding, lacks, breaks, held_of, seen_as, judged, sight_of}
 use Rattle.ledger_spec.specs.Findings.{branches_of, finding_at, walk, walk_map, walk_ledger, header_or_foreign, header_sight, maps_of}
 use Rattle.ledger_spec.specs.Findings.{findings, Whole}
-use Rattle.ledger_spec.proofs.Growth.{found, met}
+use Rattle.ledger_spec.proofs.shared.Growth.{found, met}
 use Rattle.ledger_machine.specs.Complete.{IsAllStored, IsUnbroken}
-use Rattle.ledger_laws.proofs.SoundForms.{in_head}
-use Rattle.ledger_laws.proofs.Ways.{IsNamed, branch_named, root_named}
+use Rattle.ledger_laws.proofs.shared.SoundForms.{in_head}
+use Rattle.ledger_laws.proofs.shared.Ways.{IsNamed, branch_named, root_named}
 
 -- something isn't nothing
 pub some_none : {A : Type 0} {x : A} → Some x ≡ None → ⊥

@@ -1,11 +1,11 @@
 -- Forms that are stored one after the other, none of which clashes, are all stored.
 use Rattle.std.proofs.Common.{◌≡◌, ◌⊎◌, inl, inr, ⊎_elim, ◌++◌}
-use Rattle.std.proofs.Common.{Bool, true, false, not}
-use Rattle.std.proofs.Common.{if◌then◌else◌, List, [], ◌∷◌, is_some, IsTrue}
+use Rattle.std.proofs.Common.{Bool, true, false}
+use Rattle.std.proofs.Common.{if◌then◌else◌, List, [], ◌∷◌, is_some}
 use Rattle.std.proofs.Common.{Option, None, Some, Contains}
 use Rattle.std.proofs.Common.{refl, sym, ap, ◌∙◌, subst}
 use Rattle.std.specs.Option.{option_or}
-use Rattle.std.specs.List.{find, filter_map}
+use Rattle.std.specs.List.{filter_map}
 use Rattle.std.specs.Cmp.Lexicographic.{same_text}
 use Rattle.std.specs.FinMap as finite
 use Rattle.std.specs.FinSet as set
@@ -14,30 +14,17 @@ use Rattle.std.proofs.lemmas.Cmp.{nat_list_cmp_total, tied_itself}
 use Rattle.std.proofs.lemmas.List.Elements.{Contains-append_cases, filter_map-append}
 use Rattle.ledger_spec.specs.declared.Kind.TheVariants as kinds
 use Rattle.ledger_spec.specs.declared.Place.TheVariants.{Header}
-use Rattle.ledger_spec.specs.Bytes.{Bytes, Half, Lookup, is_zero, is_nonzero, same_bytes}
+use Rattle.ledger_spec.specs.Bytes.{Bytes, Half, Lookup, same_bytes}
 use Rattle.ledger_spec.specs.Header.{tx_root_of, state_root_of}
 use Rattle.ledger_spec.specs.Forms.{header_prefix, header_of}
 use Rattle.ledger_spec.specs.Findings.{Whole, header_sight, header_or_foreign, maps_of, walk_map, walk_ledger}
 use Rattle.ledger_spec.specs.Offers.{Clash}
-use Rattle.ledger_spec.proofs.Growth.{met, found}
+use Rattle.ledger_spec.proofs.shared.Growth.{met, found}
 use Rattle.tree_laws.specs.Walks.{found_below}
-use Rattle.tree_laws.proofs.Joins.{in_one}
+use Rattle.tree_laws.proofs.shared.Joins.{in_one}
 use Rattle.ledger_machine.specs.State.{State, form_in, with_form, with_forms}
 use Rattle.ledger_machine.specs.Closing.{clash_under, first_clash}
-use Rattle.ledger_laws.proofs.SoundForms.{with_forms_grow, in_nothing, get_more}
-
--- no form of these has the zero hash
-pub none_zero : (half : Half) (forms : List Bytes) → find (λ form. is_zero (half form)) forms ≡ None → (form : Bytes) → Contains forms form
-    → IsTrue (is_nonzero (half form))
-none_zero half [] none form c = absurd (in_nothing c)
-none_zero half (x ∷ forms) none form c = by (is_zero (half x)) refl none (λ e there. none_zero half forms e form there)
-  where
-    by : (t : Bool) → is_zero (half x) ≡ t → (if t then Some x else find (λ f. is_zero (half f)) forms) ≡ None
-        → (find (λ f. is_zero (half f)) forms ≡ None → Contains forms form → IsTrue (is_nonzero (half form)))
-        → IsTrue (is_nonzero (half form))
-    by true z e rest = cc
-    by false z e rest = ⊎_elim (λ same. subst (λ (f : Bytes). IsTrue (is_nonzero (half f))) (in_one x form same) (ap not z))
-        (λ later. rest e later) (Contains-append_cases (x ∷ []) forms form c)
+use Rattle.ledger_laws.proofs.shared.SoundForms.{with_forms_grow, in_nothing, get_more}
 
 -- without a clash
 no_clash : (h form : Bytes) (o : Option Bytes) → clash_under h form o ≡ None → (o ≡ None) ⊎ (o ≡ Some form)

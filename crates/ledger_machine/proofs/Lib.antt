@@ -1,3 +1,4 @@
+pub mod shared
 mod Rows
 mod RowValues
 mod RowSteps
@@ -10,4 +11,3 @@ mod RowsRotation
 mod RowsViews
 mod RowsPinned
 mod RowsBounds
-pub mod Entries

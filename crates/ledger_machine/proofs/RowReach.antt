@@ -10,7 +10,7 @@ use Rattle.ledger_spec.specs.Maps.{hash_cmp}
 use Rattle.ledger_spec.specs.Bytes.{Bytes, Hash, Lookup}
 use Rattle.ledger_spec.specs.Reach.{Reach, root, kid, kids}
 use Rattle.std.proofs.lemmas.Map.Views.{Contains-from_any}
-use Rattle.ledger_spec.proofs.ReachLaws.{reach_joins}
+use Rattle.ledger_spec.proofs.shared.ReachLaws.{reach_joins}
 use Rattle.ledger_machine.proofs.RowSteps.{Entries, in_list}
 use Rattle.std.proofs.lemmas.List.Sums.{AllPass-from_list_all}
 use Rattle.std.proofs.lemmas.List.Elements.{All-contains}

@@ -1,2 +1,3 @@
+pub mod shared
 pub mod Running
 pub mod TakingUp

@@ -1,17 +1,14 @@
 -- A search that is run to its end, and what it leaves.
 use Rattle.std.specs.Prelude.{slice_index_or, slice_set}
-use Rattle.std.proofs.Common.{[], ◌∷◌, zero, suc, ◌≡◌, ℕ, ◌≤◌, ◌==◌, true, false, is_some, if◌then◌else◌, length, Contains, List}
+use Rattle.std.proofs.Common.{[], ◌∷◌, zero, suc, ◌≡◌, ℕ, ◌≤◌, ◌==◌, true, false, is_some, if◌then◌else◌, length, List}
 use Rattle.std.proofs.Common.{Option, None, Some, IfSome, sym, ap, ◌∙◌, subst, arith}
 use Rattle.std.proofs.lemmas.Bool.Decides.{nat_tests}
 use Rattle.std.proofs.lemmas.Option.{none-some}
-use Rattle.lru.proofs.Splits.{Contains-nil}
 use Rattle.ledger_spec.specs.Bytes.{Hash, Half, Lookup, is_zero}
 use Rattle.ledger_spec.specs.Header.{header_bytes, state_root_of, tx_root_of}
 use Rattle.ledger_spec.specs.declared.Kind.TheVariants.{State, Tx}
-use Rattle.ledger_spec.proofs.ReachLaws.{Grows}
 use Rattle.ledger_header.specs.declared.Header.{Header}
 use Rattle.ledger_header.specs.Fields.{fields}
-use Rattle.shamap_node.specs.Nodes.{held}
 use Rattle.full_below.specs.declared.marks.Marks.{Marks}
 use Rattle.full_below.specs.Marking.{AreMarked, is_marked}
 use Rattle.tree_cache.specs.declared.cache.TreeCache.{TreeCache}
@@ -23,13 +20,11 @@ use Rattle.missing_walk.specs.Moves.{has_ended}
 use Rattle.missing_walk.specs.Passes.{HasMarkedRoots}
 use Rattle.missing_walk.specs.Searching.{IsNew, Rule, stale_in, generation_after}
 use Rattle.missing_walk.specs.Sees.{IsHeaderOf}
-use Rattle.missing_walk.proofs.Places.{full_grows, held_grows}
-use Rattle.missing_walk.proofs.Growing.{rule_grows, rule_turns}
-use Rattle.missing_walk.proofs.Heeding.{goes_on}
+use Rattle.missing_walk.proofs.shared.Heeding.{goes_on}
 use Rattle.ledger_searches.specs.declared.hunt.Hunt.{Hunt}
 use Rattle.ledger_searches.specs.declared.searches.Searches.{Searches}
 use Rattle.ledger_searches.specs.Hunting.{hunt_of}
-use Rattle.ledger_searches.specs.Sharing.{AreTrueOf, Forgets, IsEmpty, IsTurned}
+use Rattle.ledger_searches.specs.Sharing.{AreTrueOf}
 
 -- what holds of a value holds of it by what follows
 pub if_some : {X : Type 0} (o : Option X) (P Q : X → Type 0) → ((x : X) → P x → Q x) → IfSome o P → IfSome o Q
@@ -44,34 +39,6 @@ kept_at P (h ∷ hs) zero zero o there is = there
 kept_at P (h ∷ hs) zero (suc b) o there is = is
 kept_at P (h ∷ hs) (suc a) zero o there is = is
 kept_at P (h ∷ hs) (suc a) (suc b) o there is = kept_at P hs a b o there is
-
--- ---- the rule
--- marks and cached nodes beside begun searches, as a store grows
-pub true_on : (half : Half) (m n : Lookup) (x : Searches) → Grows m n → AreTrueOf half m x → AreTrueOf half n x
-true_on half m n x up t = record {
-  marks = λ e there. full_grows half m n e.0 up (t.marks e there);
-  cache = λ e there. held_grows half m n e.0 (held (e.1).value) up (t.cache e there);
-  hunts = λ a. if_some (hunt_of x.hunts.items a) (λ h. Rule half m h.search x.cache x.marks) (λ h. Rule half n h.search x.cache x.marks)
-      (λ h rule. rule_grows half m n up h.search x.cache x.marks rule) (t.hunts a);
-}
-
--- nothing at all is true of any store
-pub true_of_nothing : (half : Half) (nodes : Lookup) (x : Searches) → IsEmpty x → AreTrueOf half nodes x
-true_of_nothing half nodes x none = record {
-  marks = λ e there. absurd (Contains-nil e (subst (λ l. Contains l e) none.marks there));
-  cache = λ e there. absurd (Contains-nil e (subst (λ l. Contains l e) none.cache there));
-  hunts = λ a. subst (λ (o : Option Hunt). IfSome o (λ h. Rule half nodes h.search x.cache x.marks)) (sym (none.hunts a)) tt;
-}
-
--- behind a turn
-pub true_turned : (half : Half) (m n : Lookup) (x x' : Searches) → IsTurned x x' → AreTrueOf half m x → AreTrueOf half n x'
-true_turned half m n x x' turned t = record {
-  marks = λ e there. absurd (Contains-nil e (subst (λ l. Contains l e) turned.marks there));
-  cache = λ e there. absurd (Contains-nil e (subst (λ l. Contains l e) turned.cache there));
-  hunts = λ a. subst (λ (hs : List (Option Hunt)). IfSome (hunt_of hs a) (λ h. Rule half n h.search x'.cache x'.marks)) (sym turned.hunts)
-      (if_some (hunt_of x.hunts.items a) (λ h. Rule half m h.search x.cache x.marks) (λ h. Rule half n h.search x'.cache x'.marks)
-      (λ h rule. rule_turns half m n h.search x.cache x'.cache x.marks x'.marks rule turned.cache turned.marks turned.generation) (t.hunts a));
-}
 
 -- other marks and cached nodes of the same generation
 pub rule_beside : (half : Half) (nodes : Lookup) (s : Search) (c c' : TreeCache) (m m' : Marks) → AreMarked (IsFull half nodes) m'
@@ -108,10 +75,6 @@ true_set half nodes a o x x' hunts marks cache put t = record {
       (subst (λ (m : Marks). IfSome (hunt_of (slice_set x.hunts.items a o) b) (λ h. Rule half nodes h.search x.cache m)) (sym marks)
       (kept_at (λ h. Rule half nodes h.search x.cache x.marks) x.hunts.items a b o put (t.hunts b))));
 }
-
-pub true_forgot : (half : Half) (nodes : Lookup) (a : ℕ) (x x' : Searches) → Forgets a x x' → AreTrueOf half nodes x
-    → AreTrueOf half nodes x'
-true_forgot half nodes a x x' forgets t = true_set half nodes a None x x' forgets.hunts forgets.marks forgets.cache tt t
 
 -- a search that nobody has begun is true
 pub new_rule : (half : Half) (nodes : Lookup) (x : Searches) (s : Search) → IsNew s → AreTrueOf half nodes x → Rule half nodes s x.cache x.marks

@@ -1,6 +1,6 @@
 //! Laws of what searches share, each the contract of an empty function: it stays true as a store grows, and as the generation turns.
 ghost use Rattle.ledger_spec.specs.Bytes.{Half, Lookup};
-ghost use Rattle.ledger_spec.proofs.ReachLaws.{Grows};
+ghost use Rattle.ledger_spec.proofs.shared.ReachLaws.{Grows};
 ghost use Rattle.ledger_searches.specs.declared.searches.Searches.{Searches};
 ghost use Rattle.ledger_searches.specs.Sharing.{IsEmpty, IsTurned, AreTrueOf};
 

@@ -5,7 +5,7 @@ use Rattle.std.proofs.lemmas.List.{append-nil, take-append-drop}
 use Rattle.std.specs.Option.{IfSome}
 use Rattle.line_feed.specs.Lines.{IsOneLine}
 use Rattle.line_feed.specs.Feeding.{TakesLine, TakesRest, TakesFront, CutsLine, TakesAll, Cuts, Fills}
-use Rattle.line_feed.proofs.Newlines.{one_join}
+use Rattle.line_feed.proofs.shared.Newlines.{one_join}
 
 -- of the input, the line so far was taken; then comes what waits, and what the source has left
 pub record Goes (start bytes line now : List ℕ) (left : Option (List ℕ)) : Type 0 where

@@ -1,2 +1,3 @@
+pub mod shared
 pub mod Newlines
 pub mod Going

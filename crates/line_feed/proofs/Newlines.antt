@@ -11,10 +11,6 @@ one_line w zero before = tt
 one_line [] (suc n) before = tt
 one_line (x ∷ w) (suc n) before = (before 0 (omega arith), one_line w n (λ k lt. before (suc k) (omega arith)))
 
-pub one_join : (a b : List ℕ) → IsOneLine a → IsOneLine b → IsOneLine (a ++ b)
-one_join [] b one more = more
-one_join (x ∷ a) b one more = (one.0, one_join a b one.1 more)
-
 -- what waits behind the newline
 pub behind_newline : (xs : List ℕ) (a n e : ℕ) → a + n < e
     → take (e - (a + (n + 1))) (drop (a + (n + 1)) xs) ≡ drop (suc n) (take (e - a) (drop a xs))

@@ -11,8 +11,8 @@ use Rattle.ledger_spec.specs.Bytes.{Bytes, Hash, Half, are_bytes, is_zero, is_no
 use Rattle.ledger_spec.specs.Forms.{Held, Form, form_of}
 use Rattle.ledger_spec.specs.Findings.{held_of}
 use Rattle.ledger_spec.specs.Own.{IsStoredAt, is_own, own_form}
-use Rattle.ledger_spec.proofs.Owning.{own_is}
-use Rattle.shamap_node.proofs.Seen.{held_by_form}
+use Rattle.ledger_spec.proofs.shared.Owning.{own_is}
+use Rattle.shamap_node.proofs.shared.Seen.{held_by_form}
 use Rattle.path_proof.specs.Sources.{IsForeign, Holds}
 use Rattle.log_recovery.specs.Records.{is_fit, is_record}
 

@@ -11,10 +11,10 @@ use Rattle.std.proofs.lemmas.Bool.{eqb-true, eq-eqb, ne_eqb}
 use Rattle.ledger_spec.specs.Bytes.{Bytes, Hash, Half, Nodes}
 use Rattle.node_backend.specs.Numbers.{is_among, exceeds}
 use Rattle.node_backend.specs.Doubts.{Pair}
-use Rattle.node_backend.proofs.Lists.{below_among}
+use Rattle.node_backend.proofs.shared.Lists.{below_among}
 use Rattle.rotating_store.specs.Keeps.{Allows, Numbered, Keeps}
 use Rattle.rotating_store.specs.Stores.{Agree, merged}
-use Rattle.rotating_store.proofs.Merging.{get-merged}
+use Rattle.rotating_store.proofs.shared.Merging.{get-merged}
 use Rattle.log_shelf.specs.Recovery.{IsKept}
 use Rattle.log_shelf.specs.Images.{AreOnShelf}
 use Rattle.log_shelf.specs.Stops.{held_of, doubt_of}

@@ -13,13 +13,13 @@ use Rattle.std.proofs.lemmas.List.Elements.{All-nil, All-cons, Contains-push_cas
 use Rattle.ledger_spec.specs.Maps.{hash_cmp}
 use Rattle.ledger_spec.specs.Bytes.{Bytes, Hash, Half, Nodes}
 use Rattle.ledger_spec.specs.Own.{IsStoredAt}
-use Rattle.ledger_machine.proofs.Entries.{Entries, said, first, second, found_below, found_first}
+use Rattle.ledger_machine.proofs.shared.Entries.{Entries, said, first, second, found_below, found_first}
 use Rattle.ledger_machine.specs.declared.commands.Record.{Record}
 use Rattle.ledger_machine.specs.Records.{hashes_of, AreDistinct, AreRecords}
 use Rattle.log_shelf.specs.Backends.{nodes_after}
 use Rattle.log_shelf.specs.Rooms.{Files}
 use Rattle.log_shelf.specs.Recovery.{entries_at, recovered_after, IsRecovered}
-use Rattle.log_shelf.proofs.Recovery.{same_key}
+use Rattle.log_shelf.proofs.shared.Recovery.{same_key}
 use Rattle.log_recovery.specs.Records.{is_record, records_of}
 use Rattle.log_recovery.proofs.Fitting.{record_stored}
 

@@ -16,7 +16,7 @@ use Rattle.std.specs.FinMap.{gets, get-remove, same_map}
 use Rattle.ledger_spec.specs.Maps.{hash_cmp, MapOf}
 use Rattle.ledger_spec.specs.Bytes.{Hash}
 use Rattle.node_backend.specs.Order.{IsAfter, IsNext}
-use Rattle.node_backend.proofs.Tables.{get_entries, hashes_antisymmetric}
+use Rattle.node_backend.proofs.shared.Tables.{get_entries, hashes_antisymmetric}
 
 -- an entry that was taken out
 pub remove_entries : {V : Type 0} (es ns : List (List ℕ × V)) (k : List ℕ)

@@ -1,3 +1,4 @@
+pub mod shared
 pub mod Entries
 pub mod Ranges
 pub mod Logs

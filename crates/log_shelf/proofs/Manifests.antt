@@ -7,7 +7,8 @@ use Rattle.std.specs.Vec.{vec_capacity}
 use Rattle.std.specs.declared.alloc.Global.{Global}
 use Rattle.std.proofs.lemmas.Bool.{eq-eqb}
 use Rattle.node_backend.specs.Numbers.{is_among, exceeds, without}
-use Rattle.node_backend.proofs.Lists.{exceeds_without, below_among, exceeds_more, exceeds_append, among_append, among_last, among_without}
+use Rattle.node_backend.proofs.shared.Lists.{exceeds_without, below_among, exceeds_more, exceeds_append, among_append, among_last}
+use Rattle.node_backend.proofs.shared.Lists.{among_without}
 use Rattle.log_shelf.specs.Logs.{MayDoubtEntry, with_doubted, ReadsAs, told_entries, doubted}
 use Rattle.log_shelf.specs.declared.disk.Disk.{Ghosts}
 use Rattle.log_shelf.specs.declared.log.Log.{Log}

@@ -5,7 +5,7 @@ use Rattle.std.proofs.Common.{◌==◌, IsTrue, refl, sym, subst, ap, ◌∙◌,
 use Rattle.std.proofs.lemmas.List.{append-nil}
 use Rattle.std.proofs.lemmas.Bool.{eqb-true, eq-eqb}
 use Rattle.node_backend.specs.Numbers.{is_among, without}
-use Rattle.node_backend.proofs.Lists.{among_append, among_last, among_without}
+use Rattle.node_backend.proofs.shared.Lists.{among_append, among_last, among_without}
 use Rattle.log_shelf.specs.Entries.{number_bytes, number_in}
 use Rattle.log_shelf.specs.Logs.{MayDoubtEntry, with_doubted}
 use Rattle.log_shelf.specs.Manifests.{made_entry, gone_entry, noted, live_after, live_of, is_listed}

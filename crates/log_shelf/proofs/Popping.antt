@@ -14,7 +14,7 @@ use Rattle.std.specs.FinMap.{get-from_entries}
 use Rattle.std.specs.FinMap.Entries.{below_all, is_sorted, same_entries}
 use Rattle.ledger_spec.specs.Maps.{hash_cmp}
 use Rattle.ledger_spec.specs.Bytes.{Hash, Bytes}
-use Rattle.node_backend.proofs.Tables.{hashes_antisymmetric}
+use Rattle.node_backend.proofs.shared.Tables.{hashes_antisymmetric}
 
 both : (a b : Bool) → T a → T b → T (a && b)
 both true b p q = q

@@ -3,10 +3,7 @@ use Rattle.std.proofs.Common.{◌≡◌, ◌⊎◌, inl, inr, ◌∙◌, sym, ap
 use Rattle.std.proofs.Common.{false, cond, ◌||◌, ◌==◌, IsTrue, Option, Some, None}
 use Rattle.std.specs.List.{filter}
 use Rattle.std.specs.Option.{option_map_or}
-use Rattle.std.specs.declared.cmp.Ordering.{Ordering}
-use Rattle.std.specs.declared.cmp.Ordering.TheVariants.{Less, Equal, Greater}
-use Rattle.std.specs.Ordering.{nat_cmp, is_eq, eq_by_cmp}
-use Rattle.log_shelf.proofs.Indexes.{same_hash}
+use Rattle.std.specs.Ordering.{nat_cmp, eq_by_cmp}
 use Rattle.std.specs.Cmp.Lexicographic.{slice_cmp, nat_list_cmp_total}
 use Rattle.std.specs.FinMap as map
 use Rattle.std.specs.FinMap.{get-insert, get-empty}
@@ -19,6 +16,7 @@ use Rattle.log_shelf.specs.Entries.{entries_of}
 use Rattle.log_shelf.specs.Backends.{nodes_after, nodes_of, with_pair, HoldsOrDoubts}
 use Rattle.log_shelf.specs.Rooms.{Files, file_in}
 use Rattle.log_shelf.specs.Recovery.{entries_at, live_in, Rises, recovered_after, IsRecovered, IsStopped, IsKept}
+use Rattle.log_shelf.proofs.shared.Recovery.{same_key}
 
 -- the first where there is one, else the second
 either : Option Bytes → Option Bytes → Option Bytes
@@ -57,14 +55,6 @@ last-of-nodes es h = get-after map.empty es h ∙ (ap (either (last_of es h)) (g
 
 none_is_some : (v : Bytes) → None ≡ Some v → ⊥
 none_is_some v e = cc
-
-is_equal : (r : Ordering) → is_eq r ≡ true → r ≡ Equal
-is_equal Less e = absurd (cc)
-is_equal Equal e = refl
-is_equal Greater e = absurd (cc)
-
-pub same_key : (h k : Hash) → eq_by_cmp (slice_cmp nat_cmp) h k ≡ true → h ≡ k
-same_key h k e = same_hash h k (is_equal (slice_cmp nat_cmp h k) e)
 
 none_split : (a t : Option Bytes) → either a t ≡ None → (a ≡ None) × (t ≡ None)
 unfolding either

@@ -13,11 +13,6 @@ use Rattle.ledger_spec.specs.Forms.{form_of}
 use Rattle.map_changes.specs.Placed.{Placed, is_same, changed}
 use Rattle.map_changes.specs.Walks.{Under, AllUnder}
 
--- where nothing was shown before, every node has changed
-pub changed_all : (nodes : List Placed) → changed [] nodes ≡ nodes
-changed_all [] = refl
-changed_all (p ∷ nodes) = ap (λ (x : List Placed). p ∷ x) (changed_all nodes)
-
 -- nodes at other places aren't the same
 apart_step : (x y : Placed) (b : Bool) → is_same x y ≡ b → x.path ≢ y.path → is_same x y ≡ false
 apart_step x y false e ne = e

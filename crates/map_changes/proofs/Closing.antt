@@ -9,7 +9,7 @@ use Rattle.cow_map.specs.declared.link.Link.{Link}
 use Rattle.cow_map.specs.declared.link.Link.TheVariants.{Empty, Own}
 use Rattle.cow_map.specs.Bodies.{Body, leaf, inner}
 use Rattle.cow_map.specs.Gathered.{branch_in}
-use Rattle.cow_map.proofs.Leading.{get_within}
+use Rattle.cow_map.proofs.shared.Leading.{get_within}
 use Rattle.map_changes.specs.Tracking.{place_of, kid_at, IsKnown, KnowsKids, AreClosed, KnowsAll}
 
 -- the hash to whose place a link leads

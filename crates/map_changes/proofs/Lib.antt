@@ -1,3 +1,4 @@
+pub mod shared
 pub mod Closing
 pub mod Changed
 pub mod Walking

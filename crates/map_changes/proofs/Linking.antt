@@ -12,7 +12,7 @@ use Rattle.cow_map.specs.declared.link.Link.{Link}
 use Rattle.cow_map.specs.declared.link.Link.TheVariants.{Empty, Unloaded, Own}
 use Rattle.cow_map.specs.Bodies.{Body, leaf, inner, IsBelow, AreBodies}
 use Rattle.cow_map.specs.Seals.{form_below, hash_at}
-use Rattle.cow_map.proofs.Leading.{weaker, get_within}
+use Rattle.cow_map.proofs.shared.Leading.{weaker, get_within}
 use Rattle.map_changes.specs.Tracking.{levels_of, link_hash, node_of, node_at}
 
 -- what is so of the link of each branch is so of all

@@ -10,17 +10,17 @@ use Rattle.ledger_spec.specs.Bytes.{Bytes, Hash, Half, branches, zero_hash}
 use Rattle.ledger_spec.specs.Forms as held
 use Rattle.ledger_spec.specs.Forms.{Held, leaf_form, inner_prefix, hash_or_zero}
 use Rattle.ledger_spec.specs.Tree.{Entry, part, form_of_part}
-use Rattle.tree_laws.proofs.Subtrees.{inner_above, form_none, form_one, form_fork}
+use Rattle.tree_laws.proofs.shared.Subtrees.{inner_above, form_none, form_one, form_fork}
 use Rattle.cow_map.specs.declared.link.Link.{Link}
 use Rattle.cow_map.specs.declared.link.Link.TheVariants.{Empty, Unloaded, Own}
 use Rattle.cow_map.specs.Bodies.{Body, leaf, inner, IsBelow, AreBodies}
 use Rattle.cow_map.specs.Gathered.{nothing_held, branch_in}
 use Rattle.cow_map.specs.Seals.{form_below}
 use Rattle.cow_map.specs.Trees.{Found, none, one, fork, lacks, breaks, found_at, found_body, fewest, Forks, Holds, StandsAt}
-use Rattle.cow_map.proofs.Leading.{weaker, body_none, body_one, body_fork}
-use Rattle.cow_map.proofs.Standing.{Below, stands_into, stands_under}
-use Rattle.cow_map.proofs.Filters.{part_kid, crowded}
-use Rattle.cow_map.proofs.Sealing.{by_index, flat_each}
+use Rattle.cow_map.proofs.shared.Leading.{weaker, body_none, body_one, body_fork}
+use Rattle.cow_map.proofs.shared.Standing.{Below, stands_into, stands_under}
+use Rattle.cow_map.proofs.shared.Filters.{part_kid, crowded}
+use Rattle.cow_map.proofs.shared.Sealing.{by_index, flat_each}
 use Rattle.map_changes.specs.Trees.{IsLeafNode, hashes_below, IsInnerNode, IsNode, StandsFor}
 use Rattle.map_changes.specs.Tracking.{place_of, link_hash, node_of, node_at, kid_at, entries_in, entries_by, entries_at}
 use Rattle.map_changes.proofs.Linking.{leaf_is, inner_is}

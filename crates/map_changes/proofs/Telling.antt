@@ -13,7 +13,7 @@ use Rattle.cow_map.specs.declared.link.Link.TheVariants.{Empty, Unloaded, Own}
 use Rattle.cow_map.specs.Bodies.{Body, IsBelow, AreBodies}
 use Rattle.cow_map.specs.Gathered.{nothing_held}
 use Rattle.cow_map.specs.Trees.{StandsAt, StandsFor}
-use Rattle.cow_map.proofs.Filters.{part_root}
+use Rattle.cow_map.proofs.shared.Filters.{part_root}
 use Rattle.map_changes.specs.declared.tracked.Root.{Root}
 use Rattle.map_changes.specs.declared.tracked.PlacedNode.{PlacedNode}
 use Rattle.map_changes.specs.Placed.{nodes_of, changed}

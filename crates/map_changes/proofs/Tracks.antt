@@ -13,10 +13,10 @@ use Rattle.cow_map.specs.Bodies.{Body, CowTree, IsBelow, AreBodies}
 use Rattle.cow_map.specs.Edits.{GrowsBy, SetsItem}
 use Rattle.cow_map.specs.Gathered.{nothing_held}
 use Rattle.cow_map.specs.Trees.{StandsAt, StandsFor}
-use Rattle.cow_map.proofs.Gathered.{nothing_sub}
-use Rattle.cow_map.proofs.Leading.{weaker}
-use Rattle.cow_map.proofs.Planting.{empty_stands}
-use Rattle.cow_map.proofs.Standing.{stands_grows}
+use Rattle.cow_map.proofs.shared.Gathered.{nothing_sub}
+use Rattle.cow_map.proofs.shared.Leading.{weaker}
+use Rattle.cow_map.proofs.shared.Planting.{empty_stands}
+use Rattle.cow_map.proofs.shared.Standing.{stands_grows}
 use Rattle.map_changes.specs.Placed.{nodes_of_part, nodes_of}
 use Rattle.map_changes.specs.Tracking.{link_hash, entries_at, items_at, AreHashes, AreClosed, Tracking, Keeps}
 use Rattle.map_changes.specs.Tracking.{leaves_in, items_in, shown_in}

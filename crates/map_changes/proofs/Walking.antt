@@ -12,15 +12,9 @@ use Rattle.map_changes.specs.Walks.{Under, AllUnder, placed_at, old_kid, itself,
 use Rattle.map_changes.specs.declared.tracked.PlacedNode.{PlacedNode}
 use Rattle.std.proofs.lemmas.List.{map-append}
 use Rattle.std.proofs.lemmas.List.Concat.{flat_map-append}
-use Rattle.map_changes.proofs.Changed.{changed_all, AreKids, changed_inner}
-
--- one number more
-pub range_more : (a n : ℕ) → range_with_len a n ++ (a + n) ∷ [] ≡ range_with_len a (n + 1)
-range_more a zero = let e : a + 0 ≡ a = omega arith in ap (λ (x : ℕ). x ∷ []) e
-range_more a (suc n) =
-    let e : a + suc n ≡ a + 1 + n = omega arith in
-    let f : suc (n + 1) ≡ suc n + 1 = omega arith in
-    ap (λ (x : List ℕ). a ∷ x) (ap (λ (x : ℕ). range_with_len (a + 1) n ++ x ∷ []) e ∙ range_more (a + 1) n) ∙ ap (range_with_len a) f
+use Rattle.map_changes.proofs.shared.Changed.{changed_all}
+use Rattle.map_changes.proofs.Changed.{AreKids, changed_inner}
+use Rattle.map_changes.proofs.shared.Walking.{range_more}
 
 -- nodes below a branch stand under the path
 lift : (path : List ℕ) (b : ℕ) (xs : List Placed) → AllUnder (path ++ b ∷ []) xs → AllUnder path xs

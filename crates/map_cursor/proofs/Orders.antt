@@ -5,12 +5,12 @@ use Rattle.std.specs.declared.cmp.Ordering.TheVariants.{Equal}
 use Rattle.std.specs.Ordering.{is_lt, nat_cmp, ordering_then}
 use Rattle.std.specs.Cmp.Lexicographic.{slice_cmp}
 use Rattle.nib_path.specs.Paths.{IsPath, nibbles, id_of, length-nibbles}
-use Rattle.nib_path.proofs.Reading.{nibbles-id_of}
-use Rattle.nib_path.proofs.Nibbles.{list_all-take}
+use Rattle.nib_path.proofs.shared.Reading.{nibbles-id_of}
+use Rattle.nib_path.proofs.shared.Nibbles.{list_all-take}
 use Rattle.ledger_spec.specs.Maps.{hash_cmp}
 use Rattle.ledger_spec.specs.Reads.{IsKey}
 use Rattle.ledger_spec.specs.Pages.{is_passed}
-use Rattle.tree_laws.proofs.Orders.{nibbles_cmp, equal}
+use Rattle.tree_laws.proofs.shared.Orders.{nibbles_cmp, equal}
 
 same_cmp : (z : List ℕ) → slice_cmp nat_cmp z z ≡ Equal
 same_cmp [] = refl

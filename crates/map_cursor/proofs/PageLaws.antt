@@ -8,10 +8,10 @@ use Rattle.ledger_spec.specs.Bytes.{Hash, Half, Lookup}
 use Rattle.ledger_spec.specs.Findings.{items_of}
 use Rattle.ledger_spec.specs.Reads.{IsKey, AreNodes}
 use Rattle.ledger_spec.specs.Pages.{said, page_from, heard_from, after_key, IsPageOf, IsPageOrShows, IsStoredNode}
-use Rattle.tree_laws.proofs.Trees.{Sized}
-use Rattle.tree_laws.proofs.MapPages.{page_or_shows}
-use Rattle.tree_laws.proofs.StorePages.{page_of_store}
-use Rattle.path_proof.proofs.PathLaws.{nodes_are}
+use Rattle.tree_laws.proofs.shared.Trees.{Sized}
+use Rattle.tree_laws.proofs.shared.MapPages.{page_or_shows}
+use Rattle.tree_laws.proofs.shared.StorePages.{page_of_store}
+use Rattle.path_proof.proofs.shared.PathLaws.{nodes_are}
 use Rattle.path_proof.specs.Paths.{held_nodes}
 use Rattle.path_proof.specs.declared.answer.ReadFault.{ReadFault}
 use Rattle.map_cursor.specs.declared.paging.Page.{Page}

@@ -10,8 +10,8 @@ use Rattle.ledger_spec.specs.Forms.{Held, inner, leaf, header}
 use Rattle.ledger_spec.specs.Reads.{inner_hashes}
 use Rattle.ledger_spec.specs.Pages.{Heard, said, wants, wrong, Reading, go_on, followed_by, in_turn, is_skipped, is_passed, page_from}
 use Rattle.ledger_spec.specs.Pages.{IsStoredNode}
-use Rattle.tree_laws.proofs.Orders.{all_append}
-use Rattle.tree_laws.proofs.Shapes.{above_bottom}
+use Rattle.tree_laws.proofs.shared.Orders.{all_append}
+use Rattle.tree_laws.proofs.shared.Shapes.{above_bottom}
 use Rattle.path_proof.specs.declared.answer.ReadFault.{ReadFault}
 use Rattle.path_proof.specs.declared.answer.ReadFault.TheVariants.{Fault, Memory}
 use Rattle.path_proof.specs.Sources.{Holds}

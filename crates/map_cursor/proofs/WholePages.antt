@@ -12,8 +12,8 @@ use Rattle.ledger_spec.specs.Rules.{fault_of}
 use Rattle.ledger_spec.specs.Findings.{seen_as, walk, walk_map}
 use Rattle.ledger_spec.specs.Pages.{Heard, said, wants, wrong, Reading, go_on, followed_by, in_turn, said_by, said_at, is_passed}
 use Rattle.ledger_spec.specs.Pages.{is_skipped, page_from, heard_from, IsStoredNode}
-use Rattle.tree_laws.proofs.Shapes.{none_is}
-use Rattle.path_proof.proofs.WholeReads.{Clean, clean_below, sees_held, ends_by}
+use Rattle.tree_laws.proofs.shared.Shapes.{none_is}
+use Rattle.path_proof.proofs.shared.WholeReads.{Clean, clean_below, sees_held, ends_by}
 use Rattle.path_proof.specs.declared.answer.ReadFault.{ReadFault}
 use Rattle.path_proof.specs.declared.answer.ReadFault.TheVariants.{Fault, Memory}
 use Rattle.map_cursor.specs.Visits.{Refused}

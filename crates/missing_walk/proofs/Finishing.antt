@@ -20,16 +20,16 @@ use Rattle.ledger_spec.specs.Rules.{fault_of, same_kind}
 use Rattle.ledger_spec.specs.Findings.{Sight, missing, broken, sound, Finding, lacks, breaks, findings, finding_at, missing_of}
 use Rattle.ledger_spec.specs.Findings.{first_broken}
 use Rattle.ledger_spec.specs.Findings.{up_to, seen, branches_of, header_sight, header_or_foreign}
-use Rattle.ledger_spec.proofs.Growth.{both_nil, not_missing}
+use Rattle.ledger_spec.proofs.shared.Growth.{both_nil, not_missing}
 use Rattle.ledger_header.specs.declared.Header.{Header}
 use Rattle.ledger_header.specs.Fields.{fields}
 use Rattle.full_below.specs.declared.marks.Marks.{Marks}
 use Rattle.full_below.specs.Marking.{after_mark, AreMarked}
-use Rattle.full_below.proofs.Using.{marked_more}
+use Rattle.full_below.proofs.shared.Using.{marked_more}
 use Rattle.tree_cache.specs.declared.cache.TreeCache.{TreeCache}
 use Rattle.tree_laws.specs.Walks.{at_place, finding_of, found_below}
-use Rattle.tree_laws.proofs.Sights.{Sees, sees_sound}
-use Rattle.tree_laws.proofs.Steps.{walk_step, walks_below}
+use Rattle.tree_laws.proofs.shared.Sights.{Sees, sees_sound}
+use Rattle.tree_laws.proofs.shared.Steps.{walk_step, walks_below}
 use Rattle.missing_walk.specs.declared.Found.{Found}
 use Rattle.missing_walk.specs.declared.todo.Todo.{Todo}
 use Rattle.missing_walk.specs.declared.search.Search.{Search}
@@ -38,7 +38,7 @@ use Rattle.missing_walk.specs.Pending.{stacked, noted_places, found_all, IsInner
 use Rattle.missing_walk.specs.Searching.{Going, BreaksOnTop, place_of}
 use Rattle.missing_walk.specs.Moves.{has_ended}
 use Rattle.missing_walk.specs.Ends.{found_whole, root_key, with_root, marks_of_roots, MarksRoot}
-use Rattle.missing_walk.proofs.Places.{grows_same, all_append}
+use Rattle.missing_walk.proofs.shared.Places.{grows_same, all_append}
 use Rattle.missing_walk.proofs.Seeing.{sound_held}
 use Rattle.missing_walk.proofs.Ledgers.{from_header, maps_found}
 use Rattle.missing_walk.specs.Sees.{found_in_maps}

@@ -2,10 +2,10 @@
 use Rattle.std.proofs.Common.{◌≡◌, ℕ, suc, ◌+◌, ◌-◌, ◌<◌, ◌≤◌, List, [], ◌∷◌, ◌++◌, length, take, drop}
 use Rattle.std.proofs.Common.{None, sym, ap, ◌∙◌, subst, arith, length-append, append-nil}
 use Rattle.ledger_spec.specs.Bytes.{Half, Lookup}
-use Rattle.ledger_spec.proofs.ReachLaws.{Grows}
+use Rattle.ledger_spec.proofs.shared.ReachLaws.{Grows}
 use Rattle.missing_walk.specs.declared.todo.Open.{Open}
 use Rattle.missing_walk.specs.Pending.{Pending, placed, FoundAs, IsInnerAt, IsFull, Within, Around}
-use Rattle.missing_walk.proofs.Places.{found_step, found_full, found_grows, inner_grows}
+use Rattle.missing_walk.proofs.shared.Places.{found_step, found_full, found_grows, inner_grows}
 
 take_past : (ks ps : List Pending) (m : ℕ) → take (length ks + m) (ks ++ ps) ≡ ks ++ take m ps
 take_past [] ps m = let e : 0 + m ≡ m = omega arith in ap (λ n. take n ps) e

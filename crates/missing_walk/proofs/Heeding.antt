@@ -16,7 +16,7 @@ use Rattle.full_below.specs.declared.marks.Marks.{Marks}
 use Rattle.full_below.specs.Marking.{AreMarked}
 use Rattle.tree_cache.specs.declared.cache.TreeCache.{TreeCache}
 use Rattle.tree_cache.specs.Caching.{AreCached}
-use Rattle.tree_laws.proofs.Below.{found_any}
+use Rattle.tree_laws.proofs.shared.Below.{found_any}
 use Rattle.missing_walk.specs.declared.todo.Todo.{Todo}
 use Rattle.missing_walk.specs.declared.todo.Open.{Open}
 use Rattle.missing_walk.specs.declared.search.Search.{Search}
@@ -27,8 +27,8 @@ use Rattle.missing_walk.specs.Pending.{IsHeldAt, IsInnerAt, IsFull, IsCachedTrue
 use Rattle.missing_walk.specs.Stacks.{Opens}
 use Rattle.missing_walk.specs.Views.{GoesBelow}
 use Rattle.missing_walk.specs.Searching.{BreaksOnTop, Going, SameSearch, place_of}
-use Rattle.missing_walk.specs.Moves.{has_ended, Inside, Heeds}
-use Rattle.missing_walk.proofs.Places.{all_append, all_one, covers_step, held_grows}
+use Rattle.missing_walk.specs.Moves.{Inside, Heeds}
+use Rattle.missing_walk.proofs.shared.Places.{all_append, all_one, covers_step, held_grows}
 use Rattle.missing_walk.proofs.Meetings.{none_below, kids_below}
 use Rattle.missing_walk.proofs.Frames.{within_step, within_open}
 use Rattle.missing_walk.proofs.Stacking.{stacked_top, length_stacked, last_first}
@@ -207,23 +207,18 @@ module _ (half : Half) (nodes : Lookup) where
     broke = i.broke;
   }
 
-either : (a b c : Bool) → ((a || b) || c) ≡ false → (a ≡ false) × (b ≡ false) × (c ≡ false)
+pub either : (a b c : Bool) → ((a || b) || c) ≡ false → (a ≡ false) × (b ≡ false) × (c ≡ false)
 either true b c e = cc
 either false true c e = cc
 either false false true e = cc
 either false false false e = (refl, refl, refl)
 
-not_some : {A : Type 0} (o : Option A) → is_some o ≡ false → o ≡ None
+pub not_some : {A : Type 0} (o : Option A) → is_some o ≡ false → o ≡ None
 not_some None e = refl
 not_some (Some x) e = cc
 
-room_left : (n : ℕ) → nat_le most_missing n ≡ false → n < 256
+pub room_left : (n : ℕ) → nat_le most_missing n ≡ false → n < 256
 room_left n e = grind (arith, nat_tests)
-
-pub goes_on : (s : Search) → has_ended s ≡ false → (s.broken ≡ None) × (length s.missing.items < 256)
-goes_on s e =
-    let parts = either (is_some s.broken) (nat_le most_missing (length s.missing.items)) (length s.stack.items == 0) e in
-    (not_some s.broken parts.0, room_left (length s.missing.items) parts.1)
 
 shallow_by : (n : ℕ) → (n == 64) ≡ false → n ≤ 64 → n < 64
 shallow_by n e le = grind (arith, nat_tests)

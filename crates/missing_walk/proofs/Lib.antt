@@ -1,7 +1,7 @@
+pub mod shared
 pub mod Noting
 pub mod Walking
 pub mod Ledgers
-pub mod Places
 pub mod Frames
 pub mod Seeing
 pub mod Stacking
@@ -9,7 +9,6 @@ pub mod Heeding
 pub mod Roots
 pub mod Finishing
 pub mod Slicing
-pub mod Growing
 pub mod RootMarks
 pub mod Apart
 pub mod Meetings

@@ -10,7 +10,7 @@ use Rattle.ledger_spec.specs.Forms.{inner, header_of}
 use Rattle.ledger_spec.specs.Header.{state_root_of, tx_root_of}
 use Rattle.ledger_spec.specs.Findings.{missing, sound}
 use Rattle.ledger_spec.specs.Spots.{header_in}
-use Rattle.ledger_spec.proofs.ReachLaws.{Grows}
+use Rattle.ledger_spec.proofs.shared.ReachLaws.{Grows}
 use Rattle.shamap_node.specs.declared.Node.{Node}
 use Rattle.shamap_node.specs.declared.Node.TheVariants as variant
 use Rattle.tree_laws.specs.Walks.{at_place, Meets, top, branch}
@@ -19,7 +19,7 @@ use Rattle.missing_walk.specs.Pending.{kids_of}
 use Rattle.missing_walk.specs.Views.{IsSoundInner}
 use Rattle.missing_walk.specs.Begins.{root_place}
 use Rattle.missing_walk.proofs.Apart.{all_join, part_below, part_below_second, part_kids}
-use Rattle.missing_walk.proofs.Places.{seen_grows, grows_then}
+use Rattle.missing_walk.proofs.shared.Places.{seen_grows, grows_then}
 
 inner_seen : (hashes : List Hash) → sound (inner hashes) ≡ missing → ⊥
 inner_seen hashes e = cc

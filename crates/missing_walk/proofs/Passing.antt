@@ -4,7 +4,7 @@ use Rattle.std.proofs.Common.{refl, sym, ap, ◌∙◌, subst, arith, length-app
 use Rattle.full_below.specs.declared.key.MarkKey.{MarkKey}
 use Rattle.full_below.specs.declared.marks.Marks.{Marks}
 use Rattle.full_below.specs.Marking.{is_marked, after_use}
-use Rattle.full_below.proofs.Marked.{use_stays}
+use Rattle.full_below.proofs.shared.Marked.{use_stays}
 use Rattle.missing_walk.specs.declared.todo.Todo.{Todo}
 use Rattle.missing_walk.specs.declared.sight.View.{View}
 use Rattle.missing_walk.specs.declared.search.Search.{Search}

@@ -11,7 +11,7 @@ use Rattle.ledger_spec.specs.Spots.{header_in}
 use Rattle.ledger_spec.specs.Findings.{walk_map, walk_ledger, maps_of}
 use Rattle.ledger_header.specs.declared.Header.{Header}
 use Rattle.ledger_header.specs.Fields.{fields}
-use Rattle.tree_laws.proofs.Steps.{walk_empty}
+use Rattle.tree_laws.proofs.shared.Steps.{walk_empty}
 use Rattle.missing_walk.specs.declared.search.Search.{Search}
 use Rattle.missing_walk.specs.declared.search.Slice.{Slice}
 use Rattle.missing_walk.specs.declared.search.Slice.TheVariants as slice

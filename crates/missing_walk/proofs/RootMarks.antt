@@ -10,7 +10,7 @@ use Rattle.ledger_spec.specs.Bytes.{Hash, is_zero, same_bytes}
 use Rattle.ledger_header.specs.declared.Header.{Header}
 use Rattle.full_below.specs.declared.marks.Marks.{Marks}
 use Rattle.full_below.specs.Marking.{is_marked, after_mark}
-use Rattle.full_below.proofs.Marked.{mark_is, mark_leads, first_stays}
+use Rattle.full_below.proofs.shared.Marked.{mark_is, mark_leads, first_stays}
 use Rattle.missing_walk.specs.declared.Found.{Found}
 use Rattle.missing_walk.specs.declared.todo.Todo.{Todo}
 use Rattle.missing_walk.specs.declared.search.Search.{Search}

@@ -16,7 +16,7 @@ use Rattle.ledger_spec.specs.Findings.{sound, lacks, breaks, findings, header_si
 use Rattle.ledger_header.specs.declared.Header.{Header}
 use Rattle.ledger_header.specs.Fields.{fields, Reads}
 use Rattle.tree_laws.specs.Walks.{found_below}
-use Rattle.tree_laws.proofs.Below.{below_zero}
+use Rattle.tree_laws.proofs.shared.Below.{below_zero}
 use Rattle.missing_walk.specs.declared.Found.{Found}
 use Rattle.missing_walk.specs.declared.search.Search.{Search}
 use Rattle.missing_walk.specs.Sees.{Finds, IsHeaderOf, shown, nothing_seen, noted, found_in_maps}
@@ -25,7 +25,7 @@ use Rattle.missing_walk.specs.Begins.{Begins, root_place}
 use Rattle.missing_walk.specs.Searching.{Kept}
 use Rattle.missing_walk.proofs.Noting.{finds}
 use Rattle.missing_walk.proofs.Ledgers.{lacks_header, foreign_header, from_header, maps_found}
-use Rattle.missing_walk.proofs.Places.{all_append, all_one}
+use Rattle.missing_walk.proofs.shared.Places.{all_append, all_one}
 use Rattle.missing_walk.proofs.Meetings.{roots_met, roots_apart}
 
 no_header : (nodes : Lookup) (t : Hash) → None ≡ header_in nodes t → IsHeaderOf nodes t None

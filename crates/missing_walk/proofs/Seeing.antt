@@ -15,38 +15,28 @@ use Rattle.ledger_spec.specs.Own.{own_forms}
 use Rattle.ledger_spec.specs.Findings.{sound, sight_of, seen_as, judged}
 use Rattle.shamap_node.specs.declared.Node.{Node}
 use Rattle.shamap_node.specs.declared.Node.TheVariants as variant
-use Rattle.shamap_node.specs.declared.parts.Inner.{Inner}
 use Rattle.shamap_node.specs.Nodes.{held}
 use Rattle.rotating_store.specs.Stores.{Store, nodes_of}
-use Rattle.rotating_store.specs.Reading.{WasRead, IsReadable}
-use Rattle.rotating_store.proofs.Reading.{same_nodes}
+use Rattle.rotating_store.specs.Reading.{IsReadable}
 use Rattle.full_below.specs.declared.key.MarkKey.{MarkKey}
 use Rattle.full_below.specs.declared.marks.Marks.{Marks}
 use Rattle.full_below.specs.Keys.{same_mark}
 use Rattle.full_below.specs.Marking.{is_marked, after_use, AreMarked}
-use Rattle.full_below.proofs.Using.{marked_is}
+use Rattle.full_below.proofs.shared.Using.{marked_is}
 use Rattle.lru.proofs.CallerLemmas.{Contains-promoted}
 use Rattle.tree_cache.specs.declared.cache.TreeCache.{TreeCache}
 use Rattle.tree_cache.specs.Caching.{shown, cached, after_get, after_put, AreCached}
-use Rattle.tree_cache.proofs.Using.{cached_is, still_cached, cached_more}
+use Rattle.tree_cache.proofs.shared.Using.{cached_is, still_cached, cached_more}
 use Rattle.tree_laws.specs.Walks.{at_place}
-use Rattle.tree_laws.proofs.Sights.{Sees, sees_sound}
-use Rattle.tree_laws.proofs.Below.{below_zero}
+use Rattle.tree_laws.proofs.shared.Sights.{Sees, sees_sound}
+use Rattle.tree_laws.proofs.shared.Below.{below_zero}
 use Rattle.missing_walk.specs.declared.sight.View.{View}
 use Rattle.missing_walk.specs.declared.sight.View.TheVariants as view
 use Rattle.missing_walk.specs.Pending.{Pending, branches_in, placed, FoundAs, kids_of, kids_from, IsHeldAt, IsFull}
 use Rattle.missing_walk.specs.Pending.{IsCachedTrue}
 use Rattle.missing_walk.specs.Views.{Tells, ShowsAs, Views, KeepsMarks, KeepsCache, MayPut}
 use Rattle.missing_walk.proofs.Walking.{above_bottom, no_fault}
-use Rattle.missing_walk.proofs.Places.{full_found, leaf_found, inner_found, missing_found, broken_found}
-
--- a store that was only read tells the same
-pub tells_after : (tells : Bool) (half : Half) (s s' : Store) (nodes : Lookup) → WasRead tells half s s' → Tells tells half s nodes
-    → Tells tells half s' nodes
-tells_after tells half s s' nodes read t = record {
-  readable = read.notes t.readable;
-  same = ap (λ n. own_forms half (map.get n)) (same_nodes s s' (read.same t.readable.0)) ∙ t.same;
-}
+use Rattle.missing_walk.proofs.shared.Places.{full_found, leaf_found, inner_found, missing_found, broken_found}
 
 test_own : (n : ℕ) → (n == n) ≡ true
 test_own n = grind (arith, nat_tests)

@@ -12,7 +12,7 @@ use Rattle.ledger_spec.specs.Bytes.{Hash, Half, Lookup}
 use Rattle.full_below.specs.declared.key.MarkKey.{MarkKey}
 use Rattle.full_below.specs.declared.marks.Marks.{Marks}
 use Rattle.full_below.specs.Marking.{after_mark, AreMarked}
-use Rattle.full_below.proofs.Using.{marked_more}
+use Rattle.full_below.proofs.shared.Using.{marked_more}
 use Rattle.missing_walk.specs.declared.todo.Todo.{Todo}
 use Rattle.missing_walk.specs.declared.todo.Open.{Open}
 use Rattle.missing_walk.specs.Pending.{Pending, pending_of, stacked, kid, kids_from, IsFull, Within, Around}

@@ -10,12 +10,12 @@ use Rattle.ledger_spec.specs.Forms.{Held, inner}
 use Rattle.ledger_spec.specs.Rules.{fault_of}
 use Rattle.ledger_spec.specs.Findings.{missing, sound, walk, branches_of, sight_of, judged, seen_as, held_of}
 use Rattle.tree_laws.specs.Walks.{at_place}
-use Rattle.tree_laws.proofs.Steps.{walks_below, walk_empty, walk_bottom, walk_step, walk_inner}
+use Rattle.tree_laws.proofs.shared.Steps.{walks_below, walk_empty, walk_bottom, walk_step, walk_inner}
 use Rattle.std.specs.declared.sync.Arc.{Arc}
 use Rattle.std.specs.declared.alloc.Global.{Global}
 use Rattle.tree_cache.specs.declared.cache.TreeCache.{TreeCache}
 use Rattle.tree_cache.specs.Caching.{shown as cached_shown, cached, AreCached}
-use Rattle.tree_cache.proofs.Using.{cached_is}
+use Rattle.tree_cache.proofs.shared.Using.{cached_is}
 use Rattle.shamap_node.specs.Nodes.{held}
 use Rattle.shamap_node.specs.declared.Node.{Node}
 use Rattle.shamap_node.specs.declared.Node.TheVariants as variant

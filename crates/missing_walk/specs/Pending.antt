@@ -12,7 +12,7 @@ use Rattle.ledger_spec.specs.Spots.{header_in}
 use Rattle.ledger_spec.specs.Bytes.{Bytes, Hash, Half, Lookup, zero_hash, is_zero}
 use Rattle.ledger_spec.specs.Forms.{Held, inner}
 use Rattle.ledger_spec.specs.Findings.{held_of, Finding, findings}
-use Rattle.ledger_spec.proofs.ReachLaws.{Grows}
+use Rattle.ledger_spec.proofs.shared.ReachLaws.{Grows}
 use Rattle.shamap_node.specs.declared.Node.{Node}
 use Rattle.shamap_node.specs.declared.Node.TheVariants as nodes
 use Rattle.shamap_node.specs.Nodes.{held}

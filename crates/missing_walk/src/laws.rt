@@ -1,7 +1,7 @@
 //! Laws of the rule on marks, cache and searches.
 ghost use Rattle.std.specs.Prelude.{◌≡◌, ◌+◌, []};
 ghost use Rattle.ledger_spec.specs.Bytes.{Half, Lookup};
-ghost use Rattle.ledger_spec.proofs.ReachLaws.{Grows};
+ghost use Rattle.ledger_spec.proofs.shared.ReachLaws.{Grows};
 ghost use Rattle.full_below.specs.declared.marks.Marks.{Marks};
 ghost use Rattle.tree_cache.specs.declared.cache.TreeCache.{TreeCache};
 ghost use Rattle.missing_walk.specs.declared.search.Search.{Search};

@@ -1,3 +1,4 @@
+pub mod shared
 pub mod Firsts
 pub mod Nibbles
 pub mod Places

@@ -1,3 +1,3 @@
-pub mod Lists
+pub mod shared
 pub mod Tables
 pub mod Next

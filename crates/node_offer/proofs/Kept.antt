@@ -5,7 +5,7 @@ use Rattle.std.specs.FinSet as set
 use Rattle.ledger_spec.specs.Maps.{SetOf}
 use Rattle.ledger_spec.specs.Bytes.{Bytes, Half, Nodes}
 use Rattle.rotating_store.specs.Stores.{Store, nodes_of, born_of, with_pair}
-use Rattle.rotating_store.proofs.Merging.{merged-insert, born_put}
+use Rattle.rotating_store.proofs.shared.Merging.{merged-insert, born_put}
 use Rattle.node_offer.specs.Stored.{with_form, with_forms, HasForms}
 
 -- a state, by what is stored and what is born

@@ -1,6 +1,6 @@
+pub mod shared
 pub mod Walking
 pub mod Storing
 pub mod Kept
-pub mod Wanted
 pub mod Notes
 pub mod Outcomes

@@ -12,19 +12,19 @@ use Rattle.std.proofs.lemmas.Map.Views.{tells_apart}
 use Rattle.ledger_spec.specs.Bytes.{Bytes, Hash, Half, Nodes, same_bytes}
 use Rattle.ledger_spec.specs.Findings.{held_of}
 use Rattle.ledger_spec.specs.Forms.{Held, Form}
-use Rattle.ledger_spec.proofs.Seeing.{sees}
+use Rattle.ledger_spec.proofs.shared.Seeing.{sees}
 use Rattle.ledger_spec.specs.Maps.{hash_cmp}
 use Rattle.ledger_spec.specs.Own.{is_own}
-use Rattle.ledger_spec.proofs.Owning.{same_self}
+use Rattle.ledger_spec.proofs.shared.Owning.{same_self}
 use Rattle.rotating_store.specs.Stores.{Store, nodes_of, with_pair, is_noted, IsNoted, Counted}
 use Rattle.rotating_store.specs.Puts.{Puts, TellsWrongHash, MayStore}
 use Rattle.rotating_store.specs.declared.outcome.Put.{Put}
 use Rattle.rotating_store.specs.declared.outcome.Put.TheVariants as put
 use Rattle.rotating_store.specs.declared.outcome.StoreFault.{StoreFault}
 use Rattle.rotating_store.specs.declared.outcome.StoreFault.TheVariants as fault
-use Rattle.rotating_store.proofs.Merging.{merged-insert}
+use Rattle.rotating_store.proofs.shared.Merging.{merged-insert}
 use Rattle.rotating_store.specs.Reading.{AreNotedOwn}
-use Rattle.rotating_store.proofs.Reading.{note_is_true, notes_stay}
+use Rattle.rotating_store.proofs.shared.Reading.{note_is_true, notes_stay}
 
 module _ (half : Half) (s : Store) (h : Hash) (form : Bytes) where
   after_pair : (q : Hash) → map.get (nodes_of (with_pair s h form)) q ≡ cond (eq_by_cmp hash_cmp q h) (Some form) (map.get (nodes_of s) q)

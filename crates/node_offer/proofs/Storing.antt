@@ -1,5 +1,5 @@
 -- What is stored for an outcome, and what is left where there is none.
-use Rattle.std.proofs.Common.{◌≡◌, ◌≢◌, inl, inr, ℕ, true, false, is_some, if◌then◌else◌, List, [], ◌∷◌, Option, Some, None, Result}
+use Rattle.std.proofs.Common.{◌≡◌, ◌≢◌, inl, inr, ℕ, true, false, is_some, List, [], ◌∷◌, Option, Some, None, Result}
 use Rattle.std.proofs.Common.{Ok, Err}
 use Rattle.std.proofs.Common.{IfErr, IsErrAnd, refl, sym, ap, ◌∙◌, subst}
 use Rattle.std.specs.FinMap as map
@@ -8,19 +8,19 @@ use Rattle.ledger_spec.specs.declared.Kind.{Kind}
 use Rattle.ledger_spec.specs.declared.ShapeFault.{ShapeFault}
 use Rattle.ledger_spec.specs.declared.outcomes.Offered.{Offered}
 use Rattle.ledger_spec.specs.Bytes.{Bytes, Hash, Half, Nodes, same_bytes}
-use Rattle.ledger_spec.specs.Maps.{SetOf}
 use Rattle.ledger_spec.specs.Forms.{Held, form_of, hash_of}
 use Rattle.ledger_spec.specs.Rules.{fault_of}
 use Rattle.ledger_spec.specs.Spots as way
 use Rattle.ledger_spec.specs.Spots.{spot_of}
 use Rattle.ledger_spec.specs.Own.{AreStored, own_forms}
 use Rattle.ledger_spec.specs.Offers.{Clash, node_given, spot_outcome, wire_outcome, stored_by}
-use Rattle.ledger_spec.proofs.Owning.{all_own, same_self}
+use Rattle.ledger_spec.proofs.shared.Owning.{all_own, same_self}
 use Rattle.rotating_store.specs.Stores.{Store, nodes_of, Counted, with_pair}
-use Rattle.rotating_store.proofs.Reading.{counted_then}
+use Rattle.rotating_store.proofs.shared.Reading.{counted_then}
 use Rattle.node_offer.specs.declared.fault.OfferFault.{OfferFault}
 use Rattle.node_offer.specs.declared.fault.OfferFault.TheVariants as faults
-use Rattle.node_offer.specs.Stored.{with_forms, HasForms, Refuses, Stores}
+use Rattle.node_offer.specs.Stored.{HasForms, Refuses, Stores}
+use Rattle.node_offer.proofs.shared.Storing.{counted_forms}
 
 not_same : (a b : Bytes) → a ≢ b → same_bytes a b ≡ false
 not_same a b ne = elim (same_bytes a b) as (λ r. same_bytes a b ≡ r → r ≡ false)
@@ -100,27 +100,6 @@ by_place half held stored t kind path n spot wire same all at read =
     ∙ ap (λ p. spot_outcome half (map.get held) kind path n p)
     (sym (at ∙ ap (λ l. spot_of l t kind path) (all_own half (map.get held) all)))
     ∙ ap (λ m. spot_outcome half (map.get m) kind path n spot) (sym same)
-
--- what is stored doesn't hang on the counts
-with_counts : (half : Half) (s : Store) (f g : ℕ) (n : SetOf) (forms : List Bytes)
-    → with_forms half (record s { faults = f; gets = g; noted = n }) forms
-    ≡ record (with_forms half s forms) { faults = f; gets = g; noted = n }
-with_counts half s f g n [] = refl
-with_counts half s f g n (form ∷ forms) =
-    elim (is_some (map.get (nodes_of s) (half form))) as
-    (λ b. with_forms half
-    (if b then record s { faults = f; gets = g; noted = n }
-    else with_pair (record s { faults = f; gets = g; noted = n }) (half form) form) forms
-    ≡ record (with_forms half (if b then s else with_pair s (half form) form) forms) { faults = f; gets = g; noted = n }) [
-      | true ↦ with_counts half s f g n forms
-      | false ↦ with_counts half (with_pair s (half form) form) f g n forms
-    ]
-
-pub counted_forms : (half : Half) (s0 s1 s2 : Store) (forms : List Bytes) → Counted s0 s1 → HasForms half forms s1 s2
-    → HasForms half forms s0 s2
-counted_forms half s0 s1 s2 forms read has =
-    has ∙ ap (λ (x : Store). record x { faults = s2.faults; gets = s2.gets; noted = s2.noted })
-    (ap (λ x. with_forms half x forms) read ∙ with_counts half s0 s1.faults s1.gets s1.noted forms)
 
 refuses_by : (half : Half) (out out' : Result Offered Clash) (forms forms' : List Bytes) (s0 s1 s2 : Store) (e : OfferFault) → out' ≡ out
     → forms' ≡ forms → Counted s0 s1

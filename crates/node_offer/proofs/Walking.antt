@@ -9,7 +9,7 @@ use Rattle.std.specs.Prelude.{slice_index}
 use Rattle.std.specs.List.{slice_index_or}
 use Rattle.std.proofs.lemmas.List.{length-replicate, take_more, drop_more, take-append-le, get_or_append_left}
 use Rattle.nib_path.specs.Paths.{nibbles, nibble_of, id_of, IsPath}
-use Rattle.nib_path.proofs.Nibbles.{nibbles-packed, list_all-append_zeros}
+use Rattle.nib_path.proofs.shared.Nibbles.{nibbles-packed, list_all-append_zeros}
 use Rattle.ledger_spec.specs.Bytes.{Bytes, Hash, Half, Lookup, Nodes, zero_hash}
 use Rattle.ledger_spec.specs.Spots as way
 use Rattle.ledger_spec.specs.Spots.{spot_from, spot_of, spot_below, header_in, header_root}

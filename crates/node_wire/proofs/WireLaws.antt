@@ -16,8 +16,8 @@ use Rattle.ledger_spec.specs.Forms.{Held, inner, leaf, header, IsHeld, IsInner, 
 use Rattle.ledger_spec.specs.Wire.{Chunk, AreChunksOf, Wire, chunk_bytes, chunk_cause, chunks_in, chunks_of, compressed, checked_inner}
 use Rattle.ledger_spec.specs.Wire.{checked_leaf, full, hash_at, keyed_leaf}
 use Rattle.ledger_spec.specs.Wire.{read_typed, read_wire, wire_of}
-use Rattle.ledger_spec.proofs.OfferLaws.{chunk_sizes, hash_by_chunks, sizes_map, whole_size}
-use Rattle.ledger_spec.proofs.Hashes.{concat-hashes_of, hashes_of-concat, length-concat, length-hashes_of, sizes-hashes_of}
+use Rattle.ledger_spec.proofs.shared.OfferLaws.{chunk_sizes, hash_by_chunks, sizes_map, whole_size}
+use Rattle.ledger_spec.proofs.shared.Hashes.{concat-hashes_of, hashes_of-concat, length-concat, length-hashes_of, sizes-hashes_of}
 use Rattle.shamap_node.specs.Laws.{is_node}
 use Rattle.shamap_node.specs.declared.Node.{Node}
 use Rattle.shamap_node.specs.Nodes.{held}

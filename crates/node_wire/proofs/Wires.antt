@@ -8,7 +8,7 @@ use Rattle.std.proofs.lemmas.Bool.{not-true}
 use Rattle.std.proofs.lemmas.List.{drop_at, get_or_at, get_or-drop, take_all, take_at, take_more}
 use Rattle.ledger_spec.specs.declared.Kind.{Kind}
 use Rattle.ledger_spec.specs.Bytes.{Bytes, Hash, Half, hashes_of, is_zero, is_nonzero}
-use Rattle.ledger_spec.proofs.Hashes.{none_nonzero}
+use Rattle.ledger_spec.proofs.shared.Hashes.{none_nonzero}
 use Rattle.ledger_spec.specs.Forms.{Held, inner, leaf, data_limit, inner_prefix, inner_of}
 use Rattle.ledger_spec.specs.Wire.{read_wire, read_typed, checked_inner, checked_leaf, keyed_leaf, full}
 

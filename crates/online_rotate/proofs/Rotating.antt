@@ -9,29 +9,26 @@ use Rattle.ledger_spec.specs.Maps.{SetOf}
 use Rattle.ledger_spec.specs.Bytes.{Bytes, Hash, Lookup, Nodes}
 use Rattle.ledger_spec.specs.Reach.{Reach, root, Stored}
 use Rattle.ledger_spec.specs.Retaining.{Retention, AreRootsFrom, IsRootFrom, floor_behind}
-use Rattle.ledger_spec.proofs.ReachLaws.{reach_joins}
+use Rattle.ledger_spec.proofs.shared.ReachLaws.{reach_joins}
 use Rattle.run_io.specs.Bytes.{Rose}
 use Rattle.rotating_store.specs.Puts.{IsPlain}
 use Rattle.rotating_store.specs.Stores.{Store, merged, nodes_of, SamePast, HasNoNewNotes, KeepsNotes, AddsAtMostOne}
 use Rattle.rotating_store.specs.declared.outcome.StoreFault.{StoreFault}
 use Rattle.rotating_store.specs.declared.outcome.StoreFault.TheVariants as fault
-use Rattle.rotating_store.proofs.Merging.{swap_fewer, swap_only}
+use Rattle.rotating_store.proofs.shared.Merging.{swap_fewer, swap_only}
 use Rattle.copy_walk.specs.Walks.{Walk, Keeps}
 use Rattle.copy_walk.specs.Walks as walks
 use Rattle.copy_walk.specs.Slices.{Strode, Drains, SameRest}
-use Rattle.copy_walk.proofs.Striding.{colours_stay, kept_stays, kept_was, kept_held, held_stays, held_was, shaded_still}
+use Rattle.copy_walk.proofs.shared.Striding.{colours_stay, kept_stays, kept_was, kept_held, held_stays, held_was, shaded_still}
 use Rattle.std.specs.Option.{unwrap_or}
-use Rattle.ledger_spec.proofs.Storing.{in_one}
+use Rattle.ledger_spec.proofs.shared.Storing.{in_one}
 use Rattle.online_rotate.specs.Rotators.{Turning, no_walk}
 use Rattle.online_rotate.specs.Copying.{IsWalking, CopiesSome, IsFit, Rotated, OnlyReachedOrBorn, RefusedBy}
+use Rattle.online_rotate.proofs.shared.Rotating.{some_no_none, fit_on}
 
 pub on_err : {X E : Type 0} (P : Type 0) (r : Result X E) → P → OnErr r P
 on_err P (Ok x) p = tt
 on_err P (Err e) p = p
-
-some_no_none : (o : Option Bytes) (form : Bytes) → o ≡ Some form → o ≢ None
-some_no_none None form e n = cc
-some_no_none (Some x) form e n = cc
 
 there_no_none : (o : Option Bytes) → is_some o ≡ true → o ≢ None
 there_no_none None e n = cc
@@ -81,23 +78,6 @@ module _ (told : List Hash) (w : Walk) (s : Store) (k : IsWalking told w s) wher
         kept_held nodes (finite.get t.writable) v (colours_stay nodes w held d.strides k.colours) done h
         (kept_stays nodes w held d.strides h (reached_keeps h r))
 
--- both backends still have nothing in common but what is reached
-pub fit_on : (shaded : List Hash) (s t : Store) → IsFit shaded s → CopiesSome shaded s t → IsFit shaded t
-fit_on shaded s t fit some h written old = at (finite.get t.writable h) refl
-  where
-    over : Reach (finite.get (nodes_of s)) shaded h → Reach (finite.get (nodes_of t)) shaded h
-    over r = subst (λ (n : Nodes). Reach (finite.get n) shaded h) (sym some.nodes) r
-
-    archived : finite.get s.archive h ≢ None
-    archived none = old (ap (λ (a : Nodes). finite.get a h) some.archive ∙ none)
-
-    at : (o : Option Bytes) → finite.get t.writable h ≡ o → Reach (finite.get (nodes_of t)) shaded h
-    at None e = absurd (written e)
-    at (Some form) e = elim (some.only h form e) [
-      | inl before ↦ over (fit h (some_no_none (finite.get s.writable h) form before) archived)
-      | inr new ↦ over new.0
-    ]
-
 -- the same where only the counts and what is ready have changed
 pub some_alike : (shaded : List Hash) (s t u : Store) → CopiesSome shaded s t → u.writable ≡ t.writable → u.archive ≡ t.archive
     → CopiesSome shaded s u
@@ -107,17 +87,6 @@ some_alike shaded s t u some p q = record {
   kept = λ h form e. ap (λ (w : Nodes). finite.get w h) p ∙ some.kept h form e;
   only = λ h form e. some.only h form (ap (λ (w : Nodes). finite.get w h) (sym p) ∙ e);
 }
-
-pub walking_alike : (told : List Hash) (w : Walk) (t u : Store) → IsWalking told w t → u.writable ≡ t.writable → u.archive ≡ t.archive
-    → IsWalking told w u
-walking_alike told w t u k p q =
-    let nodes : nodes_of u ≡ nodes_of t = (λ i. merged (p i) (q i)) in
-    record {
-      colours = subst (λ (x : Nodes × Nodes). walks.Colours (finite.get x.0) (finite.get x.1) w) (λ i. (sym nodes i, sym p i)) k.colours;
-      told = λ h c stored. k.told h c (subst (λ (n : Nodes). Stored (finite.get n) h) nodes stored);
-      kept = λ h c stored. subst (λ (n : Nodes). Reach (finite.get n) told h) (sym nodes)
-          (k.kept h c (subst (λ (n : Nodes). Stored (finite.get n) h) nodes stored));
-    }
 
 -- what was copied, or written before, is what is left
 pub rotated : (told : List Hash) (s t u v : Store) → CopiesSome told s t

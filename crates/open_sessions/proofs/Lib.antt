@@ -1,6 +1,2 @@
-pub mod Editing
-pub mod Tables
-pub mod Rows
-pub mod Opening
-pub mod Closing
+pub mod shared
 pub mod Stopping

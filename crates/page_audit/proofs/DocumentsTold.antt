@@ -22,8 +22,8 @@ use Rattle.page_audit.specs.Documents.{item_in}
 use Rattle.page_audit.specs.Pages.{page_most, Paged, onward, with_items, with_list, with_page, numbered}
 use Rattle.page_audit.specs.Pages.{same_ledger, next_page, taken, after_page}
 use Rattle.page_audit.specs.Texts.{IsElement, AreElements, Names, IsDocument}
-use Rattle.audit_core.proofs.Behind.{behind_from, rises_push}
-use Rattle.audit_core.proofs.Decoded.{digits_some, decoded_size, checked_is}
+use Rattle.audit_core.proofs.shared.Behind.{behind_from, rises_push}
+use Rattle.audit_core.proofs.shared.Decoded.{digits_some, decoded_size, checked_is}
 
 -- what went on from something went on from an Ok
 pub onward_is : {X Y : Type 0} (r : Result X Cause) (on : X → Result Y Cause) (y : Y) → onward r on ≡ Ok y → (x : X) × (r ≡ Ok x) ×
@@ -128,12 +128,12 @@ numbered_is p q (Some true) is = (refl, (let e : Ok p ≡ Ok q = is in cc))
 
 -- a page that is taken
 pub record Takes (p : Paged) (d : Json) (q : Paged) : Type 0 where
-  list : Elements
-  list_is : list_in d ≡ Some list
-  items : Items
-  each : AreElements list items
-  after : q ≡ record { said = more_items p.said items; hash = p.hash; more = is_some (get (codes "marker") d) }
-  rising : IsMap hash_cmp (p.said.items ++ items)
+  pub list : Elements
+  pub list_is : list_in d ≡ Some list
+  pub items : Items
+  pub each : AreElements list items
+  pub after : q ≡ record { said = more_items p.said items; hash = p.hash; more = is_some (get (codes "marker") d) }
+  pub rising : IsMap hash_cmp (p.said.items ++ items)
 
 -- a page with what is said behind it
 abbrev page_with : Paged → Said → Json → Paged

@@ -27,10 +27,10 @@ use Rattle.page_audit.specs.Pages.{page_most, Paged, onward, with_items, with_li
 use Rattle.page_audit.specs.Pages.{same_ledger, next_page, taken, after_page, Comes}
 use Rattle.page_audit.specs.Texts.{IsElement, AreElements, Names, IsPage, ArePages, IsFirst, Tell, IsDocument, AreDocuments, IsPagesVerdict}
 use Rattle.page_audit.specs.Texts.{PagesAreAnswered}
-use Rattle.audit_core.proofs.Behind.{behind_true, behind_in}
-use Rattle.audit_core.proofs.Cuts.{AreOne, cut_joined}
+use Rattle.audit_core.proofs.shared.Behind.{behind_true, behind_in}
+use Rattle.audit_core.proofs.shared.Cuts.{AreOne, cut_joined}
 use Rattle.audit_core.specs.declared.answer.Answer.TheVariants.{Refused}
-use Rattle.audit_core.proofs.Decoded.{digits_is, checked_read}
+use Rattle.audit_core.proofs.shared.Decoded.{digits_is, checked_read}
 
 -- an item's element is taken
 element_read : (d : Json) (e : Entry) → IsElement d e → item_in d ≡ Ok e

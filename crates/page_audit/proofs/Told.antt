@@ -22,9 +22,9 @@ use Rattle.page_audit.specs.Pages.{page_most, Paged, onward, with_page, numbered
 use Rattle.page_audit.specs.Pages.{after_page, ComesAt, Comes}
 use Rattle.page_audit.specs.Texts.{Names, IsPage, ArePages, IsFirst, Tell, IsDocument, AreDocuments, IsPagesVerdict}
 use Rattle.page_audit.specs.Texts.{AcceptedArePages}
-use Rattle.audit_core.proofs.Behind.{none_rises}
-use Rattle.audit_core.proofs.Cuts.{AreOne, cut_all, cut_one}
-use Rattle.audit_core.proofs.Decoded.{digits_some}
+use Rattle.audit_core.proofs.shared.Behind.{none_rises}
+use Rattle.audit_core.proofs.shared.Cuts.{AreOne, cut_all, cut_one}
+use Rattle.audit_core.proofs.shared.Decoded.{digits_some}
 use Rattle.page_audit.proofs.DocumentsTold.{onward_is, no_value, more_items, numbered_is, Takes, page_told, next_told, line_told}
 
 -- the pages that are to come have these items, and none are where none is to come

@@ -7,17 +7,17 @@ use Rattle.ledger_spec.specs.Bytes.{Bytes, Hash, Half, Items}
 use Rattle.ledger_spec.specs.Forms.{IsHeld, leaf}
 use Rattle.ledger_spec.specs.Header.{seq_of}
 use Rattle.ledger_spec.specs.Tree.{Entry, IsByteEntry, AreItems}
-use Rattle.tree_laws.proofs.Orders.{all_append}
+use Rattle.tree_laws.proofs.shared.Orders.{all_append}
 use Rattle.audit_core.specs.declared.answer.Answer.TheVariants.{Whole}
 use Rattle.audit_core.specs.declared.answer.Sum.{Sum}
 use Rattle.audit_core.specs.Said.{Said, items_or_none}
 use Rattle.audit_core.specs.Verdicts.{ledger_hash}
 use Rattle.audit_core.specs.Twins.{IsWhole}
-use Rattle.audit_core.proofs.Behind.{none_rises}
-use Rattle.audit_core.proofs.Decoded.{decoded_bytes}
-use Rattle.audit_core.proofs.Twins.{wholes_are_one}
+use Rattle.audit_core.proofs.shared.Behind.{none_rises}
+use Rattle.audit_core.proofs.shared.Decoded.{decoded_bytes}
+use Rattle.audit_core.proofs.shared.Twins.{wholes_are_one}
 use Rattle.plain_audit.specs.Answers.{IsAnswer}
-use Rattle.plain_audit.proofs.Told.{accepted_told, text_items}
+use Rattle.plain_audit.proofs.shared.Told.{accepted_told, text_items}
 use Rattle.page_audit.specs.Pages.{IsPagesAnswer}
 use Rattle.page_audit.specs.Texts.{AreElements, ArePages, IsPagesText}
 use Rattle.page_audit.specs.Twins.{PagesHaveItems, Gives, AnswersWhole, WholeRunsGiveTwins}

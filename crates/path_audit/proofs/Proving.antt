@@ -11,15 +11,15 @@ use Rattle.ledger_spec.specs.Bytes.{Bytes, Hash, Half, IsHalf}
 use Rattle.ledger_spec.specs.Forms.{Held, inner, leaf, header, IsHeld, Form, form_of}
 use Rattle.ledger_spec.specs.Findings.{held_of}
 use Rattle.ledger_spec.specs.Reads.{Outcome, nothing, value, follow, IsKey, IsNode, AreNodes}
-use Rattle.ledger_spec.proofs.Readings.{holds}
-use Rattle.tree_laws.proofs.Joins.{in_nothing, in_one}
-use Rattle.tree_laws.proofs.PathLaw.{answers_or_shows}
+use Rattle.ledger_spec.proofs.shared.Readings.{holds}
+use Rattle.tree_laws.proofs.shared.Joins.{in_nothing, in_one}
+use Rattle.tree_laws.proofs.shared.PathLaw.{answers_or_shows}
 use Rattle.audit_core.specs.declared.cause.Cause.{Cause}
 use Rattle.audit_core.specs.declared.cause.Cause.TheVariants as causes
 use Rattle.audit_core.specs.Said.{digits_of}
 use Rattle.audit_core.specs.Runs.{unended, step, Goes, Says, joined}
-use Rattle.audit_core.proofs.Cuts.{cut_all}
-use Rattle.audit_core.proofs.Decoded.{digits_some}
+use Rattle.audit_core.proofs.shared.Cuts.{cut_all}
+use Rattle.audit_core.proofs.shared.Decoded.{digits_some}
 use Rattle.path_audit.specs.declared.answer.PathAnswer.{PathAnswer}
 use Rattle.path_audit.specs.declared.answer.PathAnswer.TheVariants.{Refused}
 use Rattle.path_audit.specs.Paths.{path_most, node_held, node_of, behind, with_node, nodes_in, after_node, PathSays, Comes, Told}

@@ -3,7 +3,7 @@ use Rattle.std.proofs.Common.{◌≡◌, ◌<◌, Bool, true, false, not, IsTrue
 use Rattle.std.proofs.Common.{◌++◌, length, drop, None, refl, sym}
 use Rattle.std.proofs.Common.{ap, subst, ◌∙◌}
 use Rattle.std.proofs.lemmas.Bool.Decides.{nat_tests}
-use Rattle.ledger_spec.proofs.Readings.{starts_split}
+use Rattle.ledger_spec.proofs.shared.Readings.{starts_split}
 use Rattle.std.specs.List.{starts_with}
 use Rattle.std.specs.Option.{option_or, option_map}
 use Rattle.ledger_spec.specs.declared.Kind.TheVariants.{State, Tx, Set}

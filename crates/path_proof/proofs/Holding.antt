@@ -12,8 +12,8 @@ use Rattle.ledger_spec.specs.Findings.{held_of}
 use Rattle.ledger_spec.specs.Forms.{Held, inner, leaf, header, Form, IsHeld, form_of, hash_of, header_of, keyed_leaf_of, bare_leaf_of}
 use Rattle.ledger_spec.specs.Forms.{leaf_of}
 use Rattle.ledger_spec.specs.Own.{own_form}
-use Rattle.ledger_spec.proofs.Owning.{same_self}
-use Rattle.ledger_spec.proofs.Seeing.{sees}
+use Rattle.ledger_spec.proofs.shared.Owning.{same_self}
+use Rattle.ledger_spec.proofs.shared.Seeing.{sees}
 use Rattle.shamap_node.specs.Laws.{is_no_node}
 use Rattle.shamap_node.specs.declared.Node.{Node}
 use Rattle.path_proof.specs.declared.source.FetchFault.TheVariants.{Fault, Foreign, Memory}

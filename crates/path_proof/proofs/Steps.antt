@@ -12,7 +12,7 @@ use Rattle.ledger_spec.specs.Bytes.{Hash, Half, zero_hash, is_zero}
 use Rattle.ledger_spec.specs.Forms.{Held, inner, leaf, header}
 use Rattle.ledger_spec.specs.Rules.{fault_of}
 use Rattle.ledger_spec.specs.Reads.{Outcome, nothing, inner_hashes, follow, follow_from}
-use Rattle.tree_laws.proofs.Shapes.{above_bottom}
+use Rattle.tree_laws.proofs.shared.Shapes.{above_bottom}
 use Rattle.path_proof.specs.Paths.{IsAbove}
 
 pub above : (n : Held) (parent : Option (List Hash)) (kind : Kind) (key : Hash) (depth : ℕ) → depth ≤ 64 → length key ≡ 32

@@ -14,9 +14,7 @@ use Rattle.path_proof.specs.Sources.{AreHeld, Holds}
 use Rattle.std.proofs.Common.{IsErrAnd, Result, Ok, Err}
 use Rattle.path_proof.specs.declared.answer.ReadFault.{ReadFault}
 use Rattle.path_proof.specs.declared.way.Progress.{Progress}
-use Rattle.path_proof.specs.declared.source.FetchFault.{FetchFault}
-use Rattle.path_proof.specs.Sources.{Gives, HasHash}
-use Rattle.path_proof.specs.Progressing.{Comes, IsFetched}
+use Rattle.path_proof.specs.Progressing.{Comes}
 use Rattle.path_proof.specs.Ways.{HasCause}
 use Rattle.path_proof.specs.Ways.{Waypoint, start, path_at, under, below, way, fault_at, Fits, GoesOn, LeadsTo}
 use Rattle.std.proofs.lemmas.List.{map_push}
@@ -202,13 +200,3 @@ pub ended_by : (half : Half) (kind : Kind) (root key : Hash) (tells : Bool) (nod
     → IsErrAnd r (λ e. e ≡ why) → HasCause half kind root key tells nodes why → Comes half kind root key tells nodes r
 ended_by half kind root key tells nodes (Ok p) why is cause = absurd is
 ended_by half kind root key tells nodes (Err e) why is cause = subst (HasCause half kind root key tells nodes) (sym is) cause
-
--- what a source gave for the hash that was wanted, over what it held from the start
-pub fetched_as : (half : Half) (tells : Bool) (nodes now : Lookup) (h wanted : Hash)
-    (fetched : Result (Option (Arc Node Global)) FetchFault)
-    → h ≡ wanted → (IsTrue tells → now ≡ nodes) → HasHash half h fetched → (IsTrue tells → Gives half (now h) fetched)
-    → IsFetched half tells nodes wanted fetched
-fetched_as half tells nodes now h wanted fetched is same hash exact = record {
-  hash = subst (λ x. HasHash half x fetched) is hash;
-  exact = λ told. subst (λ x. Gives half (nodes x) fetched) is (subst (λ (f : Lookup). Gives half (f h) fetched) (same told) (exact told));
-}

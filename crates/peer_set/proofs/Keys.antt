@@ -7,7 +7,7 @@ use Rattle.std.proofs.lemmas.List.{take_at, drop_at}
 use Rattle.std.proofs.lemmas.Slice.Eq.{bytes_eq-Decides}
 use Rattle.nib_path.specs.Paths.{IsPath, id_wire}
 use Rattle.nib_path.specs.Wire.{read_wire_id}
-use Rattle.nib_path.proofs.Reading.{length-id_wire, read_wire_id-id_wire}
+use Rattle.nib_path.proofs.shared.Reading.{length-id_wire, read_wire_id-id_wire}
 use Rattle.ledger_spec.specs.declared.Kind.{Kind}
 use Rattle.ledger_spec.specs.declared.Kind.TheVariants.{State, Tx, Set}
 use Rattle.ledger_spec.specs.declared.Place.{Place}

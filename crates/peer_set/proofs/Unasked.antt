@@ -13,7 +13,7 @@ use Rattle.ledger_spec.specs.declared.Place.{Place}
 use Rattle.ledger_spec.specs.Bytes.{same_bytes}
 use Rattle.ledger_spec.specs.Peers.{same_place, unasked}
 use Rattle.nib_path.specs.Paths.{IsPath, id_of}
-use Rattle.nib_path.proofs.Reading.{same_path-Decides}
+use Rattle.nib_path.proofs.shared.Reading.{same_path-Decides}
 
 -- paths are one where their fields are
 pub same_ids : (p q : List ℕ) → IsPath p → IsPath q → (nat_eq (length p) (length q) && bytes_eq (id_of p) (id_of q)) ≡ same_bytes p q

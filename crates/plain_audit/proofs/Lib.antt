@@ -1,4 +1,4 @@
+pub mod shared
 pub mod Texts
-pub mod Told
 pub mod Read
 pub mod Twins

@@ -22,12 +22,12 @@ use Rattle.audit_core.specs.Runs.{Goes, Says, step}
 use Rattle.plain_audit.specs.Lines.{after_line, first_of, header_word, item_of, line_most, tx_word}
 use Rattle.plain_audit.specs.Answers.{Comes}
 use Rattle.plain_audit.specs.Ledgers.{IsItemText, IsTxLine, IsHeaderLine, AreEach, Tells, LedgerIsAnswered}
-use Rattle.audit_core.proofs.Behind.{behind_true, behind_in}
-use Rattle.audit_core.proofs.Decoded.{decoded_size, decoded_one, digits_is, checked_read}
+use Rattle.audit_core.proofs.shared.Behind.{behind_true, behind_in}
+use Rattle.audit_core.proofs.shared.Decoded.{decoded_size, decoded_one, digits_is, checked_read}
 use Rattle.plain_audit.proofs.Texts.{begins_is}
-use Rattle.audit_core.proofs.Cuts.{AreOne, one_append, cut_joined}
+use Rattle.audit_core.proofs.shared.Cuts.{AreOne, one_append, cut_joined}
 use Rattle.audit_core.specs.declared.answer.Answer.TheVariants.{Refused}
-use Rattle.line_feed.proofs.Newlines.{one_join}
+use Rattle.line_feed.proofs.shared.Newlines.{one_join}
 
 -- an item's text is one line that isn't too long
 item_one : (text : Bytes) (e : Entry) → IsItemText text e → IsOneLine text

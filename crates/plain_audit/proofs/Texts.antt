@@ -13,7 +13,7 @@ use Rattle.ledger_spec.specs.Tree.{Entry, IsByteEntry}
 use Rattle.audit_core.specs.declared.cause.Cause.TheVariants as causes
 use Rattle.audit_core.specs.Said.{digits_of, keyed}
 use Rattle.plain_audit.specs.Lines.{item_of}
-use Rattle.audit_core.proofs.Decoded.{digits_some, decoded_bytes, decoded_size, checked_is}
+use Rattle.audit_core.proofs.shared.Decoded.{digits_some, decoded_bytes, decoded_size, checked_is}
 use Rattle.plain_audit.specs.Ledgers.{IsItemText}
 
 -- the two bytes of an item's text

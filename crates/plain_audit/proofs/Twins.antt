@@ -6,10 +6,10 @@ use Rattle.audit_core.specs.declared.answer.Sum.{Sum}
 use Rattle.audit_core.specs.Said.{Said}
 use Rattle.audit_core.specs.Verdicts.{IsVerdict}
 use Rattle.audit_core.specs.Twins.{IsWhole}
-use Rattle.audit_core.proofs.Twins.{wholes_are_one}
+use Rattle.audit_core.proofs.shared.Twins.{wholes_are_one}
 use Rattle.plain_audit.specs.Ledgers.{IsLedgerText}
 use Rattle.plain_audit.specs.Twins.{WholeRunsAreTwins}
-use Rattle.plain_audit.proofs.Told.{accepted_told, text_items}
+use Rattle.plain_audit.proofs.shared.Told.{accepted_told, text_items}
 
 -- the ledger of a text, of which the verdict is that it is whole
 whole_text : (half : Half) (expect : Option Hash) (bytes : Bytes) (sum : Sum) (s : Said) → IsLedgerText bytes s

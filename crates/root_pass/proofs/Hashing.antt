@@ -9,8 +9,8 @@ use Rattle.ledger_spec.specs.declared.Kind.{Kind}
 use Rattle.ledger_spec.specs.Bytes.{Bytes, Hash, Half, Items, zero_hash, branches}
 use Rattle.ledger_spec.specs.Forms.{inner_prefix, leaf_form, hash_or_zero}
 use Rattle.ledger_spec.specs.Tree.{Entry, part, is_alone, form_of_part}
-use Rattle.tree_laws.proofs.Trees.{concat_map}
-use Rattle.tree_laws.proofs.Subtrees.{form_none, form_one, form_at_is, form_at_fork, form_by_part}
+use Rattle.tree_laws.proofs.shared.Trees.{concat_map}
+use Rattle.tree_laws.proofs.shared.Subtrees.{form_none, form_one, form_at_is, form_at_fork, form_by_part}
 use Rattle.root_pass.specs.Rows.{hash_at, cell}
 use Rattle.root_pass.proofs.Ways.{part_on, part_off}
 

@@ -12,8 +12,8 @@ use Rattle.ledger_spec.specs.declared.Kind.{Kind}
 use Rattle.ledger_spec.specs.Bytes.{Bytes, Hash, Half, Items}
 use Rattle.ledger_spec.specs.Maps.{hash_cmp}
 use Rattle.ledger_spec.specs.Tree.{Entry, part}
-use Rattle.tree_laws.proofs.Orders.{branch_less, all_append, all_weaker}
-use Rattle.tree_laws.proofs.Parts.{filter_none}
+use Rattle.tree_laws.proofs.shared.Orders.{branch_less, all_append, all_weaker}
+use Rattle.tree_laws.proofs.shared.Parts.{filter_none}
 use Rattle.root_pass.specs.Rows.{way, hash_at, IsBehind, IsTold, IsOpen, IsFull, IsShared, IsFork}
 use Rattle.root_pass.proofs.Ways.{way_more, on_way, part_on}
 

@@ -8,8 +8,8 @@ use Rattle.std.specs.List.{filter}
 use Rattle.nib_path.specs.Paths.{nibbles, nibble_of, lies_under, length-nibbles}
 use Rattle.ledger_spec.specs.Bytes.{Hash, Items}
 use Rattle.ledger_spec.specs.Tree.{Entry, part}
-use Rattle.tree_laws.proofs.Trees.{under_own}
-use Rattle.tree_laws.proofs.Parts.{under_other, part_of_part}
+use Rattle.tree_laws.proofs.shared.Trees.{under_own}
+use Rattle.tree_laws.proofs.shared.Parts.{under_other, part_of_part}
 use Rattle.root_pass.specs.Rows.{way}
 
 pub way_more : (key : Hash) (j : ℕ) → length key ≡ 32 → j < 64 → way key (j + 1) ≡ way key j ++ nibble_of key j ∷ []

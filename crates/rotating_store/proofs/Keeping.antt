@@ -12,12 +12,12 @@ use Rattle.std.specs.FinMap.{get-insert, get_tied}
 use Rattle.ledger_spec.specs.Bytes.{Bytes, Hash, Nodes}
 use Rattle.node_backend.specs.Numbers.{is_among, exceeds, without}
 use Rattle.node_backend.specs.Doubts.{Pair, FailedPut}
-use Rattle.node_backend.proofs.Lists.{exceeds_more, exceeds_append, below_among, among_append, among_last, among_without}
+use Rattle.node_backend.proofs.shared.Lists.{exceeds_more, exceeds_append, below_among, among_append, among_last, among_without}
 use Rattle.rotating_store.specs.declared.pair.Moved.{Moved}
 use Rattle.rotating_store.specs.declared.pair.Moved.TheVariants as moved
 use Rattle.rotating_store.specs.Stores.{Agree, merged}
 use Rattle.rotating_store.specs.Moves.{Moves, Writes}
-use Rattle.rotating_store.proofs.Merging.{get-merged, forward_keeps, merged_empty}
+use Rattle.rotating_store.proofs.shared.Merging.{get-merged, forward_keeps, merged_empty}
 use Rattle.rotating_store.specs.Keeps.{Numbered, Allows, Keeps}
 
 no_none : {X : Type 0} (o : Option X) (x : X) → o ≡ None → o ≡ Some x → ⊥

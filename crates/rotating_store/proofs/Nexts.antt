@@ -12,7 +12,7 @@ use Rattle.ledger_spec.specs.Maps.{hash_cmp}
 use Rattle.ledger_spec.specs.Bytes.{Bytes, Hash, Nodes}
 use Rattle.node_backend.specs.Order.{IsAfter, IsNext}
 use Rattle.rotating_store.specs.Stores.{merged, lesser_of}
-use Rattle.rotating_store.proofs.Merging.{get-merged}
+use Rattle.rotating_store.proofs.shared.Merging.{get-merged}
 
 no_some : {X : Type 0} (o : Option X) → o ≡ None → IsSome o → ⊥
 no_some None e s = cc

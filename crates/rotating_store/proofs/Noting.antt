@@ -17,7 +17,7 @@ use Rattle.std.proofs.lemmas.Map.Views.{tells_apart}
 use Rattle.ledger_spec.specs.Bytes.{Bytes, Hash, Nodes}
 use Rattle.ledger_spec.specs.Maps.{SetOf, hash_cmp}
 use Rattle.node_backend.specs.Doubts.{Pair, FailedPut}
-use Rattle.node_backend.proofs.Tables.{hashes_antisymmetric}
+use Rattle.node_backend.proofs.shared.Tables.{hashes_antisymmetric}
 use Rattle.rotating_store.specs.Stores.{Store, is_noted, nodes_of, KeepsNotes, HasNoNewNotes}
 use Rattle.rotating_store.specs.Notes.{Noted, noted_of, MayAdd, AreCarried}
 use Rattle.rotating_store.specs.Moves.{Writes}

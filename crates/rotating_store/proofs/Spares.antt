@@ -7,7 +7,7 @@ use Rattle.std.proofs.lemmas.Bool.{eqb-true, eq-eqb, ltb-true}
 use Rattle.std.proofs.lemmas.List.Elements.{filter-append}
 use Rattle.node_backend.specs.Numbers.{is_among, exceeds, without}
 use Rattle.node_backend.specs.Counts.{held_sum}
-use Rattle.node_backend.proofs.Lists.{and_left, and_right, exceeds_more, exceeds_without, below_among, among_last}
+use Rattle.node_backend.proofs.shared.Lists.{and_left, and_right, exceeds_more, exceeds_without, below_among, among_last}
 use Rattle.rotating_store.specs.Keeps.{Numbered}
 use Rattle.rotating_store.specs.Stores.{spare_of, sum_of, AddsAtMostOne}
 

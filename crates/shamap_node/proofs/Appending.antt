@@ -3,7 +3,7 @@ use Rattle.std.proofs.Common.{◌≡◌, ◌+◌, ◌<◌, ℕ, List, ◌++◌, 
 use Rattle.std.specs.List.{concat}
 use Rattle.ledger_spec.specs.Bytes.{Bytes, Hash}
 use Rattle.ledger_spec.specs.Forms.{inner_prefix}
-use Rattle.ledger_spec.proofs.Hashes.{concat_more}
+use Rattle.ledger_spec.proofs.shared.Hashes.{concat_more}
 
 -- the next hash stands in the form
 pub form_more : (hashes : List Hash) (i : ℕ) (d before after : Bytes) → i < length hashes

@@ -1,15 +1,15 @@
 -- One branch of an inner node, read out of its prefix form.
-use Rattle.std.proofs.Common.{◌≡◌, ◌<◌, ◌+◌, ◌*◌, ◌==◌, ◌||◌, ◌++◌, not, ℕ, zero, suc, Bool, true, false, List, [], ◌∷◌}
-use Rattle.std.proofs.Common.{length, take, drop, nat_eq, IsTrue, Option, Some, None, refl, sym, ap, ◌∙◌, arith, inl, inr, drop-drop}
+use Rattle.std.proofs.Common.{◌≡◌, ◌<◌, ◌+◌, ◌*◌, ◌||◌, ◌++◌, not, ℕ, zero, suc, Bool, true, false, List, [], ◌∷◌}
+use Rattle.std.proofs.Common.{length, take, drop, nat_eq, IsTrue, Option, Some, None, refl, sym, ap, ◌∙◌, arith, drop-drop}
 use Rattle.std.specs.List.{list_any, slice_index_or, starts_with}
 use Rattle.std.specs.Option.{is_some, option_map}
-use Rattle.std.proofs.lemmas.Bool.{cases_Bool, eq-eqb, eqb-true}
 use Rattle.std.proofs.lemmas.List.Folds.{list_any_at}
 use Rattle.half_hash.specs.Zero.{zero_hash, is_nonzero, is_zero}
 use Rattle.ledger_spec.specs.Bytes.{Bytes, Hash, hashes_of}
 use Rattle.ledger_spec.specs.Forms.{inner_of, inner_prefix}
-use Rattle.ledger_spec.proofs.Hashes.{hashes_of_more, length-hashes_of}
-use Rattle.ledger_spec.proofs.Inners.{not_inner_length, not_inner_prefix, not_inner_empty, inner_of_is}
+use Rattle.ledger_spec.proofs.shared.Hashes.{hashes_of_more, length-hashes_of}
+use Rattle.ledger_spec.proofs.shared.Inners.{not_inner_empty, inner_of_is}
+use Rattle.shamap_node.proofs.shared.Branches.{whole}
 
 -- the piece at a place
 pub piece_at : (n b : ℕ) (body : Bytes) → b < n → slice_index_or (hashes_of n body) b zero_hash ≡ take 32 (drop (32 * b) body)
@@ -65,31 +65,6 @@ seen b body some prefix size rest is = by some (is ∙ ap (λ t. list_any is_non
     by : (t : Bool) → t ≡ list_any is_nonzero (hashes_of 16 (drop 4 b)) → t ≡ is_some (inner_of b)
     by true e = sym (ap is_some (inner_of_is b prefix size (sym e)))
     by false e = sym (ap is_some (not_inner_empty b (sym e)))
-
--- what has an inner node is its form, and the node is that of the sixteen hashes
-pub whole : (b : Bytes) → IsTrue (is_some (inner_of b)) → (length b ≡ 516) × (inner_of b ≡ Some (hashes_of 16 (drop 4 b)))
-whole b some = elim (cases_Bool (length b == 516)) [
-  | inl is ↦ (eqb-true (length b) 516 is, by_prefix (eqb-true (length b) 516 is))
-  | inr other ↦ absurd (never (not_inner_length b (λ e. differ (sym (eq-eqb (length b) 516 e) ∙ other))))
-]
-  where
-    differ : true ≡ false → ⊥
-    differ e = cc
-
-    never : inner_of b ≡ None → ⊥
-    never e = differ (sym some ∙ ap is_some e)
-
-    by_branches : length b ≡ 516 → starts_with nat_eq b inner_prefix ≡ true → inner_of b ≡ Some (hashes_of 16 (drop 4 b))
-    by_branches size prefix = elim (cases_Bool (list_any is_nonzero (hashes_of 16 (drop 4 b)))) [
-      | inl is ↦ inner_of_is b prefix size is
-      | inr other ↦ absurd (never (not_inner_empty b other))
-    ]
-
-    by_prefix : length b ≡ 516 → inner_of b ≡ Some (hashes_of 16 (drop 4 b))
-    by_prefix size = elim (cases_Bool (starts_with nat_eq b inner_prefix)) [
-      | inl is ↦ by_branches size is
-      | inr other ↦ absurd (never (not_inner_prefix b other))
-    ]
 
 -- the hash at a branch stands behind the prefix and those before it
 pub branch_is : (form : Bytes) (b at : ℕ) (h : Hash) → IsTrue (is_some (inner_of form)) → b < 16 → at ≡ 4 + 32 * b

@@ -1,10 +1,9 @@
 -- Nodes may go to another thread, and may be read there. Without the lemmas on hashes and bytes the search gives up.
 use denote.Param.Send.{IsSend, IsSync, sendable}
-use Rattle.half_hash.proofs.Crossing.{Hash32-send, Hash32-sync, Blob-send, Blob-sync}
+use Rattle.half_hash.proofs.shared.Crossing.{Hash32-send, Hash32-sync, Blob-send, Blob-sync}
 use Rattle.shamap_node.specs.contracts.parts.Item as Item
 use Rattle.shamap_node.specs.contracts.parts.Inner as Inner
 use Rattle.shamap_node.specs.contracts.Leaf as Leaf
-use Rattle.shamap_node.specs.contracts.Node as Node
 
 pub Item-send : IsSend Item.the_row
 Item-send = search (Hash32-send, Blob-send, sendable) depth 30
@@ -23,9 +22,3 @@ Leaf-send = search (Hash32-send, Blob-send, sendable) depth 30
 
 pub Leaf-sync : IsSync Leaf.the_row
 Leaf-sync = search (Hash32-sync, Blob-sync, sendable) depth 30
-
-pub Node-send : IsSend Node.the_row
-Node-send = search (Hash32-send, Blob-send, sendable) depth 30
-
-pub Node-sync : IsSync Node.the_row
-Node-sync = search (Hash32-sync, Blob-sync, sendable) depth 30

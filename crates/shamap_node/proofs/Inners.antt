@@ -10,8 +10,8 @@ use Rattle.ledger_spec.specs.Forms.{IsInner, inner_of, inner_prefix}
 use Rattle.shamap_node.specs.declared.parts.Inner.{Inner}
 use Rattle.shamap_node.specs.declared.forms.FormFault.TheVariants.{InnerLength, EmptyInner}
 use Rattle.shamap_node.specs.Causes.{inner_cause}
-use Rattle.ledger_spec.proofs.Inners.{not_inner_empty, inner_of_is}
-use Rattle.ledger_spec.proofs.Hashes.{none_nonzero, some_not_all, concat-hashes_of, hashes_of-concat, length-concat}
+use Rattle.ledger_spec.proofs.shared.Inners.{not_inner_empty, inner_of_is}
+use Rattle.ledger_spec.proofs.shared.Hashes.{none_nonzero, some_not_all, concat-hashes_of, hashes_of-concat, length-concat}
 use Rattle.std.proofs.lemmas.List.{take_all}
 
 -- what is made of the hashes

@@ -1,3 +1,4 @@
+pub mod shared
 pub mod Branches
 pub mod Crossing
 pub mod Inners

@@ -19,8 +19,8 @@ use Rattle.shamap_node.specs.declared.Node.{Node}
 use Rattle.shamap_node.specs.declared.Node.TheVariants as variants
 use Rattle.shamap_node.specs.Nodes.{held}
 use Rattle.shamap_node.proofs.Inners.{no_inner_cause}
-use Rattle.ledger_spec.proofs.Seeing.{key_at, size_of}
-use Rattle.ledger_spec.proofs.Readings.{same_reading}
+use Rattle.ledger_spec.proofs.shared.Seeing.{key_at, size_of}
+use Rattle.ledger_spec.proofs.shared.Readings.{same_reading}
 
 -- an item's parts are no cause
 pub no_leaf_cause : (size : ℕ) (key : Hash) → size ≤ data_limit → IsTrue (is_nonzero key) → leaf_cause size key ≡ None

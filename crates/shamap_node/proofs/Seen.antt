@@ -16,11 +16,11 @@ use Rattle.shamap_node.specs.declared.forms.FormFault.{FormFault}
 use Rattle.shamap_node.specs.declared.forms.FormFault.TheVariants.{Memory}
 use Rattle.shamap_node.specs.Nodes.{held}
 use Rattle.shamap_node.specs.Causes.{form_cause}
-use Rattle.shamap_node.specs.Laws.{is_node, is_no_node, HeldByForm}
-use Rattle.ledger_spec.proofs.Seeing.{starts_as}
-use Rattle.ledger_spec.proofs.Readings.{chose, Three, three_parts, form_behind, holds_inner, state_form, tx_form, holds_keyed}
-use Rattle.ledger_spec.proofs.Readings.{by_reader, holds}
-use Rattle.ledger_spec.proofs.Seeing.{sees}
+use Rattle.shamap_node.specs.Laws.{is_node, is_no_node}
+use Rattle.ledger_spec.proofs.shared.Seeing.{starts_as}
+use Rattle.ledger_spec.proofs.shared.Readings.{chose, Three, three_parts, form_behind, holds_inner, state_form, tx_form, holds_keyed}
+use Rattle.ledger_spec.proofs.shared.Readings.{by_reader}
+use Rattle.ledger_spec.proofs.shared.Seeing.{sees}
 use Rattle.shamap_node.proofs.Reading.{no_cause, no_leaf_cause, cause_txn}
 
 -- a node that is held leaves no cause
@@ -70,6 +70,3 @@ pub reads_none : (half : Half) (r : Result Node FormFault) (b : Bytes) → IfErr
     → IfErr r (λ fault. fault ≢ Memory → IsTrue (is_no_node (held_of half b)))
 reads_none half (Ok node) b cause = tt
 reads_none half (Err fault) b cause = λ other. none_is_node (held_of half b) (not_node half b fault (cause other))
-
-pub held_by_form : HeldByForm
-held_by_form half sized n b = (sees half n b, holds half sized n b)

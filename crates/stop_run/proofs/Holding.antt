@@ -10,8 +10,8 @@ use Rattle.std.specs.FinMap.Entries.{below_all}
 use Rattle.ledger_spec.specs.Maps.{hash_cmp}
 use Rattle.ledger_spec.specs.Bytes.{Bytes, Hash, Nodes}
 use Rattle.ledger_machine.specs.Records.{with_records}
-use Rattle.ledger_machine.proofs.Entries.{Entries, said, first, second, found_below}
-use Rattle.log_shelf.proofs.Recovery.{same_key}
+use Rattle.ledger_machine.proofs.shared.Entries.{Entries, said, first, second, found_below}
+use Rattle.log_shelf.proofs.shared.Recovery.{same_key}
 use Rattle.log_recovery.specs.Records.{records_of}
 
 -- what the entries don't say is held as before

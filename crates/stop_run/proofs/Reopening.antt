@@ -8,7 +8,7 @@ use Rattle.std.proofs.lemmas.Bool.{eq-eqb}
 use Rattle.std.proofs.lemmas.List.Elements.{All-nil, All-cons, All-weaker, All-contains_itself}
 use Rattle.ledger_spec.specs.Bytes.{Bytes, Hash, Half, Lookup, Nodes, is_nonzero}
 use Rattle.ledger_spec.specs.Own.{IsStoredAt}
-use Rattle.ledger_spec.proofs.Growth.{whole_stored}
+use Rattle.ledger_spec.proofs.shared.Growth.{whole_stored}
 use Rattle.ledger_machine.specs.declared.commands.Command.TheVariants as command
 use Rattle.ledger_machine.specs.declared.commands.Line.{Line}
 use Rattle.ledger_machine.specs.declared.commands.Record.{Record}
@@ -20,7 +20,7 @@ use Rattle.ledger_machine.specs.Records.{with_records}
 use Rattle.ledger_machine.specs.Sound.{Sound, IsWholeLedger, AreStored}
 use Rattle.ledger_machine.specs.State.{State, form_in}
 use Rattle.script_form.specs.Servable.{AreServable, WaitsForEarlier}
-use Rattle.ledger_laws.proofs.SoundKeeps.{whole_ledger_grows}
+use Rattle.ledger_laws.proofs.shared.SoundKeeps.{whole_ledger_grows}
 use Rattle.log_shelf.specs.Rooms.{Files}
 use Rattle.log_shelf.specs.Recovery.{IsRecovered}
 use Rattle.log_recovery.specs.Records.{is_record, AreRecovered}

@@ -37,8 +37,8 @@ use Rattle.ledger_machine.specs.Sound.{IsWholeLedger}
 use Rattle.ledger_machine.specs.State.{State, form_in, ended, listed_with, stored_seq}
 use Rattle.ledger_machine.specs.Steps.{Outcomes, Gives, IsAfter}
 use Rattle.ledger_machine.specs.Want.{want_reply, after_want}
-use Rattle.ledger_laws.proofs.SoundCheck.{get_inserted}
-use Rattle.ledger_laws.proofs.SoundForms.{some_same, in_head, in_tail}
+use Rattle.ledger_laws.proofs.shared.SoundCheck.{get_inserted}
+use Rattle.ledger_laws.proofs.shared.SoundForms.{some_same, in_head, in_tail}
 use Rattle.store_core.specs.Totals.{completes, is_complete}
 use Rattle.stop_run.specs.Looking.{line_with, lines_behind, is_unlucky, AreLucky}
 

@@ -12,7 +12,7 @@ use Rattle.ledger_machine.specs.State.{State, form_in}
 use Rattle.ledger_machine.specs.Sessions.{has_session, after_put, after_tx, del_reply, after_del}
 use Rattle.open_sessions.specs.Changed.{Changed}
 use Rattle.open_sessions.specs.Rows.{AllKept, del_said}
-use Rattle.open_sessions.proofs.Rows.{put_gives, tx_gives, del_gives}
+use Rattle.open_sessions.proofs.shared.Rows.{put_gives, tx_gives, del_gives}
 use Rattle.store_core.specs.Machines.{with_open, KeepsDrafts}
 use Rattle.node_backend.specs.declared.back.BackFault.{BackFault}
 use Rattle.node_backend.specs.declared.back.BackFault.TheVariants as back

@@ -14,9 +14,9 @@ use Rattle.ledger_spec.specs.Offers.{Clash, node_outcome}
 use Rattle.ledger_spec.specs.Bases.{Judged, base_forms}
 use Rattle.ledger_spec.specs.Peers.{Peers}
 use Rattle.ledger_spec.specs.Acquiring.{Acquiring, is_bad, after_outcome, after_judging}
-use Rattle.node_offer.proofs.Wanted.{never_bad}
+use Rattle.node_offer.proofs.shared.Wanted.{never_bad}
 use Rattle.acquire_core.specs.Replies.{IsWanted, AreWanted}
-use Rattle.acquire_core.proofs.Wanting.{nobody_charged}
+use Rattle.acquire_core.proofs.shared.Wanting.{nobody_charged}
 use Rattle.ledger_machine.specs.declared.commands.Command.{Command}
 use Rattle.ledger_machine.specs.declared.commands.Command.TheVariants as command
 use Rattle.ledger_spec.specs.declared.replies.BaseReply.TheVariants as base
@@ -26,8 +26,8 @@ use Rattle.ledger_machine.specs.declared.replies.Reply.TheVariants as says
 use Rattle.ledger_machine.specs.State.{State, form_in, with_form, with_forms, changed}
 use Rattle.ledger_machine.specs.Base.{base_reply, after_base, node_reply, node_forms, after_node}
 use Rattle.ledger_machine.specs.Steps.{Step, Refused, Gives}
-use Rattle.ledger_laws.proofs.SoundSteps.{outcome_cases}
-use Rattle.ledger_laws.proofs.Receipts.{base_present, node_present}
+use Rattle.ledger_laws.proofs.shared.SoundSteps.{outcome_cases}
+use Rattle.ledger_laws.proofs.shared.Receipts.{base_present, node_present}
 use Rattle.store_core.proofs.States.{set_same}
 
 -- what is stored is no part of the acquisitions

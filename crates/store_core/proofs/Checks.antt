@@ -9,9 +9,9 @@ use Rattle.ledger_spec.specs.Bytes.{Bytes, Hash, Half, Lookup, Nodes}
 use Rattle.ledger_spec.specs.Findings.{Finding, findings, missing_of, first_broken, up_to}
 use Rattle.ledger_spec.specs.Own.{AreStored}
 use Rattle.ledger_spec.specs.Forms.{Held}
-use Rattle.ledger_spec.proofs.Owning.{all_own}
-use Rattle.ledger_spec.proofs.ReachLaws.{Grows}
-use Rattle.rotating_store.proofs.Reading.{stored_notes}
+use Rattle.ledger_spec.proofs.shared.Owning.{all_own}
+use Rattle.ledger_spec.proofs.shared.ReachLaws.{Grows}
+use Rattle.rotating_store.proofs.shared.Reading.{stored_notes}
 use Rattle.rotating_store.specs.Stores.{Store, nodes_of}
 use Rattle.full_below.specs.declared.marks.Marks.{Marks}
 use Rattle.missing_walk.specs.declared.Found.{Found}
@@ -25,7 +25,7 @@ use Rattle.ledger_searches.specs.declared.searches.Searches.{Searches}
 use Rattle.ledger_searches.specs.declared.hunt.Hunt.{Hunt}
 use Rattle.ledger_searches.specs.Hunting.{GoesOn, IsRunWhole, IsUnbegun, hunt_of, most_asked}
 use Rattle.ledger_searches.specs.Sharing.{IsPaired, AreTrueOf, Forgets, IsEmpty, LeavesOthers}
-use Rattle.ledger_searches.proofs.Running.{true_forgot, true_of_nothing, true_on, true_turned}
+use Rattle.ledger_searches.proofs.shared.Running.{true_forgot, true_of_nothing, true_on, true_turned}
 use Rattle.ledger_machine.specs.declared.commands.Command.{Command}
 use Rattle.ledger_machine.specs.declared.commands.Command.TheVariants as command
 use Rattle.ledger_machine.specs.declared.journal.Entry.{Entry}
@@ -34,10 +34,10 @@ use Rattle.ledger_machine.specs.declared.replies.Reply.{Reply}
 use Rattle.ledger_machine.specs.declared.replies.Reply.TheVariants as says
 use Rattle.ledger_machine.specs.State.{State, form_in}
 use Rattle.ledger_machine.specs.Steps.{Step, Swaps, Refused, Outcomes}
-use Rattle.ledger_laws.proofs.Stored.{Goes, on, begun, swapped}
-use Rattle.ledger_laws.proofs.Going.{row_goes}
-use Rattle.ledger_laws.proofs.SoundForms.{with_forms_grow}
-use Rattle.ledger_laws.proofs.SoundSteps.{outcome_cases}
+use Rattle.ledger_laws.proofs.shared.Stored.{Goes, on, begun, swapped}
+use Rattle.ledger_laws.proofs.shared.Going.{row_goes}
+use Rattle.ledger_laws.proofs.shared.SoundForms.{with_forms_grow}
+use Rattle.ledger_laws.proofs.shared.SoundSteps.{outcome_cases}
 use Rattle.store_core.specs.declared.rotating.Part.{Part}
 use Rattle.store_core.specs.declared.rotating.Part.TheVariants as parts
 use Rattle.store_core.specs.Commands.{IsNoCheck}

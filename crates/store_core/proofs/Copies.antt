@@ -12,9 +12,9 @@ use Rattle.rotating_store.specs.declared.outcome.Put.{Put}
 use Rattle.rotating_store.specs.declared.outcome.Put.TheVariants as put
 use Rattle.rotating_store.specs.declared.outcome.StoreFault.{StoreFault}
 use Rattle.rotating_store.specs.declared.outcome.StoreFault.TheVariants as fault
-use Rattle.rotating_store.proofs.Merging.{get-merged}
+use Rattle.rotating_store.proofs.shared.Merging.{get-merged}
 use Rattle.node_offer.specs.Stored as store
-use Rattle.ledger_laws.proofs.SoundForms.{get_more, same_hash}
+use Rattle.ledger_laws.proofs.shared.SoundForms.{get_more, same_hash}
 
 -- what stays of a store
 abbrev pub backs_of : Store → Nodes × (Hash → Bool) × ℕ

@@ -15,11 +15,11 @@ use Rattle.std.specs.FinMap.Entries.{below_all}
 use Rattle.std.specs.BTreeMap.Range.{IsLeBy}
 use Rattle.ledger_spec.specs.Bytes.{Bytes, Hash, Half, Lookup, Nodes}
 use Rattle.ledger_spec.specs.Own.{AreStored, own_forms}
-use Rattle.ledger_spec.proofs.Owning.{all_own}
+use Rattle.ledger_spec.proofs.shared.Owning.{all_own}
 use Rattle.ledger_spec.specs.Maps.{hash_cmp}
 use Rattle.node_backend.specs.Order.{IsAfter, IsNext}
 use Rattle.ledger_machine.specs.declared.commands.Record.{Record}
-use Rattle.ledger_machine.proofs.Entries.{Entries, said, first, second, less, found_below, found_first}
+use Rattle.ledger_machine.proofs.shared.Entries.{Entries, said, first, second, less, found_below, found_first}
 use Rattle.store_core.specs.Dumping.{comes_after, Follows, IsNextRecord}
 
 -- what of the entries comes after a hash

@@ -7,13 +7,13 @@ use Rattle.std.specs.FinSet as set
 use Rattle.std.specs.FinSet.{contains-difference, same_set}
 use Rattle.std.specs.FinMap.{nat_cmp-IsAntisymmetric, slice_cmp-IsAntisymmetric}
 use Rattle.std.specs.Cmp.Lexicographic.{nat_list_cmp_total}
-use Rattle.rotating_store.proofs.Merging.{contains_hashes}
+use Rattle.rotating_store.proofs.shared.Merging.{contains_hashes}
 use Rattle.ledger_spec.specs.Bytes.{Bytes, Hash, Half, Nodes}
 use Rattle.ledger_spec.specs.Maps.{SetOf, hashes_in, hash_cmp}
 use Rattle.ledger_spec.specs.Own.{AreStored}
 use Rattle.ledger_machine.specs.State.{State, form_in, opening, with_form, with_forms}
 use Rattle.rotating_store.specs.Stores.{Store, merged, nodes_of, born_of, Counted, with_pair}
-use Rattle.rotating_store.proofs.Merging.{get-merged, same_nodes, merged-insert, born_put}
+use Rattle.rotating_store.proofs.shared.Merging.{get-merged, same_nodes, merged-insert, born_put}
 use Rattle.node_offer.specs.Stored as store
 use Rattle.store_core.specs.Desks.{over}
 

@@ -11,7 +11,7 @@ use Rattle.ledger_spec.specs.Findings.{seen, first_broken}
 use Rattle.ledger_spec.specs.declared.peers.Ask.TheVariants as asks
 use Rattle.ledger_spec.specs.Acquiring.{Acquiring, Verdict, complete, incomplete, seq_differs, zero_state, below_floor, malformed}
 use Rattle.ledger_spec.specs.Acquiring.{check_verdict, after_verdict}
-use Rattle.ledger_spec.proofs.Owning.{all_own}
+use Rattle.ledger_spec.proofs.shared.Owning.{all_own}
 use Rattle.ledger_header.specs.declared.Header.{Header as Head}
 use Rattle.ledger_header.specs.Fields.{fields, Reads}
 use Rattle.missing_walk.specs.declared.Found.{Found}

@@ -25,10 +25,10 @@ use Rattle.script_form.specs.Servable.{AreServable}
 use Rattle.ledger_machine.specs.Sound.{Sound}
 use Rattle.ledger_machine.specs.Rotation.{AreShaded}
 use Rattle.store_core.specs.Telling.{AreTold}
-use Rattle.ledger_laws.proofs.Openings.{records_are_sound}
-use Rattle.ledger_laws.proofs.Sweeping.{all_swaps_keep}
+use Rattle.ledger_laws.proofs.shared.Openings.{records_are_sound}
+use Rattle.ledger_laws.proofs.shared.Sweeping.{all_swaps_keep}
 use Rattle.ledger_machine.specs.Swaps.{AllSwapsKeep}
-use Rattle.ledger_laws.proofs.RunLaws.{run_more}
+use Rattle.ledger_laws.proofs.shared.RunLaws.{run_more}
 use Rattle.ledger_machine.specs.Runs.{IsDone, is_answered, next_line}
 use Rattle.run_io.specs.Bytes.{Rose}
 use Rattle.store_core.specs.Desks.{KeepsRest}

@@ -7,7 +7,7 @@ use Rattle.std.specs.Cmp.Lexicographic.{same_text}
 use Rattle.node_offer.specs.declared.fault.OfferFault.{OfferFault}
 use Rattle.node_offer.specs.declared.fault.OfferFault.TheVariants as offer
 use Rattle.ledger_spec.specs.Bytes.{Bytes, Half, Nodes, same_bytes}
-use Rattle.ledger_spec.proofs.Owning.{same_self}
+use Rattle.ledger_spec.proofs.shared.Owning.{same_self}
 use Rattle.ledger_machine.specs.Closing.{clash_under}
 use Rattle.ledger_machine.specs.State.{State, form_in, with_form}
 use Rattle.rotating_store.specs.Stores.{Store, nodes_of, Counted, with_pair}

@@ -13,7 +13,7 @@ use Rattle.ledger_spec.specs.Bytes.{Hash, Half, Lookup, same_bytes}
 use Rattle.ledger_spec.specs.Maps.{ForActor, numbered_cmp, has_in, remove_in}
 use Rattle.ledger_spec.specs.Forms.{Held}
 use Rattle.ledger_spec.specs.Own.{AreStored}
-use Rattle.ledger_spec.proofs.ReachLaws.{Grows}
+use Rattle.ledger_spec.proofs.shared.ReachLaws.{Grows}
 use Rattle.edit_session.specs.Drafts.{Draft, StaysOverParent}
 use Rattle.ledger_machine.specs.declared.commands.Command.{Command}
 use Rattle.ledger_machine.specs.declared.replies.Reply.{Reply}
@@ -23,11 +23,11 @@ use Rattle.ledger_machine.specs.State.{State, Session, form_in, with_sessions}
 use Rattle.ledger_machine.specs.Commands.{IsBeside}
 use Rattle.ledger_machine.specs.Views.{is_retained, after_view}
 use Rattle.ledger_machine.specs.Steps.{Does}
-use Rattle.ledger_laws.proofs.Going.{beside_grows}
+use Rattle.ledger_laws.proofs.shared.Going.{beside_grows}
 use Rattle.open_sessions.specs.Edited.{IsKept, session_in, sessions_in}
 use Rattle.open_sessions.specs.Rows.{AllKept}
-use Rattle.open_sessions.proofs.Editing.{kept_grows}
-use Rattle.open_sessions.proofs.Tables.{over_same, over_values, over_has, over_remove}
+use Rattle.open_sessions.proofs.shared.Editing.{kept_grows}
+use Rattle.open_sessions.proofs.shared.Tables.{over_same, over_values, over_has, over_remove}
 use Rattle.std.proofs.lemmas.Map.Views.{All-map-remove_entry}
 use Rattle.ledger_machine.specs.Sessions.{has_session, without_session}
 use Rattle.store_core.specs.Machines.{told_forms, with_open, KeepsDrafts}

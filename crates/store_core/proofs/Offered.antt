@@ -18,12 +18,12 @@ use Rattle.ledger_spec.specs.Spots.{Spot, no_base, no_parent, empty_branch, unde
 use Rattle.ledger_spec.specs.Wire.{read_wire}
 use Rattle.ledger_spec.specs.Acquiring.{Acquiring}
 use Rattle.ledger_spec.specs.Peers.{is_present}
-use Rattle.ledger_spec.proofs.ReachLaws.{Grows, reach_joins}
-use Rattle.ledger_spec.proofs.Storing.{in_one}
-use Rattle.ledger_laws.proofs.SoundForms.{in_nothing}
-use Rattle.ledger_laws.proofs.Ways.{IsNamed, named_reached, wanted_named}
+use Rattle.ledger_spec.proofs.shared.ReachLaws.{Grows, reach_joins}
+use Rattle.ledger_spec.proofs.shared.Storing.{in_one}
+use Rattle.ledger_laws.proofs.shared.SoundForms.{in_nothing}
+use Rattle.ledger_laws.proofs.shared.Ways.{IsNamed, named_reached, wanted_named}
 use Rattle.copy_walk.specs.Walks as walks
-use Rattle.copy_walk.proofs.Lists.{shaded_stays, is_shaded, shaded_from}
+use Rattle.copy_walk.proofs.shared.Lists.{shaded_stays, is_shaded, shaded_from}
 use Rattle.rotating_store.specs.Stores.{Store, nodes_of, Counted}
 use Rattle.online_rotate.specs.Copying.{IsWalking}
 use Rattle.online_rotate.specs.Rotators.{Turning}
@@ -34,7 +34,7 @@ use Rattle.node_offer.specs.declared.fault.OfferFault.{OfferFault}
 use Rattle.node_offer.specs.declared.fault.OfferFault.TheVariants as offer
 use Rattle.node_offer.specs.Faults.{offer_fault}
 use Rattle.node_offer.specs.Stored.{HasForms}
-use Rattle.node_offer.proofs.Storing.{counted_forms}
+use Rattle.node_offer.proofs.shared.Storing.{counted_forms}
 use Rattle.acquire_core.specs.Answers.{forms_in, Answers}
 use Rattle.ledger_spec.specs.Replies.{node_stored}
 use Rattle.store_core.specs.Heeds.{Heeds, IsHeeded, AreHeeded}

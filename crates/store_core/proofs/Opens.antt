@@ -21,7 +21,7 @@ use Rattle.ledger_spec.specs.declared.replies.NodeReply.TheVariants as node
 use Rattle.ledger_spec.specs.declared.replies.TickReply.TheVariants as told
 use Rattle.acquire_core.specs.Replies as acquire
 use Rattle.ledger_spec.specs.Replies as replies
-use Rattle.ledger_laws.proofs.SoundForms.{some_same, same_hash}
+use Rattle.ledger_laws.proofs.shared.SoundForms.{some_same, same_hash}
 use Rattle.rotating_store.specs.Stores.{Store}
 use Rattle.ledger_machine.specs.State.{ended, with_wanted}
 use Rattle.store_core.specs.Desks.{Desk, over}

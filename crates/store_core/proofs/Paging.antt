@@ -13,12 +13,12 @@ use Rattle.ledger_spec.specs.Findings.{items_of}
 use Rattle.ledger_spec.specs.Forms.{Held, leaf, inner, header, form_of, hash_of}
 use Rattle.ledger_spec.specs.Own.{AreStored, own_forms}
 use Rattle.ledger_spec.specs.Pages.{after_key, IsPageOf, IsPageOrShows, IsStoredNode}
-use Rattle.ledger_spec.proofs.Owning.{all_own}
+use Rattle.ledger_spec.proofs.shared.Owning.{all_own}
 use Rattle.shamap_node.specs.declared.Node.{Node}
 use Rattle.shamap_node.specs.Nodes.{held}
 use Rattle.rotating_store.specs.Stores.{Store, nodes_of}
 use Rattle.rotating_store.specs.Sources.{own_nodes}
-use Rattle.rotating_store.proofs.Sources.{own_at}
+use Rattle.rotating_store.proofs.shared.Sources.{own_at}
 use Rattle.path_proof.specs.Sources.{AreHeld}
 use Rattle.map_cursor.specs.Shown.{entry_of, items_in}
 use Rattle.ledger_machine.specs.declared.replies.PageReply.TheVariants as pages

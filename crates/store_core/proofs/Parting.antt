@@ -18,11 +18,11 @@ use Rattle.ledger_spec.specs.Reach.{Reach, root, Stored}
 use Rattle.ledger_spec.specs.Wire.{read_wire}
 use Rattle.ledger_spec.specs.Acquiring.{Acquiring}
 use Rattle.ledger_spec.specs.Peers.{is_present}
-use Rattle.ledger_spec.proofs.ReachLaws.{Grows, reach_joins}
-use Rattle.ledger_spec.proofs.Storing.{in_one}
-use Rattle.ledger_laws.proofs.SoundForms.{in_head, in_nothing}
-use Rattle.ledger_laws.proofs.SoundOffers.{parts_cases}
-use Rattle.ledger_laws.proofs.Ways.{IsNamed, named_reached}
+use Rattle.ledger_spec.proofs.shared.ReachLaws.{Grows, reach_joins}
+use Rattle.ledger_spec.proofs.shared.Storing.{in_one}
+use Rattle.ledger_laws.proofs.shared.SoundForms.{in_head, in_nothing}
+use Rattle.ledger_laws.proofs.shared.SoundOffers.{parts_cases}
+use Rattle.ledger_laws.proofs.shared.Ways.{IsNamed, named_reached}
 use Rattle.rotating_store.specs.Stores.{Store}
 use Rattle.online_rotate.specs.Copying.{IsWalking}
 use Rattle.online_rotate.specs.Rotators.{Turning}
@@ -30,7 +30,7 @@ use Rattle.node_offer.specs.declared.fault.OfferFault.{OfferFault}
 use Rattle.node_offer.specs.Stored.{HasForms}
 use Rattle.acquire_core.specs.Answers.{forms_in, Answers}
 use Rattle.ledger_spec.specs.Replies.{base_stored}
-use Rattle.acquire_core.proofs.Growing.{holds}
+use Rattle.acquire_core.proofs.shared.Growing.{holds}
 use Rattle.store_core.specs.Heeds.{Heeds, IsHeeded, AreHeeded}
 use Rattle.store_core.proofs.Turns.{forms_add, walking_adds, walking_heeded}
 use Rattle.store_core.proofs.Offered.{if_form, answer_front, node_written}

@@ -13,7 +13,7 @@ use Rattle.ledger_spec.specs.Offers.{stored_by}
 use Rattle.ledger_spec.specs.Bases.{Judged, base_outcome, base_forms}
 use Rattle.ledger_spec.specs.Peers.{Peers, is_present}
 use Rattle.ledger_spec.specs.Acquiring.{Acquiring, is_bad, after_outcome, after_judging}
-use Rattle.ledger_spec.proofs.Storing.{node_fits}
+use Rattle.ledger_spec.proofs.shared.Storing.{node_fits}
 use Rattle.rotating_store.specs.Stores.{Store}
 use Rattle.node_offer.specs.declared.fault.OfferFault.{OfferFault}
 use Rattle.node_offer.specs.declared.fault.OfferFault.TheVariants as fault
@@ -34,7 +34,7 @@ use Rattle.ledger_machine.specs.Scripts.{AreBytes, AreOffered}
 use Rattle.ledger_machine.specs.Base.{base_says, base_reply, node_says, node_reply}
 use Rattle.ledger_machine.specs.Steps.{Refused, own_forms}
 use Rattle.ledger_machine.specs.Steps.{Does}
-use Rattle.ledger_laws.proofs.SoundOffers.{if_present, parts_fit}
+use Rattle.ledger_laws.proofs.shared.SoundOffers.{if_present, parts_fit}
 use Rattle.store_core.specs.Desks.{over}
 use Rattle.store_core.specs.Refusals.{search_refusal}
 use Rattle.store_core.specs.Wanting.{base_answer, node_answer}

@@ -33,13 +33,13 @@ use Rattle.ledger_machine.specs.State.{State, form_in, retained, roots, bases}
 use Rattle.ledger_machine.specs.Reading.{view_root}
 use Rattle.ledger_machine.specs.Views.{is_retained, view_reply, after_view, after_unview}
 use Rattle.ledger_machine.specs.Steps.{IsAfter, Outcomes, own_forms, Step}
-use Rattle.ledger_laws.proofs.SoundSessions.{in_map}
-use Rattle.ledger_laws.proofs.SoundSteps.{outcome_cases}
-use Rattle.ledger_laws.proofs.SoundTables.{all_found}
-use Rattle.ledger_laws.proofs.SoundViews.{numbered_total}
-use Rattle.ledger_laws.proofs.Stored.{Goes, on, begun, swapped}
-use Rattle.ledger_laws.proofs.Going.{row_goes}
-use Rattle.open_sessions.proofs.Tables.{over_get, over_has, over_insert, over_remove, over_values}
+use Rattle.ledger_laws.proofs.shared.SoundSessions.{in_map}
+use Rattle.ledger_laws.proofs.shared.SoundSteps.{outcome_cases}
+use Rattle.ledger_laws.proofs.shared.SoundTables.{all_found}
+use Rattle.ledger_laws.proofs.shared.SoundViews.{numbered_total}
+use Rattle.ledger_laws.proofs.shared.Stored.{Goes, on, begun, swapped}
+use Rattle.ledger_laws.proofs.shared.Going.{row_goes}
+use Rattle.open_sessions.proofs.shared.Tables.{over_get, over_has, over_insert, over_remove, over_values}
 use Rattle.store_core.specs.Machines.{IsHeaderOf}
 use Rattle.store_core.specs.Halls.{AreViews, root_of, root_by}
 use Rattle.store_core.specs.declared.jobs.View.{View}

@@ -15,15 +15,15 @@ use Rattle.ledger_spec.specs.Header.{seq_of}
 use Rattle.ledger_spec.specs.Tree.{forms_of}
 use Rattle.ledger_spec.specs.declared.Kind.TheVariants as kinds
 use Rattle.ledger_spec.specs.Maps.{ForActor, hash_cmp, numbered_cmp, has_in, remove_in}
-use Rattle.ledger_spec.proofs.ReachLaws.{Grows}
-use Rattle.ledger_spec.proofs.Storing.{in_nothing, in_one}
+use Rattle.ledger_spec.proofs.shared.ReachLaws.{Grows}
+use Rattle.ledger_spec.proofs.shared.Storing.{in_nothing, in_one}
 use Rattle.edit_session.specs.declared.close.Closed.{Closed}
 use Rattle.edit_session.specs.Drafts.{Draft, StaysOverParent}
 use Rattle.node_offer.specs.declared.fault.OfferFault.{OfferFault}
 use Rattle.node_offer.specs.declared.fault.OfferFault.TheVariants as faults
-use Rattle.ledger_laws.proofs.Beside.{form_beside, forms_beside}
-use Rattle.ledger_laws.proofs.StoringAll.{none_zero}
-use Rattle.ledger_laws.proofs.SoundForms.{with_forms_grow, in_head, in_tail}
+use Rattle.ledger_laws.proofs.shared.Beside.{form_beside, forms_beside}
+use Rattle.ledger_laws.proofs.shared.StoringAll.{none_zero}
+use Rattle.ledger_laws.proofs.shared.SoundForms.{with_forms_grow, in_head, in_tail}
 use Rattle.ledger_machine.specs.declared.commands.Command.TheVariants as command
 use Rattle.ledger_machine.specs.declared.replies.CloseReply.TheVariants as close
 use Rattle.ledger_machine.specs.declared.replies.Reply.{Reply}

@@ -10,9 +10,9 @@ use Rattle.ledger_machine.specs.declared.commands.Record.{Record}
 use Rattle.ledger_machine.specs.Records.{AreDistinct, hashes_of, with_records}
 use Rattle.rotating_store.specs.Puts.{MayStore}
 use Rattle.rotating_store.specs.Stores.{Store, merged, nodes_of, Counted, with_pair}
-use Rattle.rotating_store.proofs.Merging.{merged-insert, merged_empty}
+use Rattle.rotating_store.proofs.shared.Merging.{merged-insert, merged_empty}
 use Rattle.store_core.specs.Dumping.{HoldsOf}
-use Rattle.ledger_laws.proofs.SoundForms.{new_or_old, in_head, in_tail}
+use Rattle.ledger_laws.proofs.shared.SoundForms.{new_or_old, in_head, in_tail}
 
 -- The first i of the records were put into a store that held nothing, and no hash of the others is there.
 pub record ArePut (told : Bool) (records : List Record) (i : ℕ) (st : Store) : Type 0 where

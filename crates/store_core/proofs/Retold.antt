@@ -6,11 +6,11 @@ use Rattle.std.specs.Ordering.{match_ordering}
 use Rattle.std.proofs.lemmas.Map.Lookups.{exact_bytes}
 use Rattle.ledger_spec.specs.Maps.{ForHash, hash_cmp, get_in, insert_in}
 use Rattle.ledger_spec.specs.Acquiring.{Acquiring, acquiring}
-use Rattle.ledger_spec.proofs.Storing.{in_one}
+use Rattle.ledger_spec.proofs.shared.Storing.{in_one}
 use Rattle.missing_walk.specs.declared.Found.{Found}
 use Rattle.ledger_spec.specs.declared.replies.CheckReply.{CheckReply}
 use Rattle.ledger_spec.specs.declared.replies.CheckReply.TheVariants as check
-use Rattle.ledger_laws.proofs.SoundForms.{in_head, in_tail, in_nothing}
+use Rattle.ledger_laws.proofs.shared.SoundForms.{in_head, in_tail, in_nothing}
 use Rattle.ledger_spec.specs.Bytes.{Hash}
 use Rattle.ledger_machine.specs.declared.replies.WantReply.TheVariants as want
 use Rattle.ledger_spec.specs.declared.replies.CheckReply.TheVariants as check

@@ -14,8 +14,8 @@ use Rattle.std.proofs.lemmas.List.Elements.{Contains-append_cases, Contains-appe
 use Rattle.ledger_spec.specs.Maps.{ForHash, ForActor, IsMap, hash_cmp, get_in, has_in, insert_in}
 use Rattle.ledger_spec.specs.Bytes.{Hash, Half}
 use Rattle.ledger_spec.specs.Retaining.{Retention, is_pinned, AreRootsFrom}
-use Rattle.ledger_laws.proofs.SoundCheck.{key_inserted}
-use Rattle.ledger_laws.proofs.SoundForms.{in_head, in_tail}
+use Rattle.ledger_laws.proofs.shared.SoundCheck.{key_inserted}
+use Rattle.ledger_laws.proofs.shared.SoundForms.{in_head, in_tail}
 use Rattle.ledger_machine.specs.State.{State, retained}
 use Rattle.edit_session.specs.Drafts.{Draft}
 use Rattle.store_core.specs.Machines.{with_open}

@@ -49,10 +49,10 @@ use Rattle.ledger_machine.specs.Rotation.{AreShaded}
 use Rattle.ledger_machine.specs.Rotation.{Tells}
 use Rattle.ledger_machine.specs.Steps.{IsAfter, Answered, Refused, Gets, Pages, own_hashes}
 use Rattle.ledger_machine.specs.Steps.{Does}
-use Rattle.ledger_laws.proofs.SoundForms.{in_head, in_tail}
-use Rattle.ledger_laws.proofs.SoundSteps.{outcome_cases}
-use Rattle.ledger_laws.proofs.SoundTables.{all_found}
-use Rattle.ledger_laws.proofs.SoundViews.{among}
+use Rattle.ledger_laws.proofs.shared.SoundForms.{in_head, in_tail}
+use Rattle.ledger_laws.proofs.shared.SoundSteps.{outcome_cases}
+use Rattle.ledger_laws.proofs.shared.SoundTables.{all_found}
+use Rattle.ledger_laws.proofs.shared.SoundViews.{among}
 use Rattle.store_core.specs.Commands.{IsSteady, TellsRoot}
 use Rattle.store_core.specs.Telling.{AreTold, Carried}
 

@@ -23,8 +23,8 @@ use Rattle.ledger_spec.specs.Own.{AreStored}
 use Rattle.ledger_spec.specs.Reach.{Reach, root, Stored}
 use Rattle.ledger_spec.specs.Retaining.{floor_behind, listed_from}
 use Rattle.ledger_spec.specs.Spots.{header_root}
-use Rattle.ledger_spec.proofs.ReachLaws.{reach_joins}
-use Rattle.ledger_spec.proofs.Storing.{in_one}
+use Rattle.ledger_spec.proofs.shared.ReachLaws.{reach_joins}
+use Rattle.ledger_spec.proofs.shared.Storing.{in_one}
 use Rattle.ledger_header.specs.Fields.{fields}
 use Rattle.edit_session.specs.Drafts.{Draft, Edits, StaysOverParent}
 use Rattle.node_backend.specs.declared.back.BackFault.{BackFault}
@@ -44,12 +44,12 @@ use Rattle.ledger_machine.specs.Rotation.{Tells}
 use Rattle.ledger_machine.specs.Commands.{MayBeRefused}
 use Rattle.ledger_machine.specs.Steps.{IsAfter, Swaps, own_hashes}
 use Rattle.ledger_machine.specs.Steps.{Does}
-use Rattle.ledger_laws.proofs.SoundForms.{in_head}
-use Rattle.ledger_laws.proofs.Ways.{root_named, named_reached}
+use Rattle.ledger_laws.proofs.shared.SoundForms.{in_head}
+use Rattle.ledger_laws.proofs.shared.Ways.{root_named, named_reached}
 use Rattle.open_sessions.specs.Edited.{IsKept, session_in, sessions_in, items_in}
 use Rattle.open_sessions.specs.Rows.{AllKept}
-use Rattle.open_sessions.proofs.Editing.{edited}
-use Rattle.open_sessions.proofs.Tables.{over_same, over_values}
+use Rattle.open_sessions.proofs.shared.Editing.{edited}
+use Rattle.open_sessions.proofs.shared.Tables.{over_same, over_values}
 use Rattle.store_core.specs.Machines.{told_forms, with_open}
 use Rattle.store_core.specs.Refusals.{read_refusal}
 use Rattle.store_core.specs.Telling.{AreTold, Carried, BeginsBy, SwapsTold, AfterSwap}

@@ -25,9 +25,9 @@ use Rattle.edit_session.specs.declared.close.Fields.{Fields}
 use Rattle.edit_session.specs.Closing.{IsOccupied}
 use Rattle.edit_session.specs.Drafts.{Draft, Edits}
 use Rattle.edit_session.specs.Closing as draft
-use Rattle.ledger_laws.proofs.SoundClosing.{next_seq}
-use Rattle.ledger_laws.proofs.SoundSessions.{IsFit, fits_of}
-use Rattle.ledger_laws.proofs.SoundTables.{all_found}
+use Rattle.ledger_laws.proofs.shared.SoundClosing.{next_seq}
+use Rattle.ledger_laws.proofs.shared.SoundSessions.{IsFit, fits_of}
+use Rattle.ledger_laws.proofs.shared.SoundTables.{all_found}
 use Rattle.ledger_machine.specs.declared.replies.CloseReply.TheVariants as close
 use Rattle.ledger_machine.specs.declared.replies.Reply.{Reply}
 use Rattle.ledger_machine.specs.declared.replies.Reply.TheVariants as says
@@ -36,8 +36,8 @@ use Rattle.ledger_machine.specs.Scripts.{AreFields}
 use Rattle.ledger_machine.specs.Sound.{Sound}
 use Rattle.ledger_machine.specs.State.{State, Session, form_in, with_forms}
 use Rattle.open_sessions.specs.Edited.{IsKept, items_in, session_in}
-use Rattle.open_sessions.proofs.Closing.{picks_same, header_same, forms_same}
-use Rattle.open_sessions.proofs.Tables.{over_get}
+use Rattle.open_sessions.proofs.shared.Closing.{picks_same, header_same, forms_same}
+use Rattle.open_sessions.proofs.shared.Tables.{over_get}
 use Rattle.store_core.specs.Machines.{told_forms, with_open, KeepsDrafts}
 use Rattle.store_core.specs.Closing.{IsMade, IsUnmade, fields_of, unsealed_by}
 

@@ -13,7 +13,7 @@ use Rattle.ledger_spec.specs.Retaining.{Retention}
 use Rattle.edit_session.specs.Drafts.{Draft}
 use Rattle.rotating_store.specs.Stores.{Store, merged, nodes_of}
 use Rattle.rotating_store.specs.declared.outcome.StoreFault.{StoreFault}
-use Rattle.rotating_store.proofs.Merging.{get-merged}
+use Rattle.rotating_store.proofs.shared.Merging.{get-merged}
 use Rattle.copy_walk.specs.Walks.{Walk}
 use Rattle.copy_walk.specs.Counts.{CopiesAtMost, IsCopied}
 use Rattle.copy_walk.specs.Slices.{Slices, IsCutShort, LeftBy}

@@ -17,7 +17,7 @@ use Rattle.ledger_machine.specs.Rotation.{AreShaded, Tells, WhileTurning}
 use Rattle.ledger_machine.specs.State.{State}
 use Rattle.ledger_machine.specs.Commands.{MayBeRefused}
 use Rattle.ledger_machine.specs.Steps.{Gets, Step, Outcomes, UsesNodes, own_hashes}
-use Rattle.ledger_laws.proofs.Carrying.{step_told}
+use Rattle.ledger_laws.proofs.shared.Carrying.{step_told}
 use Rattle.node_backend.specs.declared.back.BackFault.{BackFault}
 use Rattle.node_backend.specs.declared.back.BackFault.TheVariants as back
 use Rattle.run_io.specs.Bytes.{Rose}

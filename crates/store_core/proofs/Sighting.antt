@@ -37,7 +37,7 @@ use Rattle.ledger_machine.specs.Sessions.{edit_reply, after_edit, after_put, aft
 use Rattle.ledger_machine.specs.Closing.{after_close, closed, closing_forms, new_header}
 use Rattle.ledger_machine.specs.Rotation.{begin_reply, after_begin}
 use Rattle.ledger_machine.specs.Steps.{IsAfter, Answered, Refused, Outcomes, Swaps}
-use Rattle.ledger_laws.proofs.SoundSteps.{outcome_cases, gets_after, pages_after}
+use Rattle.ledger_laws.proofs.shared.SoundSteps.{outcome_cases, gets_after, pages_after}
 
 -- the commands that open and end no view
 abbrev pub LeavesViews : Command → Type 0

@@ -15,8 +15,8 @@ use Rattle.ledger_spec.specs.Spots.{header_in}
 use Rattle.ledger_header.specs.declared.Header.{Header}
 use Rattle.ledger_header.specs.Fields.{fields, Reads}
 use Rattle.edit_session.specs.Drafts.{Draft, Edits, LeavesToParent}
-use Rattle.ledger_laws.proofs.SoundViews.{among}
-use Rattle.ledger_laws.proofs.WholeMaps.{both_whole}
+use Rattle.ledger_laws.proofs.shared.SoundViews.{among}
+use Rattle.ledger_laws.proofs.shared.WholeMaps.{both_whole}
 use Rattle.ledger_machine.specs.declared.replies.EditReply.{EditReply}
 use Rattle.ledger_machine.specs.declared.replies.EditReply.TheVariants as edits
 use Rattle.ledger_machine.specs.Sessions.{edit_reply, has_session, session_on}
@@ -25,9 +25,9 @@ use Rattle.ledger_machine.specs.State.{State, Session, form_in, retained, stored
 use Rattle.ledger_machine.specs.Views.{is_retained}
 use Rattle.open_sessions.specs.Edited.{IsKept, session_in}
 use Rattle.open_sessions.specs.Rows.{AllKept}
-use Rattle.open_sessions.proofs.Opening.{opened_kept}
-use Rattle.open_sessions.proofs.Rows.{open_gives}
-use Rattle.open_sessions.proofs.Tables.{over_insert}
+use Rattle.open_sessions.proofs.shared.Opening.{opened_kept}
+use Rattle.open_sessions.proofs.shared.Rows.{open_gives}
+use Rattle.open_sessions.proofs.shared.Tables.{over_insert}
 use Rattle.store_core.specs.Machines.{with_open, KeepsDrafts, IsHeaderOf, IsFit, edit_by}
 
 -- what a form that is stored reads as

@@ -16,15 +16,15 @@ use Rattle.ledger_spec.specs.Maps.{ForHash, ForActor, hashes_in, hash_cmp}
 use Rattle.ledger_spec.specs.Reach.{Reach, Stored, root, kid}
 use Rattle.ledger_spec.specs.Retaining.{Retention, none_retained, due, after_listing, after_finish}
 use Rattle.ledger_spec.specs.Acquiring.{Acquiring}
-use Rattle.ledger_spec.proofs.ReachLaws.{Grows, reach_grows}
-use Rattle.ledger_spec.proofs.Storing.{in_one}
+use Rattle.ledger_spec.proofs.shared.ReachLaws.{Grows, reach_grows}
+use Rattle.ledger_spec.proofs.shared.Storing.{in_one}
 use Rattle.rotating_store.specs.Stores.{Store, merged, nodes_of, born_of, Counted, with_pair}
 use Rattle.rotating_store.specs.Puts.{Puts, MayStore}
 use Rattle.rotating_store.specs.declared.outcome.Put.{Put}
 use Rattle.rotating_store.specs.declared.outcome.Put.TheVariants as put
 use Rattle.rotating_store.specs.declared.outcome.StoreFault.{StoreFault}
 use Rattle.rotating_store.specs.declared.outcome.StoreFault.TheVariants as fault
-use Rattle.rotating_store.proofs.Merging.{get-merged, merged-insert, contains_hashes}
+use Rattle.rotating_store.proofs.shared.Merging.{get-merged, merged-insert, contains_hashes}
 use Rattle.node_offer.specs.declared.fault.OfferFault.{OfferFault}
 use Rattle.node_offer.specs.declared.fault.OfferFault.TheVariants as offer
 use Rattle.node_offer.specs.Stored as store
@@ -33,9 +33,9 @@ use Rattle.ledger_spec.specs.Offers.{Clash}
 use Rattle.rotating_store.specs.Reading.{WasRead}
 use Rattle.copy_walk.specs.Walks.{Walk}
 use Rattle.copy_walk.specs.Walks as walks
-use Rattle.copy_walk.proofs.Lists.{shaded_stays, is_shaded, shaded_from}
-use Rattle.copy_walk.proofs.Striding.{one_form, colours_shaded}
-use Rattle.online_rotate.proofs.Rotating.{walking_alike, fit_on}
+use Rattle.copy_walk.proofs.shared.Lists.{shaded_stays, is_shaded, shaded_from}
+use Rattle.copy_walk.proofs.shared.Striding.{one_form, colours_shaded}
+use Rattle.online_rotate.proofs.shared.Rotating.{walking_alike, fit_on}
 use Rattle.std.proofs.lemmas.List.{append-nil}
 use Rattle.std.proofs.lemmas.List.Elements.{Contains-append_left}
 use Rattle.online_rotate.specs.declared.rotator.Begun.{Begun}
@@ -44,7 +44,7 @@ use Rattle.online_rotate.specs.Copying.{IsFit, IsWalking, CopiesSome, Rotated, O
 use Rattle.copy_walk.specs.declared.walk.Left.{Left}
 use Rattle.online_rotate.specs.Rotators.{SlicesBy, slices_after}
 use Rattle.online_rotate.specs.Rotators.{Turning, no_walk, at_rest, InStep, begun_by, AfterBegin, Shades, Ends, GoesOn, AfterFinish}
-use Rattle.ledger_laws.proofs.SoundForms.{new_or_old, get_more, same_hash, in_nothing, in_head, in_tail}
+use Rattle.ledger_laws.proofs.shared.SoundForms.{new_or_old, get_more, same_hash, in_nothing, in_head, in_tail}
 use Rattle.ledger_machine.specs.State.{State, form_in, opening}
 use Rattle.ledger_machine.specs.Rotation.{Tells}
 use Rattle.store_core.specs.Desks.{Desk, OnlyReads, over, state_of}

@@ -19,7 +19,7 @@ use Rattle.path_proof.specs.declared.source.FetchFault.{FetchFault}
 use Rattle.ledger_spec.specs.Maps.{hash_cmp, numbered_cmp, get_in, has_in, ForHash, ForActor}
 use Rattle.ledger_spec.specs.Own.{AreStored, own_forms}
 use Rattle.ledger_spec.specs.Spots.{header_in, header_root}
-use Rattle.ledger_spec.proofs.Owning.{all_own}
+use Rattle.ledger_spec.proofs.shared.Owning.{all_own}
 use Rattle.ledger_machine.specs.State.{State, Session, form_in}
 use Rattle.ledger_machine.specs.Reading.{view_root}
 use Rattle.ledger_machine.specs.Views.{is_retained}

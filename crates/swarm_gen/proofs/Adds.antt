@@ -4,7 +4,7 @@ use Rattle.std.proofs.Common.{sym, ap, ◌∙◌, append_assoc, append-nil, arit
 use Rattle.std.specs.List.{range_with_len}
 use Rattle.std.proofs.lemmas.List.{map-append, take_more}
 use Rattle.ledger_spec.specs.Bytes.{Hash}
-use Rattle.map_changes.proofs.Walking.{range_more}
+use Rattle.map_changes.proofs.shared.Walking.{range_more}
 use Rattle.swarm_gen.specs.declared.plan.Plan.{Plan}
 use Rattle.swarm_gen.specs.declared.lines.Sent.{Sent}
 use Rattle.ledger_machine.specs.declared.commands.Command.{Command}

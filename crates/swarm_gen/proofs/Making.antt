@@ -24,7 +24,7 @@ use Rattle.swarm_gen.specs.Adding.{ledger_from}
 use Rattle.map_changes.specs.Given.{given, IsRoot}
 use Rattle.swarm_gen.specs.Sending.{sent, below}
 use Rattle.std.specs.Cmp.Lexicographic.{same_text}
-use Rattle.map_changes.proofs.Changed.{changed_all}
+use Rattle.map_changes.proofs.shared.Changed.{changed_all}
 
 -- two nodes that are the same have one hash
 same_hash : (half : Half) (p q : Placed) → is_same p q ≡ true → hash_of half p.node ≡ hash_of half q.node

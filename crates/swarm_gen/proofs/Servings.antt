@@ -14,7 +14,7 @@ use Rattle.ledger_machine.specs.Commands.{IsInRange}
 use Rattle.ledger_machine.specs.Scripts.{Rises}
 use Rattle.script_form.specs.Servable.{WaitsForEarlier}
 use Rattle.swarm_gen.specs.Serving.{AreLines}
-use Rattle.map_changes.proofs.Walking.{range_more}
+use Rattle.map_changes.proofs.shared.Walking.{range_more}
 
 -- numbers one after another rise, and so with the next one
 rises_more : (n : ℕ) (xs : List Line) (l : Line) → map (λ x. x.number) xs ≡ range_with_len (n + 1) (length xs)

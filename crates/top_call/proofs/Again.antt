@@ -5,7 +5,7 @@ use Rattle.std.specs.Borrow.{Bor}
 use Rattle.ledger_spec.specs.Bytes.{Bytes, Half}
 use Rattle.ledger_machine.specs.declared.commands.Record.{Record}
 use Rattle.run_io.specs.Bytes.{Rose, Wrote, WrotePart}
-use Rattle.run_io.proofs.Bytes.{wrote_nothing, wrote_part}
+use Rattle.run_io.proofs.shared.Bytes.{wrote_nothing, wrote_part}
 use Rattle.run_words.specs.declared.words.Words.{Words}
 use Rattle.store_core.specs.Journal.{CoreView, IsJournal}
 use Rattle.stop_run.specs.Opening.{IsReopened, complete_in}

@@ -8,7 +8,7 @@ use mathlib.Core.List.{IsPrefix}
 use Rattle.ledger_spec.specs.Bytes.{Bytes, Hash, Nodes}
 use Rattle.ledger_machine.specs.declared.commands.Record.{Record}
 use Rattle.run_io.specs.Bytes.{Wrote, WrotePart}
-use Rattle.run_io.proofs.Bytes.{wrote_nothing, wrote_more, wrote_part, wrote_front}
+use Rattle.run_io.proofs.shared.Bytes.{wrote_nothing, wrote_more, wrote_part, wrote_front}
 use Rattle.journal_text.specs.Text.{record_text}
 use Rattle.ledger_machine.specs.State.{State}
 use Rattle.ledger_machine.specs.declared.commands.Line.{Line}

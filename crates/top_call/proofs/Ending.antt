@@ -7,7 +7,7 @@ use mathlib.Core.List.{IsPrefix}
 use Rattle.ledger_spec.specs.Bytes.{Bytes, Nodes}
 use Rattle.ledger_machine.specs.State.{State}
 use Rattle.run_io.specs.Bytes.{Wrote, WrotePart}
-use Rattle.run_io.proofs.Bytes.{rose_later, wrote_more, wrote_part}
+use Rattle.run_io.proofs.shared.Bytes.{rose_later, wrote_more, wrote_part}
 use Rattle.store_core.specs.Journal.{CoreView}
 use Rattle.top_call.specs.declared.status.TheConstants.{FINE, SINK_FAILED, STORE_FAILED, CLASHED, NO_MEMORY}
 use Rattle.top_call.specs.declared.dump.DumpEnd.{DumpEnd}

@@ -11,7 +11,7 @@ use Rattle.ledger_machine.specs.declared.journal.Entry.{Entry}
 use Rattle.ledger_machine.specs.declared.replies.Reply.{Reply}
 use Rattle.ledger_machine.specs.declared.replies.Reply.TheVariants as says
 use Rattle.ledger_machine.specs.Collisions.{is_clash, ShowsIn, IsShown}
-use Rattle.ledger_laws.proofs.SoundForms.{in_head, in_tail}
+use Rattle.ledger_laws.proofs.shared.SoundForms.{in_head, in_tail}
 use Rattle.store_core.specs.Journal.{CoreView, IsJournal, faults_in, fault_count, RoseBy}
 use Rattle.top_call.specs.declared.status.TheConstants.{FINE, SINK_FAILED, STORE_FAILED, CLASHED, NO_MEMORY}
 use Rattle.top_call.specs.Output.{status_of, met_fault, is_fault, shows_clash, wanted_memory}

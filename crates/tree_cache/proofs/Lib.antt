@@ -1,1 +1,1 @@
-pub mod Using
+pub mod shared

@@ -1,12 +1,12 @@
 -- Sixteen branches of a place: what lies below one of them, and how many have something.
 use Rattle.std.proofs.Common.{◌≡◌, ◌⊎◌, inl, inr, ⊎_elim, ◌≤◌, ◌<◌, ◌+◌, ◌*◌, ◌==◌, not, ℕ, zero, suc, Bool, true, false}
 use Rattle.std.proofs.Common.{if◌then◌else◌, List, [], ◌∷◌, ◌++◌, length, get_or, map, cond, IsTrue, Option, None}
-use Rattle.std.proofs.Common.{Some, refl, sym, ap, ◌∙◌, subst, arith, length-append, filter_map, flat_map}
+use Rattle.std.proofs.Common.{Some, refl, sym, ap, ◌∙◌, arith, length-append, filter_map, flat_map}
 use Rattle.std.proofs.lemmas.Bool.{eqb-true, and_parts}
 use Rattle.std.proofs.lemmas.Bool.{cases_eq}
 use Rattle.std.proofs.lemmas.List.{append-nil, same_lists, length-map}
-use Rattle.std.proofs.lemmas.List.Elements.{filter-append, filter_map-append, All-from_recursion, All-get_or}
-use Rattle.std.proofs.lemmas.List.FromFn.{get_or-range_with_len, length-range_with_len, get_or-map-range_with_len}
+use Rattle.std.proofs.lemmas.List.Elements.{filter-append, filter_map-append}
+use Rattle.std.proofs.lemmas.List.FromFn.{length-range_with_len, get_or-map-range_with_len}
 use Rattle.std.specs.List.{list_any, list_all, slice_index_or, filter, range_with_len, AllByRecursion}
 use Rattle.nib_path.specs.Paths.{lies_under}
 use Rattle.ledger_spec.specs.declared.Kind.{Kind}
@@ -15,30 +15,14 @@ use Rattle.ledger_spec.specs.Bytes.{Bytes, Hash, Half, Items, zero_hash, is_zero
 use Rattle.ledger_spec.specs.Forms.{leaf, inner_prefix, leaf_form}
 use Rattle.ledger_spec.specs.Rules.{fault_of, is_lone}
 use Rattle.ledger_spec.specs.Tree.{Entry, form_of_part}
-use Rattle.ledger_spec.proofs.Growth.{both_nil}
-use Rattle.tree_laws.proofs.Trees.{kid_hash}
-use Rattle.tree_laws.proofs.Parts.{filter_all, filter_none, under_other}
-use Rattle.tree_laws.proofs.Orders.{all_weaker}
-
--- nothing is found in a join where nothing is found in each part
-pub clean_each : {A B F : Type 0} (find : B → Option F) (f : A → List B) (xs : List A) → filter_map find (flat_map f xs) ≡ []
-    → AllByRecursion (λ x. filter_map find (f x) ≡ []) xs
-clean_each find f [] clean = tt
-clean_each find f (x ∷ xs) clean =
-    let both : (filter_map find (f x) ≡ []) × (filter_map find (flat_map f xs) ≡ []) =
-    both_nil _ _ (sym (filter_map-append find (f x) (flat_map f xs)) ∙ clean) in
-    (both.0, clean_each find f xs both.1)
+use Rattle.tree_laws.proofs.shared.Trees.{kid_hash}
+use Rattle.tree_laws.proofs.shared.Parts.{filter_all, filter_none, under_other}
+use Rattle.tree_laws.proofs.shared.Orders.{all_weaker}
 
 pub found_join : {A B F : Type 0} (find : B → Option F) (f : A → List B) (xs : List A)
     → filter_map find (flat_map f xs) ≡ flat_map (λ x. filter_map find (f x)) xs
 found_join find f [] = refl
 found_join find f (x ∷ xs) = filter_map-append find (f x) (flat_map f xs) ∙ ap (λ l. filter_map find (f x) ++ l) (found_join find f xs)
-
--- what is true of each branch
-pub at_branch : (P : ℕ → Type 0) → AllByRecursion P branches → (b : ℕ) → b < 16 → P b
-at_branch P all b below =
-    let is : get_or branches b 0 ≡ b = get_or-range_with_len 0 16 b 0 below ∙ Rattle.std.proofs.Common.zero-add b in
-    subst P is (All-get_or P branches b 0 (omega (arith, length-range_with_len 0 16)) (All-from_recursion P branches all))
 
 -- a branch's hash has 32 bytes, also past the end
 pub size_at : (hashes : List Hash) (b : ℕ) → IsTrue (list_all (λ h. length h == 32) hashes)

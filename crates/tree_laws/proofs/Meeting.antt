@@ -11,10 +11,10 @@ use Rattle.ledger_spec.specs.Forms.{inner, leaf, header}
 use Rattle.ledger_spec.specs.Rules.{fault_of}
 use Rattle.ledger_spec.specs.Findings.{Sight, missing, broken, sound, Met, branches_of, walk, walk_map}
 use Rattle.tree_laws.specs.Walks.{at_place, Meets, top, branch}
-use Rattle.tree_laws.proofs.Joins.{all_range, all_flat, in_nothing, in_head, in_one, in_join, join_has, in_range}
-use Rattle.tree_laws.proofs.Shapes.{above_bottom}
-use Rattle.tree_laws.proofs.Sights.{sees_sound}
-use Rattle.tree_laws.proofs.Steps.{met_at, walks_below, walk_empty, walk_bottom, walk_step, walk_inner}
+use Rattle.tree_laws.proofs.shared.Joins.{all_range, all_flat, in_nothing, in_head, in_one, in_join, join_has, in_range}
+use Rattle.tree_laws.proofs.shared.Shapes.{above_bottom}
+use Rattle.tree_laws.proofs.shared.Sights.{sees_sound}
+use Rattle.tree_laws.proofs.shared.Steps.{met_at, walks_below, walk_empty, walk_bottom, walk_step, walk_inner}
 
 module _ (half : Half) (nodes : Lookup) (kind : Kind) (root : Hash) where
   -- an entry of the walk is for a place that is met, with what is seen there

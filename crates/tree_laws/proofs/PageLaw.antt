@@ -20,10 +20,10 @@ use Rattle.ledger_spec.specs.Rules.{fault_of}
 use Rattle.ledger_spec.specs.Tree.{Entry}
 use Rattle.ledger_spec.specs.Pages.{is_behind, after_key, is_passed, Heard, said, wants, wrong, go_on, followed_by, Reading, in_turn}
 use Rattle.ledger_spec.specs.Pages.{leaf_entries, said_by, said_at, is_skipped, page_from}
-use Rattle.tree_laws.proofs.Trees.{under_begins}
-use Rattle.tree_laws.proofs.Shapes.{none_is}
-use Rattle.tree_laws.proofs.Orders.{nibbles_cmp}
-use Rattle.tree_laws.proofs.Parts.{filter_none}
+use Rattle.tree_laws.proofs.shared.Trees.{under_begins}
+use Rattle.tree_laws.proofs.shared.Shapes.{none_is}
+use Rattle.tree_laws.proofs.shared.Orders.{nibbles_cmp}
+use Rattle.tree_laws.proofs.shared.Parts.{filter_none}
 
 -- the first entries of a join
 take_join : {X : Type 0} (n : ℕ) (xs ys : List X) → take n (xs ++ ys) ≡ take n xs ++ take (n - length (take n xs)) ys
@@ -78,7 +78,7 @@ none_behind : (after : Hash) (path : List ℕ) (items : Items) → length path �
     → AllByRecursion (λ (e : Entry). lies_under path e.0 ≡ true) items
     → filter (is_behind after) items ≡ []
 none_behind after path items within is under = filter_none (is_behind after) items
-    (Rattle.tree_laws.proofs.Orders.all_weaker (λ (e : Entry). lies_under path e.0 ≡ true) (λ e. is_behind after e ≡ false)
+    (Rattle.tree_laws.proofs.shared.Orders.all_weaker (λ (e : Entry). lies_under path e.0 ≡ true) (λ e. is_behind after e ≡ false)
     (λ e u. passed_under after path e within is u) items under)
 
 take_nothing : (n : ℕ) (xs : Items) → xs ≡ [] → take n xs ≡ []

@@ -2,7 +2,7 @@
 use Rattle.std.proofs.Common.{◌≡◌, ℕ, Bool, true, false, cond, List, [], ◌∷◌, ◌++◌, length, take, refl, sym, ap}
 use Rattle.std.proofs.Common.{◌∙◌, arith, length-append}
 use Rattle.std.proofs.lemmas.Bool.{cond-true, cond-false, false≢true}
-use Rattle.std.proofs.lemmas.List.{take-take, same_from_push}
+use Rattle.std.proofs.lemmas.List.{take-take}
 use Rattle.std.proofs.Math.Seq.{take-append_seam}
 use Rattle.std.specs.BTreeMap.{is_at}
 use Rattle.std.specs.Cmp.Lexicographic.{nat_list_cmp_total}
@@ -17,16 +17,7 @@ use Rattle.nib_path.specs.Paths.{nibbles, lies_under}
 use Rattle.ledger_spec.specs.Bytes.{Bytes, Hash, Items}
 use Rattle.ledger_spec.specs.Maps.{hash_cmp, insert_in, remove_in, IsMap}
 use Rattle.ledger_spec.specs.Tree.{Entry, part}
-use Rattle.tree_laws.proofs.Trees.{under_begins, under_from, each_in_part, same_key}
-
--- a list under a test that lets all through, or nothing
-pub filter_all : (test : Entry → Bool) (xs : Items) → AllByRecursion (λ e. test e ≡ true) xs → filter test xs ≡ xs
-filter_all test [] all = refl
-filter_all test (x ∷ xs) all = cond-true (test x) _ _ all.0 ∙ ap (λ l. x ∷ l) (filter_all test xs all.1)
-
-pub filter_none : (test : Entry → Bool) (xs : Items) → AllByRecursion (λ e. test e ≡ false) xs → filter test xs ≡ []
-filter_none test [] all = refl
-filter_none test (x ∷ xs) all = cond-false (test x) _ _ all.0 ∙ filter_none test xs all.1
+use Rattle.tree_laws.proofs.shared.Trees.{under_begins, under_from, each_in_part, same_key}
 
 -- two tests in a row, the second narrower
 pub filter_twice : (wide narrow : Entry → Bool) → ((e : Entry) → narrow e ≡ true → wide e ≡ true) → (xs : Items)
@@ -53,25 +44,6 @@ under_front path more k under =
 -- what lies under a branch lies under the path, and under no other branch
 pub under_up : (path : List ℕ) (b : ℕ) (k : Hash) → lies_under (path ++ b ∷ []) k ≡ true → lies_under path k ≡ true
 under_up path b k under = under_front path (b ∷ []) k under
-
-pub under_other : (path : List ℕ) (b c : ℕ) (k : Hash) → (b ≡ c → ⊥) → lies_under (path ++ b ∷ []) k ≡ true
-    → lies_under (path ++ c ∷ []) k ≡ false
-under_other path b c k differ under = by_test (lies_under (path ++ c ∷ []) k) refl
-  where
-    by_test : (t : Bool) → lies_under (path ++ c ∷ []) k ≡ t → lies_under (path ++ c ∷ []) k ≡ false
-    by_test false is = is
-    by_test true is =
-        let sizes : length (path ++ b ∷ []) ≡ length (path ++ c ∷ []) = omega
-        (arith, length-append path (b ∷ []), length-append path (c ∷ [])) in
-        let one : path ++ b ∷ [] ≡ path ++ c ∷ [] = under_begins (path ++ b ∷ []) k under ∙ ap (λ n. take n (nibbles k)) sizes
-        ∙ sym (under_begins (path ++ c ∷ []) k is) in
-        let same : b ≡ c = (same_from_push path path b c one).1 in
-        absurd (differ same)
-
--- a part of a part is that part of the whole
-pub part_of_part : (items : List Entry) (path more : List ℕ) → part (part items path) (path ++ more) ≡ part items (path ++ more)
-part_of_part items path more =
-    filter_twice (λ e. lies_under path e.0) (λ e. lies_under (path ++ more) e.0) (λ e under. under_front path more e.0 under) items
 
 pub part_again : (items : List Entry) (path : List ℕ) → part (part items path) path ≡ part items path
 part_again items path = filter_twice (λ e. lies_under path e.0) (λ e. lies_under path e.0) (λ e under. under) items

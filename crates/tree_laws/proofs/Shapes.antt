@@ -1,32 +1,22 @@
 -- What the rules leave at a place, and what a node of the map says of the places below it.
-use Rattle.std.proofs.Common.{◌≡◌, ◌≢◌, ◌⊎◌, inl, inr, ⊎_elim, ◌≤◌, ◌<◌, ◌+◌, ◌-◌, ◌*◌, ◌==◌, ◌&&◌, not, ℕ, zero, suc, Bool, true, false}
-use Rattle.std.proofs.Common.{if◌then◌else◌, List, [], ◌∷◌, ◌++◌, length, take, drop, get_or, map, nat_eq, nat_lt, cond, is_none, IsTrue}
-use Rattle.std.proofs.Common.{Option, None, Some, refl, sym, ap, ◌∙◌, subst, arith, length-append, length-take}
-use Rattle.std.proofs.lemmas.Bool.{eqb-true, eqb-false, ltb-true, and_parts, false≢true}
+use Rattle.std.proofs.Common.{◌≡◌, ◌≢◌, ◌⊎◌, inl, inr, ◌<◌, ◌-◌, ◌==◌, not, ℕ, suc, Bool, true, false}
+use Rattle.std.proofs.Common.{if◌then◌else◌, List, [], ◌∷◌, ◌++◌, length, map}
+use Rattle.std.proofs.Common.{Option, None, Some, refl, sym, ap, ◌∙◌, arith, length-append}
+use Rattle.std.proofs.lemmas.Bool.{eqb-true, eqb-false, and_parts, false≢true}
 use Rattle.std.proofs.lemmas.List.{append_cancel_left}
 use Rattle.std.proofs.lemmas.Slice.Eq.{bytes_eq-Decides}
 use Rattle.std.specs.Str.{bytes_eq}
-use Rattle.std.specs.List.{concat, flat_map, list_all, slice_index_or}
+use Rattle.std.specs.List.{concat, flat_map, slice_index_or}
 use Rattle.nib_path.specs.Paths.{lies_under}
 use Rattle.ledger_spec.specs.declared.Kind.{Kind}
 use Rattle.ledger_spec.specs.declared.Kind.TheVariants.{State, Tx, Set}
 use Rattle.ledger_spec.specs.declared.ShapeFault.{ShapeFault}
-use Rattle.ledger_spec.specs.declared.ShapeFault.TheVariants.{InnerAtBottom, LeafAtRoot, LeafElsewhere, LoneLeaf, WrongKind}
+use Rattle.ledger_spec.specs.declared.ShapeFault.TheVariants.{LeafAtRoot, LeafElsewhere, LoneLeaf, WrongKind}
 use Rattle.ledger_spec.specs.Bytes.{Bytes, Hash, Half, Items, zero_hash, is_zero, branches}
 use Rattle.ledger_spec.specs.Forms.{inner, leaf, IsHeld, inner_prefix, leaf_form, form_of, hash_or_zero}
 use Rattle.ledger_spec.specs.Rules.{fault_of, same_kind, is_lone}
 use Rattle.ledger_spec.specs.Tree.{Entry, part, form_of_part, form_at}
-use Rattle.tree_laws.proofs.Trees.{Sized, crowd, kid_hash, node_cases, leaf_no_inner, size_or_zero, hashes_are, hash_at_branch}
-
--- a test that lets something through
-pub passed : {A : Type 0} (t : Bool) (x : Option A) (v : A) → (if t then x else None) ≡ Some v → (t ≡ true) × (x ≡ Some v)
-passed true x v e = (refl, e)
-passed false x v e = cc
-
--- no fault
-pub none_is : {A : Type 0} (o : Option A) → is_none o ≡ true → o ≡ None
-none_is None e = refl
-none_is (Some x) e = absurd (false≢true e)
+use Rattle.tree_laws.proofs.shared.Trees.{Sized, crowd, kid_hash, node_cases, leaf_no_inner, size_or_zero, hashes_are, hash_at_branch}
 
 -- two kinds that are the same by the test
 pub kinds_same : (a b : Kind) → same_kind a b ≡ true → a ≡ b
@@ -66,16 +56,9 @@ keeps_leaf kind own key bytes parent path e =
     let some : (length path ≡ 0) → ⊥ = eqb-false (length path) 0 t.1 in
     record { kinds = kinds_same own kind (not_is (same_kind own kind) t.0); below = omega arith; under = not_is (lies_under path key) t.2 }
 
-one_test : (a : Bool) (w : ShapeFault) → (if a then Some w else None) ≡ None → a ≡ false
+pub one_test : (a : Bool) (w : ShapeFault) → (if a then Some w else None) ≡ None → a ≡ false
 one_test true w e = cc
 one_test false w e = refl
-
--- an inner node that breaks no rule stands above the bottom
-pub above_bottom : (kind : Kind) (hashes : List Hash) (parent : Option (List Hash)) (path : List ℕ) → length path ≤ 64
-    → fault_of (inner hashes) parent kind path ≡ None → length path < 64
-above_bottom kind hashes parent path within e =
-    let other : (length path ≡ 64) → ⊥ = eqb-false (length path) 64 (one_test (length path == 64) InnerAtBottom e) in
-    omega arith
 
 -- a form is another or the same
 pub same_or_not : (a : Option Bytes) (b : Bytes) → (a ≡ Some b) ⊎ (Some b ≢ a)
@@ -95,18 +78,6 @@ zeros (x ∷ h) e =
 
 pub zero_is : (h : Hash) → length h ≡ 32 → is_zero h ≡ true → h ≡ zero_hash
 zero_is h size e = zeros h e ∙ ap (λ n. Rattle.std.proofs.Common.replicate n 0) size
-
--- a leaf's key has 32 bytes
-pub key_size : (half : Half) (kind : Kind) (key bytes : Bytes) → IsHeld half (leaf kind key bytes) → length key ≡ 32
-key_size half State key bytes h = h.key_size
-key_size half Tx key bytes h = h.key_size
-key_size half Set key bytes h = h.0.key_size
-
--- each nibble is below 16
-pub below_at : (l : List ℕ) (i : ℕ) → IsTrue (list_all (λ n. nat_lt n 16) l) → i < length l → get_or l i 0 < 16
-below_at [] i all lt = omega arith
-below_at (x ∷ l) zero all lt = ltb-true x 16 (and_parts (nat_lt x 16) (list_all (λ n. nat_lt n 16) l) all).0
-below_at (x ∷ l) (suc i) all lt = below_at l i (and_parts (nat_lt x 16) (list_all (λ n. nat_lt n 16) l) all).1 (omega arith)
 
 -- what a node of the map at a path says of the hashes below it
 pub record Below (half : Half) (kind : Kind) (items : Items) (path : List ℕ) (b : ℕ) (hash : Hash) : Type 0 where

@@ -12,9 +12,10 @@ use Rattle.ledger_spec.specs.Forms.{Held, inner, leaf, IsHeld, inner_prefix, lea
 use Rattle.ledger_spec.specs.Rules.{fault_of}
 use Rattle.ledger_spec.specs.Tree.{Entry, AreItems, part, form_at, root_of, NoLeafAbove}
 use Rattle.ledger_spec.specs.Reads.{Stands, Shows, AreNodes}
-use Rattle.ledger_spec.proofs.Readings.{same_reading}
-use Rattle.tree_laws.proofs.Trees.{Sized, each_in_part, kid_hash, node_cases, leaf_no_inner, size_or_zero}
-use Rattle.tree_laws.proofs.Shapes.{above_bottom, same_or_not, zero_is, key_size, Below, branch_below, empty_part}
+use Rattle.ledger_spec.proofs.shared.Readings.{same_reading}
+use Rattle.tree_laws.proofs.shared.Trees.{Sized, each_in_part, kid_hash, node_cases, leaf_no_inner, size_or_zero}
+use Rattle.tree_laws.proofs.shared.Shapes.{above_bottom, key_size}
+use Rattle.tree_laws.proofs.Shapes.{same_or_not, zero_is, Below, branch_below, empty_part}
 
 list_all_push : (p : ℕ → Bool) (l : List ℕ) (b : ℕ) → IsTrue (list_all p l) → p b ≡ true → IsTrue (list_all p (l ++ b ∷ []))
 list_all_push p [] b all one = and_from (p b) true one refl

@@ -2,7 +2,7 @@ use Rattle.std.proofs.Common.{false, None, Ok, refl, subst}
 use Rattle.std.proofs.lemmas.Bool.{false≢true}
 use Rattle.path_proof.specs.declared.way.Progress.{Progress}
 use Rattle.path_proof.specs.Progressing.{Comes}
-use Rattle.path_proof.proofs.Walks.{fetched_as}
+use Rattle.path_proof.proofs.shared.Walks.{fetched_as}
 use Rattle.actor_pool.proofs.reading.go_down.Goals as goal
 
 -- a read that is at a root whose hash isn't zero is on its way

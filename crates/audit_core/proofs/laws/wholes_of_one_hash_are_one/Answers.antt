@@ -1,4 +1,4 @@
-use Rattle.audit_core.proofs.Twins.{wholes_are_one}
+use Rattle.audit_core.proofs.shared.Twins.{wholes_are_one}
 use Rattle.audit_core.proofs.laws.wholes_of_one_hash_are_one.Goals as goal
 
 pub returns : goal.returns

@@ -3,8 +3,8 @@ use Rattle.std.specs.Option.{option_map_or}
 use Rattle.std.specs.List.{filter}
 use Rattle.std.proofs.lemmas.List.{take_all}
 use Rattle.ledger_spec.specs.Bytes.{Hash, is_nonzero}
-use Rattle.ledger_spec.proofs.Hashes.{length-hashes_of}
-use Rattle.shamap_node.proofs.Branches.{whole}
+use Rattle.ledger_spec.proofs.shared.Hashes.{length-hashes_of}
+use Rattle.shamap_node.proofs.shared.Branches.{whole}
 use Rattle.copy_walk.proofs.kids.branches_of.Goals as goal
 
 -- all sixteen branches were looked at

@@ -2,7 +2,7 @@ use Rattle.std.proofs.Common.{refl, subst, ◌-◌, length}
 use Rattle.half_hash.specs.Half.{sha512_half}
 use Rattle.cow_map.specs.Edits.{SettlesAt}
 use Rattle.cow_map.specs.Gathered.{nothing_held}
-use Rattle.cow_map.proofs.Gathered.{nothing_sub}
+use Rattle.cow_map.proofs.shared.Gathered.{nothing_sub}
 use Rattle.cow_map.proofs.gathering.top_over.Goals as goal
 
 pub returns-in-Ok-clause-stands : goal.returns-in-Ok-clause-stands

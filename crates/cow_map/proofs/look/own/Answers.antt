@@ -8,7 +8,7 @@ use Rattle.cow_map.specs.Trees.{found_body}
 use Rattle.cow_map.specs.Looks.{Looks, IsPlaced}
 use Rattle.cow_map.specs.declared.look.Seen.TheVariants.{Inner}
 use Rattle.cow_map.proofs.Looking.{placed_inner}
-use Rattle.cow_map.proofs.Leading.{weaker}
+use Rattle.cow_map.proofs.shared.Leading.{weaker}
 use Rattle.cow_map.proofs.look.own.Goals as goal
 
 other : (n m : ℕ) → m ≡ n → (m ≡ 64 → ⊥) → (n == 64) ≡ false

@@ -3,7 +3,7 @@ use Rattle.ledger_spec.specs.Tree.{Entry}
 use Rattle.ledger_spec.specs.Maps.{hash_cmp, insert_in}
 use Rattle.cow_map.specs.Trees.{StandsAt}
 use Rattle.cow_map.proofs.Results.{ok_map}
-use Rattle.cow_map.proofs.Planting.{two_entries}
+use Rattle.cow_map.proofs.shared.Planting.{two_entries}
 use Rattle.cow_map.proofs.put.+split.Goals as goal
 
 -- both keys take this branch, so an inner node with it alone holds the two entries that stand below, which are enough

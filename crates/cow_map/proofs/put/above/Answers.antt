@@ -4,7 +4,7 @@ use Rattle.std.proofs.Common.{ℕ, length, List, sym, subst, slice_index_or, rep
 use Rattle.cow_map.specs.declared.link.Link.{Link}
 use Rattle.cow_map.specs.declared.link.Link.TheVariants.{Empty}
 use Rattle.cow_map.specs.Bodies.{IsBelow}
-use Rattle.cow_map.proofs.Planting.{below_set, none_below, above_done}
+use Rattle.cow_map.proofs.shared.Planting.{below_set, none_below, above_done}
 use Rattle.cow_map.proofs.Results.{ok_map}
 use Rattle.cow_map.proofs.put.above.Goals as goal
 

@@ -1,7 +1,7 @@
 use Rattle.std.proofs.Common.{◌∙◌, sym, subst, List, ◌-◌, length}
 use Rattle.ledger_spec.specs.Tree.{Entry}
 use Rattle.cow_map.specs.Trees.{StandsAt}
-use Rattle.cow_map.proofs.Planting.{leaf_done}
+use Rattle.cow_map.proofs.shared.Planting.{leaf_done}
 use Rattle.cow_map.proofs.Putting.{same_entry}
 use Rattle.cow_map.proofs.Results.{ok_map}
 use Rattle.cow_map.proofs.put.beside.Goals as goal

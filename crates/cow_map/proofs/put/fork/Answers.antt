@@ -3,7 +3,7 @@ use Rattle.std.specs.Prelude.{slice_set}
 use Rattle.cow_map.specs.declared.link.Link.{Link}
 use Rattle.cow_map.specs.declared.link.Link.TheVariants.{Own}
 use Rattle.cow_map.specs.Bodies.{Body, IsBelow}
-use Rattle.cow_map.proofs.Planting.{pair_below, pair_done}
+use Rattle.cow_map.proofs.shared.Planting.{pair_below, pair_done}
 use Rattle.cow_map.proofs.Results.{ok_map}
 use Rattle.cow_map.proofs.put.fork.Goals as goal
 

@@ -1,7 +1,7 @@
 use Rattle.std.proofs.Common.{◌≡◌, ℕ, length, List, [], ◌∷◌, ◌<◌, ◌≤◌, sym, subst, arith, ◌++◌, IsTrue}
 use Rattle.nib_path.specs.Paths.{lies_under}
 use Rattle.cow_map.specs.Trees.{fewest}
-use Rattle.cow_map.proofs.Planting.{leaf_done, more}
+use Rattle.cow_map.proofs.shared.Planting.{leaf_done, more}
 use Rattle.cow_map.proofs.Results.{ok_map}
 use Rattle.cow_map.proofs.put.plant.Goals as goal
 

@@ -9,7 +9,7 @@ use Rattle.cow_map.proofs.Adding.{front_faults, front_more, front_all, leaf_seal
 use Rattle.cow_map.specs.declared.link.Link.{Link}
 use Rattle.cow_map.specs.declared.link.Link.TheVariants.{Empty, Unloaded, Own}
 use Rattle.cow_map.specs.Bodies.{inner, IsBelow}
-use Rattle.cow_map.proofs.Leading.{weaker}
+use Rattle.cow_map.proofs.shared.Leading.{weaker}
 use Rattle.cow_map.proofs.seal.+sealing.Invariants.{place}
 use Rattle.cow_map.proofs.seal.+sealing.Goals as goal
 

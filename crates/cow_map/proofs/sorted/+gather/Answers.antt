@@ -5,7 +5,7 @@ use Rattle.cow_map.specs.declared.link.Link.{Link}
 use Rattle.cow_map.specs.declared.link.Link.TheVariants.{Empty}
 use Rattle.cow_map.specs.Bodies.{IsBelow}
 use Rattle.cow_map.specs.Taking.{ends_under}
-use Rattle.cow_map.proofs.Planting.{none_below}
+use Rattle.cow_map.proofs.shared.Planting.{none_below}
 use Rattle.cow_map.proofs.Results.{ok_map}
 use Rattle.cow_map.proofs.Taking.{halfway_none, halfway_more, inner_gathers, none_gathers, leaf_gathers, none_under}
 use Rattle.cow_map.proofs.Ends.{two_end}

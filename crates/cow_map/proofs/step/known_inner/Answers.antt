@@ -1,4 +1,4 @@
-use Rattle.cow_map.proofs.Keys.{differ_above}
+use Rattle.cow_map.proofs.shared.Keys.{differ_above}
 use Rattle.cow_map.proofs.step.known_inner.Goals as goal
 
 pub returns : goal.returns

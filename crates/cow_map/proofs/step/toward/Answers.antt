@@ -1,6 +1,6 @@
 use Rattle.std.proofs.Common.{ap, ◌∙◌}
 use Rattle.nib_path.specs.Paths.{nibble_of}
-use Rattle.cow_map.proofs.Keys.{under_branch}
+use Rattle.cow_map.proofs.shared.Keys.{under_branch}
 use Rattle.cow_map.proofs.step.toward.Goals as goal
 
 pub returns-clause-under : goal.returns-clause-under

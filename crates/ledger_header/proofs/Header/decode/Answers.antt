@@ -1,6 +1,7 @@
 -- a header's bytes are 118, and read as it alone
 use Rattle.std.proofs.Common.{Ok, ap}
-use Rattle.ledger_header.proofs.Joined.{parted, one_header, length-header_bytes}
+use Rattle.ledger_header.proofs.shared.Joined.{parted, length-header_bytes}
+use Rattle.ledger_header.proofs.Joined.{one_header}
 use Rattle.ledger_header.proofs.Header.decode.Goals as goal
 
 pub returns-then-bytes-ne118-clause-back : goal.returns-then-bytes-ne118-clause-back

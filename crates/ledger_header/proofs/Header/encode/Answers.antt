@@ -3,7 +3,8 @@ use Rattle.std.proofs.Common.{sym, ap, subst, arith, ◌∙◌}
 use Rattle.ledger_spec.specs.Header.{header_bytes, IsHeader}
 use Rattle.ledger_header.specs.declared.Header.{Header}
 use Rattle.ledger_header.specs.Fields.{fields}
-use Rattle.ledger_header.proofs.Joined.{written, parted}
+use Rattle.ledger_header.proofs.Joined.{written}
+use Rattle.ledger_header.proofs.shared.Joined.{parted}
 use Rattle.ledger_header.proofs.Header.encode.Goals as goal
 
 whole : goal.returns-clause-bytes

@@ -1,4 +1,4 @@
-use Rattle.ledger_laws.proofs.Throughout.{run_in_order}
+use Rattle.ledger_laws.proofs.shared.Throughout.{run_in_order}
 use Rattle.ledger_laws.proofs.laws.each_state_of_a_run_is_in_order.Goals as goal
 
 pub returns : goal.returns

@@ -1,4 +1,4 @@
-use Rattle.ledger_laws.proofs.Completeness.{retained_stored}
+use Rattle.ledger_laws.proofs.shared.Completeness.{retained_stored}
 use Rattle.ledger_laws.proofs.laws.nothing_of_a_retained_ledger_is_absent.Goals as goal
 
 pub returns : goal.returns

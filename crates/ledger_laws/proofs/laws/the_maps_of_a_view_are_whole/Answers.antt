@@ -1,4 +1,4 @@
-use Rattle.ledger_laws.proofs.WholeMaps.{view_map_whole}
+use Rattle.ledger_laws.proofs.shared.WholeMaps.{view_map_whole}
 use Rattle.ledger_laws.proofs.laws.the_maps_of_a_view_are_whole.Goals as goal
 
 pub returns : goal.returns

@@ -1,4 +1,4 @@
-use Rattle.ledger_searches.proofs.Running.{true_turned}
+use Rattle.ledger_searches.proofs.shared.Running.{true_turned}
 use Rattle.ledger_searches.proofs.laws.a_turn_keeps_them_true.Goals as goal
 
 pub returns : goal.returns

@@ -1,4 +1,4 @@
-use Rattle.ledger_searches.proofs.Running.{true_on}
+use Rattle.ledger_searches.proofs.shared.Running.{true_on}
 use Rattle.ledger_searches.proofs.laws.growth_keeps_them_true.Goals as goal
 
 pub returns : goal.returns

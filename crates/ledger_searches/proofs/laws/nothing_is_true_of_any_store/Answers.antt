@@ -1,4 +1,4 @@
-use Rattle.ledger_searches.proofs.Running.{true_of_nothing}
+use Rattle.ledger_searches.proofs.shared.Running.{true_of_nothing}
 use Rattle.ledger_searches.proofs.laws.nothing_is_true_of_any_store.Goals as goal
 
 pub returns : goal.returns

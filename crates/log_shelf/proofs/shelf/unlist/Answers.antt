@@ -1,7 +1,7 @@
 use Rattle.std.proofs.Common.{◌≡◌, ◌<◌, length, ℕ, List, IsTrue, sym, ◌∙◌, subst, rules}
 use Rattle.std.proofs.lemmas.Fn.{filter_same}
 use Rattle.node_backend.specs.Numbers.{is_among, without}
-use Rattle.node_backend.proofs.Lists.{without_less}
+use Rattle.node_backend.proofs.shared.Lists.{without_less}
 use Rattle.log_shelf.proofs.shelf.unlist.Goals as goal
 
 pub returns-clause-gone : goal.returns-clause-gone

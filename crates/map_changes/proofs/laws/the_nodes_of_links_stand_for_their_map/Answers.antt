@@ -1,6 +1,6 @@
 use Rattle.std.proofs.Common.{[], sym, subst}
 use Rattle.ledger_spec.specs.Bytes.{Items}
-use Rattle.cow_map.proofs.Filters.{part_root}
+use Rattle.cow_map.proofs.shared.Filters.{part_root}
 use Rattle.map_changes.specs.Trees.{StandsFor}
 use Rattle.map_changes.specs.Tracking.{node_at, kid_at, place_of}
 use Rattle.map_changes.proofs.Sharing.{share_law, entries_law}

@@ -1,4 +1,4 @@
-use Rattle.missing_walk.proofs.Growing.{rule_turns}
+use Rattle.missing_walk.proofs.shared.Growing.{rule_turns}
 use Rattle.missing_walk.proofs.laws.a_turn_keeps_the_rule.Goals as goal
 
 pub returns : goal.returns

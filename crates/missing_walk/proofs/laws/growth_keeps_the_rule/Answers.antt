@@ -1,4 +1,4 @@
-use Rattle.missing_walk.proofs.Growing.{rule_grows}
+use Rattle.missing_walk.proofs.shared.Growing.{rule_grows}
 use Rattle.missing_walk.proofs.laws.growth_keeps_the_rule.Goals as goal
 
 pub returns : goal.returns

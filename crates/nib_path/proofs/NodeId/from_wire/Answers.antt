@@ -1,6 +1,7 @@
 use Rattle.std.proofs.Common.{◌≡◌, length, ap, ◌∙◌, arith, length-take}
 use Rattle.nib_path.specs.Wire.{read_wire_id}
-use Rattle.nib_path.proofs.Reading.{read_wire_id-IfOk, read_wire_id-whole, length-id_wire, read_wire_id-id_wire}
+use Rattle.nib_path.proofs.Reading.{read_wire_id-IfOk, read_wire_id-whole}
+use Rattle.nib_path.proofs.shared.Reading.{length-id_wire, read_wire_id-id_wire}
 use Rattle.nib_path.proofs.NodeId.from_wire.Goals as goal
 
 pub returns-then-bytes-ne33-clause-back : goal.returns-then-bytes-ne33-clause-back

@@ -1,6 +1,6 @@
 use Rattle.std.proofs.Common.{ℕ, List, subst, arith}
 use Rattle.nib_path.specs.Paths.{IsPath, path_of, length-path_of, nibbles}
-use Rattle.nib_path.proofs.Nibbles.{list_all-take}
+use Rattle.nib_path.proofs.shared.Nibbles.{list_all-take}
 use Rattle.nib_path.proofs.NodeId.known.Goals as goal
 
 -- the path is the first nibbles of 32 bytes, at most 64, and each nibble is a half of a byte

@@ -1,4 +1,4 @@
-use Rattle.nib_path.proofs.Nibbles.{nibbles-below}
+use Rattle.nib_path.proofs.shared.Nibbles.{nibbles-below}
 use Rattle.nib_path.proofs.digits.known_small.Goals as goal
 
 pub returns : goal.returns

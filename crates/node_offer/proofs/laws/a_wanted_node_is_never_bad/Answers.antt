@@ -1,4 +1,4 @@
-use Rattle.node_offer.proofs.Wanted.{never_bad}
+use Rattle.node_offer.proofs.shared.Wanted.{never_bad}
 use Rattle.node_offer.proofs.laws.a_wanted_node_is_never_bad.Goals as goal
 
 pub returns : goal.returns

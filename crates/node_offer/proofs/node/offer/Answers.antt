@@ -2,11 +2,11 @@ use Rattle.std.proofs.Common.{rules, ◌∙◌, ap, refl, sym}
 use Rattle.std.specs.FinMap as map
 use Rattle.ledger_spec.specs.Forms.{IsHeld, form_of}
 use Rattle.ledger_spec.specs.Spots.{spot_of}
-use Rattle.ledger_spec.proofs.OfferLaws.{read_wire_held, ok_same}
-use Rattle.ledger_spec.proofs.Owning.{all_own}
+use Rattle.ledger_spec.proofs.shared.OfferLaws.{read_wire_held, ok_same}
+use Rattle.ledger_spec.proofs.shared.Owning.{all_own}
 use Rattle.shamap_node.specs.Nodes.{held}
 use Rattle.rotating_store.specs.Stores.{nodes_of}
-use Rattle.rotating_store.proofs.Reading.{stored_notes}
+use Rattle.rotating_store.proofs.shared.Reading.{stored_notes}
 use Rattle.node_offer.specs.Ways.{spot}
 use Rattle.node_offer.proofs.Notes.{held_back}
 use Rattle.node_offer.proofs.Outcomes.{no_cause, rule_there}

@@ -7,7 +7,7 @@ use Rattle.ledger_spec.specs.Own.{own_forms}
 use Rattle.ledger_spec.specs.Spots as way
 use Rattle.ledger_spec.specs.Spots.{spot_from, header_in, header_root}
 use Rattle.rotating_store.specs.Stores.{nodes_of}
-use Rattle.rotating_store.proofs.Reading.{same_nodes}
+use Rattle.rotating_store.proofs.shared.Reading.{same_nodes}
 use Rattle.node_offer.proofs.spots.place.Goals as goal
 
 below_is : (nodes : Lookup) (kind : Kind) (path : List ℕ) (o : Option Bytes)

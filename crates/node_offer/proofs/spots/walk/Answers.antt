@@ -7,7 +7,7 @@ use Rattle.ledger_spec.specs.Spots.{spot_from}
 use Rattle.std.specs.FinMap as map
 use Rattle.ledger_spec.specs.Own.{own_forms}
 use Rattle.rotating_store.specs.Stores.{nodes_of}
-use Rattle.rotating_store.proofs.Reading.{same_nodes, read_then}
+use Rattle.rotating_store.proofs.shared.Reading.{same_nodes, read_then}
 use Rattle.node_offer.proofs.Walking.{goes_on, ends, step_at}
 use Rattle.node_offer.proofs.spots.walk.Goals as goal
 

@@ -1,7 +1,7 @@
 use Rattle.std.proofs.Common.{◌<◌, ◌++◌, take, length, ap, sym, ◌∙◌, arith}
 use Rattle.std.specs.List.{concat}
 use Rattle.half_hash.specs.Zero.{zero_hash}
-use Rattle.ledger_spec.proofs.Hashes.{concat_more}
+use Rattle.ledger_spec.proofs.shared.Hashes.{concat_more}
 use Rattle.node_wire.proofs.writing.full.Goals as goal
 
 -- the next branch's hash comes behind those of the branches before it

@@ -1,5 +1,6 @@
 -- all that is reached is in the writable backend, which a swap leaves
-use Rattle.online_rotate.proofs.Rotating.{on_err, strode_some, strode_walks, some_alike, walking_alike, drained_rotated}
+use Rattle.online_rotate.proofs.Rotating.{on_err, strode_some, strode_walks, some_alike, drained_rotated}
+use Rattle.online_rotate.proofs.shared.Rotating.{walking_alike}
 use Rattle.std.proofs.Common.{◌≡◌, OnOk, rules, ap, ◌∙◌}
 use Rattle.rotating_store.specs.Stores.{Store}
 use Rattle.online_rotate.proofs.Rotating.{swapped_rest, swapped_notes}

@@ -2,7 +2,7 @@ use Rattle.std.proofs.Common.{◌≡◌, Option, Some, Ok, Err, sym, ap, ◌∙�
 use Rattle.std.specs.Option.{option_map}
 use Rattle.std.proofs.lemmas.Result.{IfOk-weaker, IfErr-weaker}
 use Rattle.json.specs.Value.{value_view as view}
-use Rattle.audit_core.proofs.Underway.{kept_some}
+use Rattle.audit_core.proofs.shared.Underway.{kept_some}
 use Rattle.page_audit.specs.Documents.{document}
 use Rattle.page_audit.specs.Pages.{Paged, after_page}
 use Rattle.page_audit.specs.Keeping.{KeepsPages}

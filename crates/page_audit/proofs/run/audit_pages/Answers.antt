@@ -7,7 +7,7 @@ use Rattle.page_audit.specs.Keeping.{KeepsPages}
 use Rattle.audit_core.specs.declared.answer.Answer.{Answer}
 use Rattle.audit_core.specs.declared.answer.Answer.TheVariants.{Refused}
 use Rattle.page_audit.specs.Pages.{page_most, after_page, Comes, IsPagesAnswer}
-use Rattle.audit_core.proofs.Underway.{goes_on, refuses, ends, too_long}
+use Rattle.audit_core.proofs.shared.Underway.{goes_on, refuses, ends, too_long}
 use Rattle.page_audit.proofs.run.audit_pages.Goals as goal
 
 pub returns-in-End-clause-answer : goal.returns-in-End-clause-answer

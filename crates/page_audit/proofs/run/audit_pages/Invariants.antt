@@ -1,7 +1,7 @@
 use Rattle.std.proofs.Common.{◌≤◌, IfSome}
 use Rattle.line_feed.specs.Feeding.{waiting}
 use Rattle.page_audit.specs.Keeping.{KeepsPages}
-use Rattle.audit_core.proofs.Underway.{Underway}
+use Rattle.audit_core.proofs.shared.Underway.{Underway}
 use Rattle.page_audit.specs.Pages.{page_most, after_page, Comes}
 use Rattle.audit_core.specs.declared.answer.Answer.TheVariants.{Refused}
 use Rattle.page_audit.proofs.run.audit_pages.Given as goal

@@ -2,8 +2,8 @@ use Rattle.std.proofs.Common.{◌≡◌, sym, ◌∙◌, [], length, subst, Opti
 use Rattle.std.proofs.lemmas.Bool.{eqb-true}
 use Rattle.ledger_spec.specs.Bytes.{Bytes}
 use Rattle.audit_core.specs.Runs.{Ends}
-use Rattle.audit_core.proofs.Cuts.{none_left}
-use Rattle.audit_core.proofs.Underway.{kept_some}
+use Rattle.audit_core.proofs.shared.Cuts.{none_left}
+use Rattle.audit_core.proofs.shared.Underway.{kept_some}
 use Rattle.page_audit.specs.Keeping.{KeepsPages}
 use Rattle.page_audit.specs.Pages.{Paged, page_most, after_page, Comes}
 use Rattle.audit_core.specs.declared.answer.Answer.TheVariants.{Refused}

@@ -7,7 +7,7 @@ use Rattle.path_audit.specs.Keeping.{KeepsNodes}
 use Rattle.path_audit.specs.declared.answer.PathAnswer.{PathAnswer}
 use Rattle.path_audit.specs.declared.answer.PathAnswer.TheVariants.{Refused}
 use Rattle.path_audit.specs.Paths.{path_most, after_node, Comes, IsPathAnswer}
-use Rattle.audit_core.proofs.Underway.{goes_on, refuses, ends, too_long}
+use Rattle.audit_core.proofs.shared.Underway.{goes_on, refuses, ends, too_long}
 use Rattle.std.proofs.lemmas.Result.{IfOk-weaker}
 use Rattle.path_audit.proofs.run.audit_path.Goals as goal
 

@@ -1,7 +1,7 @@
 use Rattle.std.proofs.Common.{◌≤◌, IfSome}
 use Rattle.line_feed.specs.Feeding.{waiting}
 use Rattle.path_audit.specs.Keeping.{KeepsNodes}
-use Rattle.audit_core.proofs.Underway.{Underway}
+use Rattle.audit_core.proofs.shared.Underway.{Underway}
 use Rattle.path_audit.specs.Paths.{path_most, after_node, Comes}
 use Rattle.path_audit.specs.declared.answer.PathAnswer.TheVariants.{Refused}
 use Rattle.path_audit.proofs.run.audit_path.Given as goal

@@ -2,7 +2,7 @@ use Rattle.std.proofs.Common.{Ok, refl, sym, ap, subst, ◌∙◌, arith}
 use Rattle.std.specs.FinMap as map
 use Rattle.path_proof.specs.declared.way.Progress.{Progress}
 use Rattle.path_proof.specs.Progressing.{Comes}
-use Rattle.path_proof.proofs.Walks.{fetched_as}
+use Rattle.path_proof.proofs.shared.Walks.{fetched_as}
 use Rattle.path_proof.proofs.reading.read_path.Goals as goal
 
 -- a read that is at a root whose hash isn't zero is on its way

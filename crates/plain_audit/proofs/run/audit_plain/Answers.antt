@@ -8,7 +8,7 @@ use Rattle.plain_audit.specs.Lines.{line_most, after_line}
 use Rattle.audit_core.specs.declared.answer.Answer.{Answer}
 use Rattle.audit_core.specs.declared.answer.Answer.TheVariants.{Refused}
 use Rattle.plain_audit.specs.Answers.{Comes, IsAnswer}
-use Rattle.audit_core.proofs.Underway.{goes_on, refuses, ends, too_long}
+use Rattle.audit_core.proofs.shared.Underway.{goes_on, refuses, ends, too_long}
 use Rattle.plain_audit.proofs.run.audit_plain.Goals as goal
 
 pub returns-in-End-clause-answer : goal.returns-in-End-clause-answer

@@ -1,7 +1,7 @@
 use Rattle.std.proofs.Common.{◌≤◌, IfSome}
 use Rattle.line_feed.specs.Feeding.{waiting}
 use Rattle.audit_core.specs.Keeping.{Keeps}
-use Rattle.audit_core.proofs.Underway.{Underway}
+use Rattle.audit_core.proofs.shared.Underway.{Underway}
 use Rattle.plain_audit.specs.Lines.{line_most, after_line}
 use Rattle.plain_audit.specs.Answers.{Comes}
 use Rattle.audit_core.specs.declared.answer.Answer.TheVariants.{Refused}

@@ -6,8 +6,8 @@ use Rattle.audit_core.specs.Runs.{Ends}
 use Rattle.audit_core.specs.Keeping.{Keeps}
 use Rattle.plain_audit.specs.Lines.{line_most, after_line}
 use Rattle.plain_audit.specs.Answers.{Comes}
-use Rattle.audit_core.proofs.Cuts.{none_left}
-use Rattle.audit_core.proofs.Underway.{kept_some}
+use Rattle.audit_core.proofs.shared.Cuts.{none_left}
+use Rattle.audit_core.proofs.shared.Underway.{kept_some}
 use Rattle.audit_core.specs.declared.answer.Answer.TheVariants.{Refused}
 use Rattle.plain_audit.proofs.run.ended.Goals as goal
 

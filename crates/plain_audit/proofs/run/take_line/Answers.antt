@@ -3,7 +3,7 @@ use Rattle.std.proofs.lemmas.Result.{IfErr-weaker}
 use Rattle.audit_core.specs.Said.{Said}
 use Rattle.plain_audit.specs.Lines.{after_line}
 use Rattle.audit_core.specs.Keeping.{Keeps}
-use Rattle.audit_core.proofs.Underway.{kept_some, kept_none}
+use Rattle.audit_core.proofs.shared.Underway.{kept_some, kept_none}
 use Rattle.plain_audit.proofs.run.take_line.Goals as goal
 
 pub returns-in-Some-clause-cause : goal.returns-in-Some-clause-cause

@@ -1,7 +1,7 @@
 use Rattle.std.proofs.Common.{arith, refl, ◌≡◌, ◌≤◌, ◌<◌, ◌+◌, ◌-◌, ◌*◌, ◌∙◌, length, drop, length-take, length-drop}
 use Rattle.std.proofs.lemmas.List.{get_or_default}
 use Rattle.ledger_spec.specs.Bytes.{zero_hash}
-use Rattle.ledger_spec.proofs.Hashes.{write_step, write_all, write_size}
+use Rattle.ledger_spec.proofs.shared.Hashes.{write_step, write_all, write_size}
 use Rattle.root_pass.proofs.forms.body_of.Goals as goal
 
 -- a hash has 32 bytes, so the next one is written just where the hashes before it end

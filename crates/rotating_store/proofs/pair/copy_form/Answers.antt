@@ -1,5 +1,5 @@
 use Rattle.std.proofs.Common.{sym, ◌∙◌}
-use Rattle.rotating_store.proofs.Merging.{found_first, found_second}
+use Rattle.rotating_store.proofs.shared.Merging.{found_first, found_second}
 use Rattle.rotating_store.proofs.pair.copy_form.Goals as goal
 
 pub returns-in-Some-clause-form : goal.returns-in-Some-clause-form

@@ -1,4 +1,4 @@
-use Rattle.rotating_store.proofs.Merging.{found_first, found_second}
+use Rattle.rotating_store.proofs.shared.Merging.{found_first, found_second}
 use Rattle.rotating_store.proofs.pair.get_either.Goals as goal
 
 pub returns-in-Some-clause-found : goal.returns-in-Some-clause-found

@@ -1,7 +1,8 @@
 use Rattle.std.proofs.Common.{arith}
 use Rattle.std.proofs.lemmas.List.{append-nil, length-take}
 use Rattle.std.proofs.lemmas.Result.{err_from_is_err_and}
-use Rattle.run_io.proofs.Bytes.{reading_start, reading_step, reading_full, reading_ended, rose_later, took_ended, took_full, took_part}
+use Rattle.run_io.proofs.Bytes.{reading_start, reading_step, reading_full, reading_ended, took_ended, took_full, took_part}
+use Rattle.run_io.proofs.shared.Bytes.{rose_later}
 use Rattle.run_io.proofs.io.read_all.Goals as goal
 
 -- nothing was read yet, so nothing is held and the whole input is left

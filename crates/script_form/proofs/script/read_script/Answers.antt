@@ -1,5 +1,5 @@
 use Rattle.std.proofs.Common.{◌≤◌, List, ℕ, length, subst}
-use Rattle.run_io.proofs.Bytes.{took_at_most}
+use Rattle.run_io.proofs.shared.Bytes.{took_at_most}
 use Rattle.script_form.specs.Causes.{most_bytes}
 use Rattle.script_form.proofs.Scripts.{ended_at}
 use Rattle.script_form.proofs.script.read_script.Goals as goal

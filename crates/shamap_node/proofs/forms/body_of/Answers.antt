@@ -1,5 +1,5 @@
 use Rattle.std.proofs.Common.{arith, refl, ◌≡◌, ◌≤◌, ◌+◌, ◌-◌, ◌*◌, ◌∙◌, length, drop, length-take, length-drop}
-use Rattle.ledger_spec.proofs.Hashes.{write_step, write_all, write_size}
+use Rattle.ledger_spec.proofs.shared.Hashes.{write_step, write_all, write_size}
 use Rattle.shamap_node.proofs.forms.body_of.Goals as goal
 
 -- a hash has 32 bytes, so the next one is written just where the hashes before it end

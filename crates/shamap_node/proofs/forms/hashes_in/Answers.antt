@@ -1,5 +1,5 @@
 use Rattle.std.proofs.Common.{arith, ◌≡◌, ◌<◌, length, length-set, ◌∙◌}
-use Rattle.ledger_spec.proofs.Hashes.{read_step, left_step, read_all}
+use Rattle.ledger_spec.proofs.shared.Hashes.{read_step, left_step, read_all}
 use Rattle.shamap_node.proofs.forms.hashes_in.Goals as goal
 
 -- the next 32 bytes become the next hash, and the rest begins right behind them

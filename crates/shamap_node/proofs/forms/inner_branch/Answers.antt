@@ -1,5 +1,6 @@
 use Rattle.std.proofs.Common.{◌+◌, ◌*◌, arith}
-use Rattle.shamap_node.proofs.Branches.{whole, branch_is}
+use Rattle.shamap_node.proofs.shared.Branches.{whole}
+use Rattle.shamap_node.proofs.Branches.{branch_is}
 use Rattle.shamap_node.proofs.forms.inner_branch.Goals as goal
 
 pub hash_at-requires : goal.hash_at-requires

@@ -1,5 +1,5 @@
 use Rattle.std.proofs.Common.{sym, ◌∙◌}
-use Rattle.ledger_spec.proofs.Inners.{not_inner_length, not_inner_prefix}
+use Rattle.ledger_spec.proofs.shared.Inners.{not_inner_length, not_inner_prefix}
 use Rattle.shamap_node.proofs.Inners.{made}
 use Rattle.shamap_node.proofs.forms.inner_of.Goals as goal
 use Rattle.shamap_node.proofs.forms.inner_of.Goals.{then-form-ne516-via-then-form-ne516}

@@ -1,6 +1,6 @@
 use Rattle.std.proofs.Common.{sym, ap, ◌∙◌}
 use Rattle.std.specs.Option.{is_some}
-use Rattle.ledger_spec.proofs.Inners.{not_inner_length, not_inner_prefix}
+use Rattle.ledger_spec.proofs.shared.Inners.{not_inner_length, not_inner_prefix}
 use Rattle.shamap_node.proofs.Branches.{seen}
 use Rattle.shamap_node.proofs.forms.is_inner_form.Goals as goal
 use Rattle.shamap_node.proofs.forms.is_inner_form.Goals.{then-form-ne516-via-then-form-ne516}

@@ -1,5 +1,5 @@
-use Rattle.ledger_spec.proofs.Readings.{same_reading}
-use Rattle.shamap_node.proofs.Seen.{held_by_form}
+use Rattle.ledger_spec.proofs.shared.Readings.{same_reading}
+use Rattle.shamap_node.proofs.shared.Seen.{held_by_form}
 use Rattle.shamap_node.proofs.forms.one_form.Goals as goal
 
 pub returns-clause-one : goal.returns-clause-one

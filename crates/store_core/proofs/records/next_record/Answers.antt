@@ -4,7 +4,7 @@ use Rattle.std.specs.Option.{option_copied}
 use Rattle.ledger_spec.specs.Bytes.{Nodes}
 use Rattle.ledger_spec.specs.Own.{own_forms}
 use Rattle.node_backend.specs.Order.{IsNext}
-use Rattle.rotating_store.proofs.Reading.{read_then, same_nodes, stored_notes}
+use Rattle.rotating_store.proofs.shared.Reading.{read_then, same_nodes, stored_notes}
 use Rattle.rotating_store.specs.Stores.{nodes_of}
 use Rattle.store_core.proofs.Numbering.{left_falls, follows_then}
 use Rattle.store_core.proofs.Dumps.{no_next, next_is, next_some, next_from, follows_of}

@@ -1,5 +1,5 @@
 use Rattle.std.proofs.Common.{◌<◌, length, sym, arith}
-use Rattle.rotating_store.proofs.Reading.{later_same, later_then}
+use Rattle.rotating_store.proofs.shared.Reading.{later_same, later_then}
 use Rattle.store_core.proofs.Putting.{none_put, none_held, held_more, held_maybe, next_absent, one_put}
 use Rattle.store_core.proofs.records.put_records.Goals as goal
 

@@ -1,6 +1,6 @@
 use Rattle.std.proofs.Common.{refl, ap, ◌∙◌, ◌++◌, subst}
 use Rattle.run_io.specs.Bytes.{Wrote}
-use Rattle.run_io.proofs.Bytes.{wrote_nothing, wrote_front, wrote_part, wrote_more}
+use Rattle.run_io.proofs.shared.Bytes.{wrote_nothing, wrote_front, wrote_part, wrote_more}
 use Rattle.journal_text.specs.Text.{summary_text}
 use Rattle.top_call.specs.Output.{entry_lines}
 use Rattle.top_call.proofs.Printed.{prefix_self, on_err}

@@ -1,6 +1,6 @@
 use Rattle.std.proofs.Common.{◌<◌, ◌≤◌, length, ◌∙◌, ap, arith, subst}
 use Rattle.run_io.specs.Bytes.{Wrote, WrotePart}
-use Rattle.run_io.proofs.Bytes.{wrote_part, wrote_more}
+use Rattle.run_io.proofs.shared.Bytes.{wrote_part, wrote_more}
 use Rattle.top_call.proofs.Printed.{printed_with, printed_more, printed_all, not_quiet, same_item, on_err}
 use Rattle.top_call.proofs.printing.print_entries.Goals as goal
 

@@ -1,6 +1,6 @@
 -- memory was wanted, so there is no last line
 use Rattle.std.proofs.Common.{refl}
-use Rattle.run_io.proofs.Bytes.{wrote_front}
+use Rattle.run_io.proofs.shared.Bytes.{wrote_front}
 use Rattle.top_call.specs.Stopping.{stopped_text}
 use Rattle.top_call.proofs.Again.{failed_stop, part_of_run, wanted_stop}
 use Rattle.top_call.proofs.stop.print_alone.Goals as goal

@@ -1,6 +1,6 @@
 -- the run's text, and the last line behind it
 use Rattle.std.proofs.Common.{inl, refl}
-use Rattle.run_io.proofs.Bytes.{rose_later, wrote_front, wrote_more, wrote_part}
+use Rattle.run_io.proofs.shared.Bytes.{rose_later, wrote_front, wrote_more, wrote_part}
 use Rattle.top_call.proofs.Again.{failed_stop, part_of_run, wanted_stop}
 use Rattle.top_call.proofs.Printed.{prefix_self}
 use Rattle.top_call.proofs.stop.print_stop.Goals as goal

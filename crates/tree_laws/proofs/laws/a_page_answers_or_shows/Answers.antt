@@ -1,4 +1,4 @@
-use Rattle.tree_laws.proofs.MapPages.{page_or_shows}
+use Rattle.tree_laws.proofs.shared.MapPages.{page_or_shows}
 use Rattle.tree_laws.proofs.laws.a_page_answers_or_shows.Goals as goal
 
 pub returns : goal.returns

@@ -1,4 +1,4 @@
-use Rattle.tree_laws.proofs.StorePages.{page_of_store}
+use Rattle.tree_laws.proofs.shared.StorePages.{page_of_store}
 use Rattle.tree_laws.proofs.laws.a_page_is_the_stores.Goals as goal
 
 pub returns : goal.returns

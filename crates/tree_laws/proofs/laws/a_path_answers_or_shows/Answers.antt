@@ -1,4 +1,4 @@
-use Rattle.tree_laws.proofs.PathLaw.{answers_or_shows}
+use Rattle.tree_laws.proofs.shared.PathLaw.{answers_or_shows}
 use Rattle.tree_laws.proofs.laws.a_path_answers_or_shows.Goals as goal
 
 pub returns : goal.returns

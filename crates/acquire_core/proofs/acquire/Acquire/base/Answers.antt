@@ -6,7 +6,7 @@ use Rattle.acquire_core.specs.Answers.{forms_in}
 use Rattle.acquire_core.specs.Parts.{shown}
 use Rattle.acquire_core.proofs.Judging.{handed}
 use Rattle.acquire_core.proofs.Replying.{base_answers, base_refused}
-use Rattle.acquire_core.proofs.Wanting.{stays}
+use Rattle.acquire_core.proofs.shared.Wanting.{stays}
 use Rattle.acquire_core.proofs.acquire.Acquire.base.Goals as goal
 
 -- parts that have the wanted hashes have no bad outcome, so none of the three charges falls on the peer

@@ -1,7 +1,7 @@
 use Rattle.std.proofs.Common.{◌∙◌, ap, sym}
 use Rattle.ledger_spec.specs.Bytes.{Hash}
 use Rattle.audit_core.specs.declared.cause.Cause.TheVariants as causes
-use Rattle.audit_core.proofs.Behind.{behind_true, behind_false, last_key_is, counted_more}
+use Rattle.audit_core.proofs.shared.Behind.{behind_true, behind_false, last_key_is, counted_more}
 use Rattle.audit_core.proofs.counting.Counting.add.Goals as goal
 
 pub returns-in-Ok-clause-ok : goal.returns-in-Ok-clause-ok

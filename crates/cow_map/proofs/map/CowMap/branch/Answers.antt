@@ -2,7 +2,7 @@ use Rattle.std.proofs.Common.{◌∙◌, ◌<◌, ap, subst, length, Some, slice
 use Rattle.cow_map.specs.declared.link.Link.TheVariants.{Empty}
 use Rattle.cow_map.specs.Bodies.{inner, CowTree, IsBelow}
 use Rattle.cow_map.specs.Shown.{body_of}
-use Rattle.cow_map.proofs.Leading.{weaker}
+use Rattle.cow_map.proofs.shared.Leading.{weaker}
 use Rattle.cow_map.proofs.map.CowMap.branch.Goals as goal
 
 -- the links of a node name lower places

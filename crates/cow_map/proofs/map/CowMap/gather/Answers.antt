@@ -3,7 +3,7 @@ use Rattle.std.specs.List.{flat_map}
 use Rattle.half_hash.specs.Half.{sha512_half}
 use Rattle.ledger_spec.specs.Bytes.{branches}
 use Rattle.cow_map.specs.Bodies.{CowTree}
-use Rattle.cow_map.proofs.Gathered.{stands_anywhere}
+use Rattle.cow_map.proofs.shared.Gathered.{stands_anywhere}
 use Rattle.cow_map.proofs.Putting.{changed_below}
 use Rattle.cow_map.proofs.Shifting.{get_told, gathered_more}
 use Rattle.cow_map.proofs.map.CowMap.gather.Goals as goal

@@ -1,5 +1,5 @@
 use Rattle.std.proofs.Common.{[]}
-use Rattle.cow_map.proofs.Planting.{empty_stands}
+use Rattle.cow_map.proofs.shared.Planting.{empty_stands}
 use Rattle.cow_map.proofs.map.CowMap.new.Goals as goal
 
 pub returns-clause-stands : goal.returns-clause-stands

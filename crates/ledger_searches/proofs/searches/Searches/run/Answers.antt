@@ -1,7 +1,7 @@
 -- a slice goes on within its generation, and the last one ends the search
 use Rattle.std.proofs.Common.{◌≡◌, ◌≤◌, false, sym, ap, ◌∙◌, subst, arith}
 use Rattle.ledger_spec.specs.Bytes.{Hash}
-use Rattle.rotating_store.proofs.Reading.{read_then}
+use Rattle.rotating_store.proofs.shared.Reading.{read_then}
 use Rattle.missing_walk.specs.declared.search.Search.{Search}
 use Rattle.missing_walk.specs.declared.search.Slice.{Slice}
 use Rattle.missing_walk.specs.Ends.{IsClean, AreRootsMarked}
@@ -9,7 +9,7 @@ use Rattle.missing_walk.specs.Moves.{has_ended}
 use Rattle.missing_walk.specs.Passes.{HasMarkedRoots, IsDone}
 use Rattle.missing_walk.specs.Searching.{OnDone, OnMore}
 use Rattle.missing_walk.specs.Sees.{Finds}
-use Rattle.missing_walk.proofs.Seeing.{tells_after}
+use Rattle.missing_walk.proofs.shared.Seeing.{tells_after}
 use Rattle.ledger_searches.specs.declared.searches.Searches.{Searches}
 use Rattle.ledger_searches.proofs.Running.{true_beside, present_on, few_left, roots_marked}
 use Rattle.ledger_searches.proofs.searches.Searches.run.Goals as goal

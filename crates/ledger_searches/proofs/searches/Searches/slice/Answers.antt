@@ -7,11 +7,12 @@ use Rattle.missing_walk.specs.Ends.{IsClean, AreRootsMarked}
 use Rattle.missing_walk.specs.Rests as rests
 use Rattle.missing_walk.specs.Searching.{IsStale, OnDone, OnMore, Rule, stale_in}
 use Rattle.missing_walk.specs.Sees.{Finds}
-use Rattle.missing_walk.proofs.Seeing.{tells_after}
+use Rattle.missing_walk.proofs.shared.Seeing.{tells_after}
 use Rattle.ledger_searches.specs.Hunting.{hunt_of}
 use Rattle.ledger_searches.specs.Sharing.{AreTrueOf}
 use Rattle.ledger_searches.proofs.TakingUp.{goes_anew, goes_on, kept_there, others_kept, rule_up, taken_target}
-use Rattle.ledger_searches.proofs.Running.{roots_marked, true_beside, true_forgot, true_set}
+use Rattle.ledger_searches.proofs.Running.{roots_marked, true_beside, true_set}
+use Rattle.ledger_searches.proofs.shared.Running.{true_forgot}
 use Rattle.ledger_searches.proofs.searches.Searches.slice.Goals as goal
 
 -- marks, cache and the searches of the others

@@ -1,5 +1,5 @@
 use Rattle.std.proofs.Common.{sym, ◌∙◌}
-use Rattle.node_backend.proofs.Tables.{get_entries}
+use Rattle.node_backend.proofs.shared.Tables.{get_entries}
 use Rattle.log_shelf.proofs.index.Index.get.Goals as goal
 
 pub returns : goal.returns

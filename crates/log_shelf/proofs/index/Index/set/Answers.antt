@@ -1,5 +1,5 @@
 use Rattle.std.proofs.Common.{sym, ◌∙◌}
-use Rattle.node_backend.proofs.Tables.{get_entries, insert_entries}
+use Rattle.node_backend.proofs.shared.Tables.{get_entries, insert_entries}
 use Rattle.log_shelf.proofs.index.Index.set.Goals as goal
 
 pub returns-clause-before : goal.returns-clause-before

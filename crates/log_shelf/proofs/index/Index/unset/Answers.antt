@@ -1,7 +1,7 @@
 use Rattle.std.proofs.Common.{◌≡◌, Some, sym, ap, ◌∙◌}
 use Rattle.std.specs.FinMap as map
 use Rattle.log_shelf.specs.Places.{Places}
-use Rattle.node_backend.proofs.Tables.{get_entries, insert_entries}
+use Rattle.node_backend.proofs.shared.Tables.{get_entries, insert_entries}
 use Rattle.log_shelf.proofs.Indexes.{remove_entries, insert-back, remove-back, get-set, ok_facts}
 use Rattle.log_shelf.proofs.index.Index.unset.Goals as goal
 

@@ -1,4 +1,4 @@
-use Rattle.node_backend.proofs.Tables.{insert_entries}
+use Rattle.node_backend.proofs.shared.Tables.{insert_entries}
 use Rattle.log_shelf.proofs.recover.Found.set.Goals as goal
 
 pub returns-clause-ok : goal.returns-clause-ok

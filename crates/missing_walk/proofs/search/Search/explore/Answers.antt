@@ -7,7 +7,7 @@ use Rattle.std.proofs.lemmas.Result.{err_from_is_err_and}
 use Rattle.missing_walk.proofs.Passing.{idle_from, none_done}
 use Rattle.std.proofs.Common.{◌≡◌, ◌≤◌, false, length, rules}
 use Rattle.missing_walk.specs.Rests.{weight, stored_weight, most_from, most_again}
-use Rattle.missing_walk.proofs.Heeding.{goes_on}
+use Rattle.missing_walk.proofs.shared.Heeding.{goes_on}
 use Rattle.missing_walk.proofs.Weights.{stored_again, noted_again}
 use Rattle.missing_walk.proofs.Loads.{fewer_left}
 use Rattle.missing_walk.proofs.search.Search.explore.Goals as goal

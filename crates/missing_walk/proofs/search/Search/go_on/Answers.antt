@@ -1,7 +1,7 @@
 use Rattle.std.proofs.Common.{IfSome, Option, subst}
 use Rattle.missing_walk.specs.declared.Found.{Found}
 use Rattle.missing_walk.specs.Sees.{Finds}
-use Rattle.missing_walk.proofs.Seeing.{tells_after}
+use Rattle.missing_walk.proofs.shared.Seeing.{tells_after}
 use Rattle.std.proofs.Common.{◌≡◌, true, is_some, sym, arith}
 use Rattle.std.proofs.lemmas.Result.{err_from_is_err_and}
 use Rattle.ledger_spec.specs.Bytes.{Hash}

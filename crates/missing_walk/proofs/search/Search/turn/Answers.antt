@@ -8,7 +8,8 @@ use Rattle.missing_walk.proofs.Loads.{top_nonzero}
 use Rattle.missing_walk.specs.Moves.{Heeds}
 use Rattle.missing_walk.proofs.Stacking.{length_stacked, EndsIn, last_is}
 use Rattle.missing_walk.proofs.Seeing.{fewer_marked}
-use Rattle.missing_walk.proofs.Heeding.{goes_on, inside_of_going, inside_same, within_around, going_on}
+use Rattle.missing_walk.proofs.shared.Heeding.{goes_on}
+use Rattle.missing_walk.proofs.Heeding.{inside_of_going, inside_same, within_around, going_on}
 use Rattle.std.proofs.Common.{true, subst}
 use Rattle.full_below.specs.Marking.{is_marked}
 use Rattle.missing_walk.specs.Passes.{StillMarked}

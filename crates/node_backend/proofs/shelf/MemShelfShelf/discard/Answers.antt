@@ -1,6 +1,6 @@
 use Rattle.std.proofs.Common.{sym, ◌∙◌}
 use Rattle.std.specs.Vec.{vec_capacity}
-use Rattle.node_backend.proofs.Lists.{left_over, moved_over}
+use Rattle.node_backend.proofs.shared.Lists.{left_over, moved_over}
 use Rattle.node_backend.proofs.shelf.MemShelfShelf.discard.Goals as goal
 
 pub invariant_of-self : goal.invariant_of-self

@@ -1,4 +1,4 @@
-use Rattle.node_backend.proofs.Lists.{listed_all}
+use Rattle.node_backend.proofs.shared.Lists.{listed_all}
 use Rattle.node_backend.proofs.shelf.MemShelfShelf.fresh.Goals as goal
 
 -- the new number is one above all that were handed out, and its room among those whose discard fails was reserved

@@ -2,7 +2,8 @@
 use Rattle.std.proofs.Common.{◌≡◌, [], OnOk, rules, subst}
 use Rattle.copy_walk.specs.Walks.{Walk}
 use Rattle.online_rotate.specs.Copying.{IsWalking, Rotated, OnlyReachedOrBorn}
-use Rattle.online_rotate.proofs.Rotating.{walk_is, on_err, fit_on, only_born}
+use Rattle.online_rotate.proofs.Rotating.{walk_is, on_err, only_born}
+use Rattle.online_rotate.proofs.shared.Rotating.{fit_on}
 use Rattle.online_rotate.proofs.rotator.Rotator.finish.Goals as goal
 
 pub returns-in_err-rotate-clause-nodes : goal.returns-in_err-rotate-clause-nodes

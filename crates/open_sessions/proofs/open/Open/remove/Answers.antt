@@ -1,5 +1,5 @@
 use Rattle.std.proofs.Common.{sym, ap, ◌∙◌, refl, Some, Bool, IsTrue, Ok, Err}
-use Rattle.open_sessions.proofs.Tables.{not_both, on_err, set_same}
+use Rattle.open_sessions.proofs.shared.Tables.{not_both, on_err, set_same}
 use Rattle.std.specs.FinMap as finite
 use Rattle.ledger_spec.specs.Bytes.{Lookup}
 use Rattle.ledger_spec.specs.Maps.{ForActor, numbered_cmp, get_in, set_in}

@@ -1,5 +1,5 @@
 use Rattle.std.proofs.Common.{sym, ◌∙◌}
-use Rattle.open_sessions.proofs.Tables.{on_err, set_same}
+use Rattle.open_sessions.proofs.shared.Tables.{on_err, set_same}
 use Rattle.open_sessions.proofs.open.Open.tx.Goals as goal
 
 -- the lent session was given back as it was

@@ -3,8 +3,9 @@ use Rattle.std.specs.FinMap as finite
 use Rattle.ledger_spec.specs.Own.{own_form}
 use Rattle.path_proof.specs.Sources.{Gives}
 use Rattle.rotating_store.specs.Stores.{Store, nodes_of}
-use Rattle.rotating_store.proofs.Merging.{found_first, found_second}
-use Rattle.rotating_store.proofs.Sources.{filed_hash, given_at, none_at}
+use Rattle.rotating_store.proofs.shared.Merging.{found_first, found_second}
+use Rattle.rotating_store.proofs.Sources.{filed_hash}
+use Rattle.rotating_store.proofs.shared.Sources.{given_at, none_at}
 use Rattle.rotating_store.proofs.source.FiledNodeSource.fetch.Goals as goal
 
 -- the writable backend tells what it holds, and has the form

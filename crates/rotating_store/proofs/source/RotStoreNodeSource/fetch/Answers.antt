@@ -3,8 +3,8 @@ use Rattle.std.specs.FinMap as finite
 use Rattle.ledger_spec.specs.Own.{own_form}
 use Rattle.path_proof.specs.Sources.{Gives}
 use Rattle.rotating_store.specs.Stores.{Store, nodes_of}
-use Rattle.rotating_store.proofs.Merging.{found_first, found_second}
-use Rattle.rotating_store.proofs.Sources.{given_at, none_at}
+use Rattle.rotating_store.proofs.shared.Merging.{found_first, found_second}
+use Rattle.rotating_store.proofs.shared.Sources.{given_at, none_at}
 use Rattle.rotating_store.proofs.source.RotStoreNodeSource.fetch.Goals as goal
 
 pub returns-in-Ok-Some-clause-hash : goal.returns-in-Ok-Some-clause-hash

@@ -1,5 +1,5 @@
 use Rattle.std.proofs.Common.{sym, ◌∙◌}
-use Rattle.ledger_spec.proofs.Hashes.{all_zero}
+use Rattle.ledger_spec.proofs.shared.Hashes.{all_zero}
 use Rattle.shamap_node.proofs.parts.Inner.new.Goals as goal
 
 pub returns-then-not-has_branch : goal.returns-then-not-has_branch

@@ -4,7 +4,7 @@ use Rattle.std.proofs.Common.{◌≡◌, ◌≢◌, [], inl, inr, ⊎_elim, ℕ,
 use Rattle.std.proofs.lemmas.Bool.{false≢true}
 use Rattle.ledger_machine.specs.declared.commands.Line.{Line}
 use Rattle.ledger_machine.specs.Runs.{is_answered}
-use Rattle.ledger_laws.proofs.EachCommand.{step_sound}
+use Rattle.ledger_laws.proofs.shared.EachCommand.{step_sound}
 use Rattle.store_core.proofs.Journals.{kept_few, kept_less, kept_next, kept_moved, kept_step, kept_done, kept_past, kept_end, kept_sliced}
 use Rattle.store_core.proofs.Journals.{kept_in_range, moved, moved_end, pushed, answers}
 use Rattle.store_core.proofs.Waiting.{done_free, next_left, blocked_by, blocked_at, same_line}

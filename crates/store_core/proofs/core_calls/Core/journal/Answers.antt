@@ -1,10 +1,10 @@
 -- the core's invariant, and the laws of the machine along the run
-use Rattle.ledger_laws.proofs.Completeness.{retained_stored, run_exact}
-use Rattle.ledger_laws.proofs.Collisions.{entry_shown}
-use Rattle.ledger_laws.proofs.Openings.{records_are_sound}
-use Rattle.ledger_laws.proofs.Receipts.{all_stay}
-use Rattle.ledger_laws.proofs.Throughout.{run_in_order}
-use Rattle.ledger_laws.proofs.EveryMaps.{reads_exact}
+use Rattle.ledger_laws.proofs.shared.Completeness.{retained_stored, run_exact}
+use Rattle.ledger_laws.proofs.shared.Collisions.{entry_shown}
+use Rattle.ledger_laws.proofs.shared.Openings.{records_are_sound}
+use Rattle.ledger_laws.proofs.shared.Receipts.{all_stay}
+use Rattle.ledger_laws.proofs.shared.Throughout.{run_in_order}
+use Rattle.ledger_laws.proofs.shared.EveryMaps.{reads_exact}
 use Rattle.store_core.proofs.Journals.{kept_few, kept_projects, kept_ranges, kept_swaps}
 use Rattle.store_core.proofs.core_calls.Core.journal.Goals as goal
 

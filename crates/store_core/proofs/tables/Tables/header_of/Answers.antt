@@ -3,9 +3,9 @@ use Rattle.std.proofs.Common.{◌≡◌, refl, sym, ap, ◌∙◌}
 use Rattle.std.specs.FinMap as finite
 use Rattle.ledger_spec.specs.Bytes.{Lookup, Nodes}
 use Rattle.ledger_spec.specs.Own.{own_forms}
-use Rattle.ledger_spec.proofs.Owning.{all_own}
+use Rattle.ledger_spec.proofs.shared.Owning.{all_own}
 use Rattle.ledger_machine.specs.State.{State, form_in}
-use Rattle.rotating_store.proofs.Reading.{stored_notes}
+use Rattle.rotating_store.proofs.shared.Reading.{stored_notes}
 use Rattle.store_core.proofs.Entries.{IsOver, filed_over}
 use Rattle.store_core.proofs.Starting.{header_found}
 use Rattle.store_core.proofs.tables.Tables.header_of.Goals as goal

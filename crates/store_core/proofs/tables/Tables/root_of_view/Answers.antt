@@ -2,7 +2,7 @@
 use Rattle.std.proofs.Common.{◌≡◌, refl, sym, ap, ◌∙◌, Some}
 use Rattle.ledger_spec.specs.Maps.{numbered_cmp, get_in}
 use Rattle.ledger_machine.specs.State.{State}
-use Rattle.rotating_store.proofs.Reading.{stored_notes}
+use Rattle.rotating_store.proofs.shared.Reading.{stored_notes}
 use Rattle.store_core.specs.Desks.{Desk}
 use Rattle.store_core.proofs.Entries.{IsOver, filed_over}
 use Rattle.store_core.proofs.Turns.{keeps_was_read}

@@ -1,6 +1,6 @@
 use Rattle.std.proofs.Common.{sym, ap, ◌∙◌}
 use Rattle.std.specs.Option.{option_copied}
-use Rattle.tree_cache.proofs.Using.{unused}
+use Rattle.tree_cache.proofs.shared.Using.{unused}
 use Rattle.tree_cache.proofs.cache.TreeCache.get.Goals as goal
 
 -- nothing has moved where there is no entry

@@ -3,7 +3,7 @@ use denote.Param.Send.{IsSend, IsSync, sendable, param_send, copied_send, copied
 use denote.Param.{param, copied}
 use Rattle.std.proofs.Common.{rules}
 use Rattle.std.proofs.Crossing.{send}
-use Rattle.read_cache.proofs.Crossing.{ReadCache-sync}
+use Rattle.read_cache.proofs.shared.Crossing.{ReadCache-sync}
 use Rattle.read_cache.specs.contracts.cache.ReadCache as ReadCache
 use Rattle.actor_pool.proofs.Crossing.{Shared-sync}
 use Rattle.actor_pool.proofs.pool.fn.run_round.scope.Goals as goal

@@ -1,0 +1,26 @@
+-- What proofs of other crates cite. A change here is a change for them.
+pub mod Beside
+pub mod Carrying
+pub mod Collisions
+pub mod Completeness
+pub mod EachCommand
+pub mod EveryMaps
+pub mod Going
+pub mod Openings
+pub mod Receipts
+pub mod RunLaws
+pub mod SoundCheck
+pub mod SoundClosing
+pub mod SoundForms
+pub mod SoundKeeps
+pub mod SoundOffers
+pub mod SoundSessions
+pub mod SoundSteps
+pub mod SoundTables
+pub mod SoundViews
+pub mod Stored
+pub mod StoringAll
+pub mod Sweeping
+pub mod Throughout
+pub mod Ways
+pub mod WholeMaps

@@ -1,0 +1,2 @@
+-- What proofs of other crates cite. A change here is a change for them.
+pub mod Recovery

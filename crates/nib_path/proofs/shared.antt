@@ -1,0 +1,3 @@
+-- What proofs of other crates cite. A change here is a change for them.
+pub mod Nibbles
+pub mod Reading

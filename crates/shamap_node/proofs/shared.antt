@@ -1,0 +1,4 @@
+-- What proofs of other crates cite. A change here is a change for them.
+pub mod Branches
+pub mod Crossing
+pub mod Seen
