@@ -3,6 +3,7 @@
 
 mod commands;
 mod journal;
+mod limits;
 mod replies;
 
 pub use commands::{Command, Line, Record, Script};
@@ -10,6 +11,7 @@ pub use journal::{Entry, Totals};
 pub use ledger_spec::{
     BaseReply, CheckReply, HeadOffered, NodeReply, Offered, PeerReply, Places, TickReply,
 };
+pub use limits::ACTORS;
 pub use replies::{
     BeginReply, CloseReply, DelReply, EditReply, GetReply, PageReply, Reply, SwapReply, ViewReply,
     WantReply,

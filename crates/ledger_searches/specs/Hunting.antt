@@ -5,10 +5,6 @@ use Rattle.missing_walk.specs.Rests.{rest}
 use Rattle.missing_walk.specs.Searching.{IsNew, stale_in}
 use Rattle.ledger_searches.specs.declared.hunt.Hunt.{Hunt}
 
--- how many actors there are
-abbrev pub most_actors : ℕ
-most_actors = 64
-
 -- how many places a slice looks at
 abbrev pub places_of_a_slice : ℕ
 places_of_a_slice = 256

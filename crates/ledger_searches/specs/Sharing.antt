@@ -6,7 +6,8 @@ use Rattle.tree_cache.specs.Caching.{AreCached}
 use Rattle.missing_walk.specs.Pending.{IsFull, IsCachedTrue}
 use Rattle.missing_walk.specs.Searching.{Rule}
 use Rattle.ledger_searches.specs.declared.searches.Searches.{Searches}
-use Rattle.ledger_searches.specs.Hunting.{hunt_of, most_actors}
+use Rattle.ledger_machine.specs.Limits.{actors}
+use Rattle.ledger_searches.specs.Hunting.{hunt_of}
 
 -- the most marks, and the most nodes of the cache
 abbrev pub most_marks : ℕ
@@ -19,7 +20,7 @@ most_cached = 16384
 pub record IsPaired (x : Searches) : Type 0 where
   pub one : x.cache.generation ≡ x.marks.generation
   pub room : x.marks.entries.cap ≡ most_marks
-  pub slots : length x.hunts.items ≡ most_actors
+  pub slots : length x.hunts.items ≡ actors
 
 -- The rule: an inner node is held where a key is marked, and nothing is found there or below; each cached node is held under its hash; and
 -- what is found of a ledger whose search was begun in this generation is found at the places that it has yet to look at.

@@ -2,6 +2,7 @@
 ghost use Rattle.std.specs.Prelude.{◌≡◌, ◌⊎◌, ◌+◌, ◌<◌, ◌≤◌, ◌^◌, IfOk, IfErr, IfSome, IsSome, IsNone, OnErr, ℕ, length, None};
 ghost use Rattle.std.specs.Prelude.{slice_set, vec_len};
 ghost use Rattle.run_io.specs.Bytes.{Rose};
+ghost use Rattle.ledger_machine.specs.Limits.{actors};
 ghost use Rattle.ledger_spec.specs.Bytes.{Lookup};
 ghost use Rattle.rotating_store.specs.Reading.{WasRead};
 ghost use Rattle.missing_walk.specs.Ends.{IsClean};
@@ -10,13 +11,14 @@ ghost use Rattle.missing_walk.specs.Passes.{HasMarkedRoots};
 ghost use Rattle.missing_walk.specs.Searching.{IsNew as IsNewSearch};
 ghost use Rattle.missing_walk.specs.Sees.{Finds};
 ghost use Rattle.missing_walk.specs.Views.{Tells};
-ghost use Rattle.ledger_searches.specs.Hunting.{GoesOn, IsRunWhole, IsTakenUp, IsUnbegun, hunt_of, most_actors, most_asked};
+ghost use Rattle.ledger_searches.specs.Hunting.{GoesOn, IsRunWhole, IsTakenUp, IsUnbegun, hunt_of, most_asked};
 ghost use Rattle.ledger_searches.specs.Sharing.{IsPaired, AreTrueOf, IsEmpty, IsTurned, LeavesOthers, Forgets, most_cached};
 
 use crate::hunt::Hunt;
 use crate::hunting::MOST_STALES;
 use full_below::Marks;
 use half_hash::{Hash32, Memory, NodeHash};
+use ledger_machine::ACTORS;
 use missing_walk::{Found, Search, SearchFault, Slice};
 use node_backend::Shelf;
 use rotating_store::RotStore;
@@ -28,9 +30,6 @@ const MOST_MARKS: usize = 65_536;
 
 /// The most nodes that are kept.
 const MOST_CACHED: usize = 16_384;
-
-/// How many actors there are, numbered from 0.
-const ACTORS: usize = 64;
 
 /// How many places a slice looks at.
 const SLICE: usize = 256;
@@ -74,7 +73,7 @@ impl Searches {
         target: &Hash32,
     ) -> Result<Option<Found>, SearchFault>
         requires paired { IsPaired self.old }
-        requires known_actor { actor < most_actors }
+        requires known_actor { actor < actors }
         ensures found { (nodes : Lookup) → Tells Sh.B.tells H.half store.old nodes → AreTrueOf H.half nodes self.old
             → IfOk result (λ o. IfSome o (Finds H.half nodes target.now)) }
         ensures known { IfOk result (λ o. IfSome o IsFound) }
@@ -240,7 +239,7 @@ impl Searches {
 
 // No actor's check has begun a search.
 fn none_begun(alloc: Global) -> Result<Vec<Option<Hunt>>, Memory>
-    ensures slots { IfOk result (λ hunts. length hunts.items ≡ most_actors) }
+    ensures slots { IfOk result (λ hunts. length hunts.items ≡ actors) }
     ensures none { IfOk result (λ hunts. (a : ℕ) → hunt_of hunts.items a ≡ None) }
 {
     let mut hunts = Vec::with_capacity(alloc, ACTORS)?;
