@@ -5,6 +5,8 @@ pub mod Walking
 pub mod Standings
 pub mod Listing
 pub mod Linking
+pub mod Hashed
+pub mod Reaching
 pub mod Sharing
 pub mod Telling
 pub mod Tracks

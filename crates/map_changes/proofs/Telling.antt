@@ -25,7 +25,8 @@ use Rattle.map_changes.specs.Tracking.{place_of, link_hash, node_at, kid_at, ent
 use Rattle.map_changes.specs.Tracking.{leaves_in, items_in, shown_in, HaveTwoHashes}
 use Rattle.map_changes.proofs.Linking.{hash_is}
 use Rattle.std.specs.Cmp.Lexicographic.{same_text}
-use Rattle.map_changes.proofs.Sharing.{some_within, nothing_there, hash_law, share_law}
+use Rattle.map_changes.proofs.Hashed.{some_within, hash_law}
+use Rattle.map_changes.proofs.Sharing.{nothing_there, share_law}
 use Rattle.map_changes.proofs.Standings.{shared_map}
 use Rattle.map_changes.proofs.Walking.{shared_say}
 

@@ -22,7 +22,7 @@ use Rattle.map_changes.specs.Tracking.{link_hash, entries_at, items_at, AreHashe
 use Rattle.map_changes.specs.Tracking.{leaves_in, items_in, shown_in}
 use Rattle.map_changes.proofs.Closing.{none_closed, closed_more}
 use Rattle.map_changes.proofs.Linking.{link_grows}
-use Rattle.map_changes.proofs.Sharing.{entries_law}
+use Rattle.map_changes.proofs.Reaching.{entries_law}
 
 -- an item is set
 module _ (half : Half) (t : Tracking) (new : CowTree) (keeps : Keeps half t) (bodies : AreBodies t.tree.nodes)

@@ -3,7 +3,8 @@ use Rattle.ledger_spec.specs.Bytes.{Items}
 use Rattle.cow_map.proofs.shared.Filters.{part_root}
 use Rattle.map_changes.specs.Trees.{StandsFor}
 use Rattle.map_changes.specs.Tracking.{node_at, kid_at, place_of}
-use Rattle.map_changes.proofs.Sharing.{share_law, entries_law}
+use Rattle.map_changes.proofs.Sharing.{share_law}
+use Rattle.map_changes.proofs.Reaching.{entries_law}
 use Rattle.map_changes.proofs.laws.the_nodes_of_links_stand_for_their_map.Goals as goal
 
 -- all entries lie under the empty path
