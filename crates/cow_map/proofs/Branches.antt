@@ -1,4 +1,4 @@
--- A change of what one branch of sixteen holds.
+-- Sixteen branches, of which one changes what it holds.
 use Rattle.std.proofs.Common.{◌≡◌, ◌≢◌, ℕ, zero, suc, ◌+◌, ◌-◌, ◌<◌, ◌==◌, true, false, if◌then◌else◌, List, [], ◌∷◌, ◌++◌, refl}
 use Rattle.std.proofs.Common.{sym, ap, ◌∙◌, arith, append_assoc, IsTrue, nat_eq, cond, ◌&&◌}
 use Rattle.std.specs.List.{flat_map, range_with_len, AllByRecursion, starts_with}

@@ -1,4 +1,4 @@
--- A map over a whole tree.
+-- A map over a root whose tree is whole stands for the leaves of that tree.
 use Rattle.std.proofs.Common.{[], None, refl}
 use Rattle.ledger_spec.specs.declared.Kind.{Kind}
 use Rattle.ledger_spec.specs.Bytes.{Hash, Half, Lookup}

@@ -1,4 +1,5 @@
--- What a link leads to.
+-- What a link leads to, in a list of nodes and in a source: the links and entries that are found there, and that a longer list changes
+-- nothing.
 use Rattle.std.proofs.Common.{◌≡◌, ℕ, zero, suc, ◌<◌, ◌==◌, Bool, true, false, not, if◌then◌else◌, List, [], ◌∷◌, ◌++◌, length, map}
 use Rattle.std.proofs.Common.{Option, None, Some, refl, sym, ap, ◌∙◌, subst, arith, IsTrue, slice_index_or}
 use Rattle.std.specs.List.{slice_get}

@@ -1,4 +1,4 @@
--- Whole maps.
+-- Maps as wholes: which have a top node, and that a change that failed is cut off again.
 use Rattle.std.proofs.Common.{◌≡◌, ◌≢◌, inl, inr, ℕ, ◌<◌, ◌≤◌, ◌==◌, Bool, true, false, if◌then◌else◌, not, List, [], ◌∷◌, ◌++◌, length}
 use Rattle.std.proofs.Common.{take, None, Some, refl, sym, ap, ◌∙◌, subst, arith}
 use Rattle.std.proofs.lemmas.Option.{slice_get_cases}

@@ -1,4 +1,4 @@
--- What holds of a result.
+-- A fact on a result's value, weakened.
 use Rattle.std.proofs.Common.{Result, Ok, Err, IfOk}
 
 pub ok_map : {A E : Type 0} (r : Result A E) (P Q : A → Type 0) → IfOk r P → ((x : A) → P x → Q x) → IfOk r Q

@@ -1,4 +1,5 @@
--- What is left of an inner node.
+-- What is left of an inner node that lost a branch: nothing, its one leaf in its place, or the node itself, by how many entries the
+-- branches hold.
 use Rattle.std.proofs.Common.{◌≡◌, ◌≢◌, ◌⊎◌, inl, inr, ℕ, suc, ◌+◌, ◌-◌, ◌<◌, ◌≤◌, List, [], ◌∷◌, ◌++◌, length, refl, sym, ap, ◌∙◌, subst}
 use Rattle.std.proofs.Common.{arith, slice_index_or, length-append}
 use Rattle.std.specs.List.{flat_map, range_with_len}

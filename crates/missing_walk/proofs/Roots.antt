@@ -1,4 +1,4 @@
--- The beginning of a search at its header.
+-- The beginning of a search at its header: what is found where none is held, and that the rest is found at the two roots.
 use Rattle.std.proofs.Common.{◌≡◌, Bool, true, false, is_some, if◌then◌else◌, [], ◌∷◌, ◌++◌, length, Option, None}
 use Rattle.std.proofs.Common.{Some}
 use Rattle.std.proofs.Common.{◌≤◌, refl, sym, ap, ◌∙◌, subst, arith}

@@ -1,4 +1,4 @@
--- What is answered of an offered node.
+-- Causes and rules in the answer to an offered node: none is told of a node that was read, and one node breaks one rule.
 use Rattle.std.proofs.Common.{◌≡◌, ℕ, List, subst}
 use Rattle.ledger_spec.specs.declared.Kind.{Kind}
 use Rattle.ledger_spec.specs.Bytes.{Bytes, Half}

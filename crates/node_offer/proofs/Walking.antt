@@ -1,4 +1,4 @@
--- One step of the way to a place.
+-- One step of the way to a place: on through an inner node, or what stands in the way.
 use Rattle.std.proofs.Common.{◌≡◌, ◌+◌, ◌-◌, ◌<◌, ℕ, List, [], ◌∷◌, ◌++◌, length, take, drop, get_or, replicate, Option, Some, Result, Ok}
 use Rattle.std.specs.FinMap as map
 use Rattle.ledger_spec.specs.Own.{own_forms}

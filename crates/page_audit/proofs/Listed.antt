@@ -1,4 +1,4 @@
--- One element of a list more.
+-- The items of a document's list, one element after the other: taken, or refused for a cause.
 use Rattle.std.proofs.Common.{◌≡◌, ℕ, ◌+◌, ◌<◌, List, ◌∷◌, length, get_or, drop, Result, Ok, Err, ap, ◌∙◌, add-one}
 use Rattle.std.proofs.Math.Seq.{drop-cons}
 use Rattle.json.specs.Value.{value_view as view, items_view}

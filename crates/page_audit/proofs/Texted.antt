@@ -1,4 +1,4 @@
--- The document of a line.
+-- The document of a line, where the line is UTF-8 and parsed, and of one that isn't.
 use Rattle.std.proofs.Common.{◌≡◌, Bool, true, false, None, Some, refl, ◌∙◌, IsUtf8}
 use Rattle.std.specs.Str.{is_utf8}
 use Rattle.std.proofs.lemmas.Str.{IsUtf8-from_is_utf8, is_utf8-from_IsUtf8}

@@ -1,4 +1,4 @@
--- The law on paths, for shared nodes.
+-- The law on paths, for the nodes that the code shares: a read's answer is that of every map with the root, or two nodes show one hash.
 use Rattle.std.proofs.Common.{◌≡◌, ◌≢◌, List, Option, None, Some, IfSome, Result, Ok, Err, IfOk, sym}
 use Rattle.std.proofs.Common.{◌≤◌, take, length, ap, ◌∙◌, ℕ}
 use Rattle.std.specs.Option.{option_map}

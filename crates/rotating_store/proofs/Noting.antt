@@ -1,4 +1,4 @@
--- The sets of notes.
+-- The two sets of notes, as a hash is noted, carried over or asked for, and as the backends turn.
 use Rattle.std.proofs.Common.{◌≡◌, ◌∙◌, ◌⊎◌, inl, inr, ℕ, List, [], ◌∷◌, Bool, true, false, cond, ◌||◌, IsTrue, Result, Ok, Err, OnOk}
 use Rattle.std.proofs.Common.{OnErr, Option, Some, None, refl, sym, ap, subst}
 use Rattle.std.specs.Prelude.{nat_eq, is_some}

@@ -1,4 +1,4 @@
--- The value of decimal digits.
+-- The value of decimal digits, one digit more at a time, up to the first that makes it too large.
 use Rattle.std.proofs.Common.{◌≡◌, ℕ, ◌+◌, ◌-◌, ◌*◌, ◌<◌, ◌≤◌, List, [], ◌∷◌, ◌++◌, length, take, drop, get_or, Bool, true, refl, sym}
 use Rattle.std.proofs.Common.{◌∙◌, ap, arith}
 use Rattle.std.specs.Prelude.{IsTrue, ◌&&◌}

@@ -1,4 +1,4 @@
--- The words behind the actor.
+-- The words behind the actor: whether `after` stands there, and which earlier line it names.
 use Rattle.std.proofs.Common.{◌≡◌, ◌≢◌, inl, inr, ℕ, ◌≤◌, List, [], ◌∷◌, length, map, get_or, Bor, Bool, true, false, Option, None, Some}
 use Rattle.std.proofs.Common.{refl, sym, arith}
 use Rattle.std.specs.Prelude.{codes, MatchBool, MatchOption}

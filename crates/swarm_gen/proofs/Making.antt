@@ -1,4 +1,4 @@
--- What a ledger that is made has.
+-- What a ledger that is made has: its header and hash, its roots, and the nodes that changed.
 use Rattle.std.specs.Prelude.{◌||◌, Option, Some, MatchOption, ◌≡◌, ◌≢◌, ℕ, zero, suc, ◌-◌, ◌*◌, ◌≤◌, ◌&&◌, not, Bool}
 use Rattle.std.specs.Prelude.{true, false, if◌then◌else◌, List, [], ◌∷◌, ◌++◌, map, refl}
 use Rattle.std.proofs.Common.{sym, ap, ◌∙◌, subst, arith, append-nil}
