@@ -54,7 +54,7 @@ impl CowMap {
     }
 }
 
-/// The data of a key in what a link stands for, at a place on the way to the key.
+// The data of a key in what a link stands for, at a place on the way to the key.
 fn get_at<H: NodeHash, S: NodeSource<H>>(
     alloc: Global,
     arena: &Arena,

@@ -79,8 +79,8 @@ impl CowMap {
     }
 }
 
-/// Sets an item in what a link stands for, at a place on the way to its key: the nodes on its way are
-/// made anew, and the answer is the link to the first of them.
+// Sets an item in what a link stands for, at a place on the way to its key: the nodes on its way are
+// made anew, and the answer is the link to the first of them.
 fn put_at<H: NodeHash, S: NodeSource<H>>(
     alloc: Global,
     arena: &mut Arena,

@@ -86,8 +86,8 @@ impl CowMap {
     }
 }
 
-/// Removes a key from what a link stands for, at a place on the way to the key: the nodes on its way are
-/// made anew, and the answer is the link to the first of them, or none where the key isn't there.
+// Removes a key from what a link stands for, at a place on the way to the key: the nodes on its way are
+// made anew, and the answer is the link to the first of them, or none where the key isn't there.
 fn remove_at<H: NodeHash, S: NodeSource<H>>(
     alloc: Global,
     arena: &mut Arena,

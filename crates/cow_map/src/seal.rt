@@ -62,8 +62,8 @@ impl CowMap {
     }
 }
 
-/// The hash that a link stands for. The forms of the nodes of the list that it reaches are added, branches
-/// rising and kids before their parent, up to the first whose hash is zero, which is the fault.
+// The hash that a link stands for. The forms of the nodes of the list that it reaches are added, branches
+// rising and kids before their parent, up to the first whose hash is zero, which is the fault.
 #[cycle(sealing)]
 fn seal_link<H: NodeHash>(
     alloc: Global,

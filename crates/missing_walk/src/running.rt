@@ -26,7 +26,7 @@ use std::alloc::Global;
 use tree_cache::TreeCache;
 
 impl Search {
-    // Puts the noted places back on the stack, before all others. Where memory is refused they stay noted.
+    /// Puts the noted places back on the stack, before all others. Where memory is refused they stay noted.
     pub(crate) fn take_up(&mut self) -> Result<(), Memory>
         ensures kept { (half : Half) (nodes : Lookup) → Kept half nodes self.old → Kept half nodes self.new }
         ensures idle { self.old.missing.items ≡ [] → IsOk result × StaysPut self.old self.new }
@@ -44,7 +44,7 @@ impl Search {
         Ok(put_back(&mut self.stack, &mut self.missing)?)
     }
 
-    // Goes on as far as so many places, and then as many more, and answers whether there is nothing more to look at.
+    /// Goes on as far as so many places, and then as many more, and answers whether there is nothing more to look at.
     pub(crate) fn run_both<H: NodeHash, Sh: Shelf>(
         &mut self,
         alloc: Global,
@@ -80,7 +80,7 @@ impl Search {
         self.run::<H, Sh>(alloc, store, cache, marks, more)
     }
 
-    // Whether there is nothing to look at.
+    /// Whether there is nothing to look at.
     pub(crate) fn is_over(&self) -> bool
         ensures { result ≡ has_ended self.now }
     {

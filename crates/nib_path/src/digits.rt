@@ -14,7 +14,7 @@ pub fn nibble(key: &[u8; 32], i: u8) -> u8
     if i % 2 == 0 { byte / 16 } else { byte % 16 }
 }
 
-// Nibble `i` becomes `n`.
+/// Nibble `i` becomes `n`.
 pub(crate) fn set_nibble(id: &mut [u8; 32], i: u8, n: u8)
     requires place { i < 64 }
     requires small { n < 16 }
@@ -29,7 +29,7 @@ pub(crate) fn set_nibble(id: &mut [u8; 32], i: u8, n: u8)
     };
 }
 
-// The key's first nibbles, and then zeros.
+/// The key's first nibbles, and then zeros.
 pub(crate) fn head_of(key: &[u8; 32], depth: u8) -> [u8; 32]
     requires { depth ≤ 64 }
     ensures { nibbles result ≡ take depth (nibbles key.now) ++ replicate (64 - depth) 0 }
@@ -43,14 +43,14 @@ pub(crate) fn head_of(key: &[u8; 32], depth: u8) -> [u8; 32]
     id
 }
 
-// For proofs: each half of a byte is below 16.
+/// For proofs: each half of a byte is below 16.
 pub(crate) fn known_small(id: &[u8; 32])
     ensures { IsTrue (list_all (λ n. nat_lt n 16) (nibbles id.now)) }
 {
     let _first = nibble(id, 0);
 }
 
-// The first nibble at or past the depth that is not zero: the low half of a byte that the depth divides, and else by whole bytes.
+/// The first nibble at or past the depth that is not zero: the low half of a byte that the depth divides, and else by whole bytes.
 pub(crate) fn first_set(id: &[u8; 32], depth: u8) -> Option<u8>
     requires { depth ≤ 64 }
     ensures { result ≡ first_set_from depth (nibbles id.now) }

@@ -97,14 +97,14 @@ impl Lines {
     }
 }
 
-// Tells a proof that a blob is bytes.
+/// Tells a proof that a blob is bytes.
 pub(crate) fn known_blob(blob: &Blob)
     ensures { IsTrue (are_bytes blob.now) }
 {
     known_bytes(blob.bytes());
 }
 
-// The same of a hash, which has 32.
+/// The same of a hash, which has 32.
 pub(crate) fn known_hash(h: &Hash32)
     ensures size { length h.now ≡ 32 }
     ensures bytes { IsTrue (are_bytes h.now) }
