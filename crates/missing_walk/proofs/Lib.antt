@@ -8,7 +8,7 @@ pub mod Stacking
 pub mod Heeding
 pub mod Roots
 pub mod Finishing
-pub mod Slicing
+pub mod Sliced
 pub mod RootMarks
 pub mod Apart
 pub mod Meetings

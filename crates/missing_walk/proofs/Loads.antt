@@ -13,7 +13,7 @@ use Rattle.missing_walk.specs.Pending.{Pending, pending_of, stacked, noted_place
 use Rattle.missing_walk.specs.Stacks.{Opens}
 use Rattle.missing_walk.specs.Rests.{load, left_in, Lighter}
 use Rattle.missing_walk.proofs.Stacking.{stacked_top, stacked_more}
-use Rattle.missing_walk.proofs.Slicing.{reversed}
+use Rattle.missing_walk.proofs.Sliced.{reversed}
 use Rattle.missing_walk.proofs.Meetings.{meets_nonzero}
 use Rattle.missing_walk.proofs.Weights.{load_join}
 

@@ -1,4 +1,4 @@
-use Rattle.missing_walk.proofs.Slicing.{rule_anew}
+use Rattle.missing_walk.proofs.Sliced.{rule_anew}
 use Rattle.missing_walk.proofs.laws.a_new_search_keeps_the_rule.Goals as goal
 
 pub returns : goal.returns

@@ -1,7 +1,7 @@
 use Rattle.std.proofs.Common.{◌∙◌, subst, sym}
 use Rattle.ledger_spec.specs.Bytes.{Hash}
 use Rattle.missing_walk.specs.Sees.{Finds}
-use Rattle.missing_walk.proofs.Slicing.{going_from}
+use Rattle.missing_walk.proofs.Sliced.{going_from}
 use Rattle.std.proofs.Common.{arith}
 use Rattle.std.proofs.lemmas.Result.{err_from_is_err_and}
 use Rattle.missing_walk.proofs.Passing.{idle_from, none_done}

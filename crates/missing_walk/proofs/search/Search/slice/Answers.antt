@@ -1,5 +1,5 @@
 use Rattle.std.proofs.Common.{Some, sym, ap, ◌∙◌}
-use Rattle.missing_walk.proofs.Slicing.{rule_holds, holds_rule}
+use Rattle.missing_walk.proofs.Sliced.{rule_holds, holds_rule}
 use Rattle.std.proofs.Common.{◌≤◌, length, subst, arith}
 use Rattle.missing_walk.proofs.Remaining.{on_more, on_all_more, goes_on, renewed_bound, begun_bound}
 use Rattle.missing_walk.proofs.search.Search.slice.Goals as goal

@@ -1,5 +1,5 @@
 use Rattle.std.proofs.Common.{refl}
-use Rattle.missing_walk.proofs.Slicing.{taken_up}
+use Rattle.missing_walk.proofs.Sliced.{taken_up}
 use Rattle.missing_walk.proofs.Loads.{load_taken}
 use Rattle.missing_walk.proofs.search.Search.take_up.Goals as goal
 
