@@ -1,8 +1,9 @@
 //! Hashes of 32 bytes, and their hexadecimal text.
 ghost use Rattle.std.specs.Prelude.{List, ℕ, OnErr, ◌≡◌, ◌≢◌, length, IfOk, MatchBool, MatchResult};
 ghost use Rattle.std.specs.Prelude.{◌≤◌, take, drop};
-ghost use Rattle.std.specs.Cmp.Lexicographic.{slice_cmp};
+ghost use Rattle.std.specs.Cmp.Lexicographic.{pointwise, slice_cmp};
 ghost use Rattle.std.specs.Ordering.{nat_cmp};
+ghost use Rattle.std.specs.Prelude.{nat_eq};
 ghost use Rattle.std.specs.Int.{w64, from_be_bytes};
 ghost use Rattle.hex.specs.Hex.{encode_upper, decode_sized};
 ghost use Rattle.half_hash.specs.Zero.{zero_hash, is_zero as all_zero};
@@ -17,7 +18,7 @@ use std::marker::Model;
 use thiserror::Error;
 
 /// A hash, or a key. Contracts see its list of bytes, whose order is that of the hashes.
-#[derive(Clone, Copy, Debug, PartialEq, Eq)]
+#[derive(Clone, Copy, Debug)]
 pub struct Hash32 {
     pub bytes: [u8; 32],
 }
@@ -30,6 +31,27 @@ impl Model for Hash32 {
     ghost view = { λ a. a.bytes };
 
     ghost inverse = { λ bytes. record { bytes = bytes } };
+}
+
+impl PartialEq for Hash32 {
+    ghost use Rattle.std.specs.Cmp.{partial_equiv_from_equiv};
+    ghost use Rattle.std.specs.Cmp.Lexicographic.{nat_list_eq_equiv};
+    ghost use Rattle.std.specs.Prelude.{nat_eq};
+    ghost use Rattle.std.specs.Cmp.Lexicographic.{pointwise};
+
+    ghost eq = { pointwise nat_eq };
+
+    ghost laws = { partial_equiv_from_equiv nat_list_eq_equiv };
+
+    fn eq(&self, other: &Hash32) -> bool {
+        are_alike(&self.bytes, &other.bytes)
+    }
+}
+
+impl Eq for Hash32 {
+    ghost use Rattle.std.specs.Cmp.Lexicographic.{nat_list_eq_equiv};
+
+    ghost laws = { nat_list_eq_equiv };
 }
 
 impl PartialOrd for Hash32 {
@@ -120,7 +142,7 @@ impl Hash32 {
     pub fn equals(&self, other: &Hash32) -> bool
         ensures { MatchBool result (self.now ≡ other.now) (self.now ≢ other.now) }
     {
-        self.bytes == other.bytes
+        are_alike(&self.bytes, &other.bytes)
     }
 
     /// Tells a proof that a hash has 32 bytes.
@@ -168,6 +190,13 @@ fn order_of(one: &[u8; 32], other: &[u8; 32]) -> Ordering
         }
     }
     Ordering::Equal
+}
+
+// Whether the bytes are the same, eight at a time.
+fn are_alike(one: &[u8; 32], other: &[u8; 32]) -> bool
+    ensures { result ≡ pointwise nat_eq one.now other.now }
+{
+    order_of(one, other).is_eq()
 }
 
 // The eight bytes from this place on, as a number with the high byte first.
