@@ -19,11 +19,7 @@ use Rattle.path_proof.specs.declared.answer.ReadFault.{ReadFault}
 use Rattle.nib_path.specs.Paths.{nibbles}
 use Rattle.ledger_spec.specs.Rules.{fault_of}
 use Rattle.path_proof.proofs.Steps.{above}
-use Rattle.std.specs.Borrow.{Bor}
-use Rattle.std.specs.Option.{option_copied}
-use Rattle.shamap_node.specs.declared.parts.Inner.{Inner}
-use Rattle.shamap_node.specs.Nodes.{hashes_above}
-use Rattle.path_proof.specs.Paths.{held_nodes, hashes_kept, outcome_by, IsAbove}
+use Rattle.path_proof.specs.Paths.{held_nodes, outcome_by, IsAbove}
 use Rattle.path_proof.proofs.shared.PathLaws.{nodes_are}
 
 pub law_of : (half : Half) → Sized half → (kind : Kind) (root key : Hash) (used : List (Arc Node Global)) (result : Option Outcome)
@@ -73,8 +69,3 @@ rules_above kind over path key depth (Err _) within size is rules = tt
 pub under : {T E C : Type 0} (P : T → Type 0) (r : Result T E) → (C → IfOk r P) → IfOk r (λ a. C → P a)
 under P (Ok a) each = each
 under P (Err e) each = tt
-
--- the inner node that is kept above is the one that is shown
-pub kept_above : (o : Option (Bor Inner)) (p : Option Inner) → option_copied o ≡ p → hashes_above o ≡ hashes_kept p
-kept_above None p is = ap hashes_kept is
-kept_above (Some b) p is = ap hashes_kept is

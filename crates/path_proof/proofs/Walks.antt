@@ -1,5 +1,6 @@
 -- A way that goes on by one node, and a path that ends.
-use Rattle.std.proofs.Common.{◌≡◌, ◌&&◌, if◌then◌else◌, Bool, true, false, List, [], ◌∷◌, ◌++◌, is_none, IsTrue, Option, None, Some, refl}
+use Rattle.std.proofs.Common.{◌≡◌, ◌&&◌, ◌+◌, ◌-◌, if◌then◌else◌, ℕ, zero, suc, length, slice_get, arith, Bool, true, false, List, [], ◌∷◌}
+use Rattle.std.proofs.Common.{◌++◌, is_none, IsTrue, Option, None, Some, refl}
 use Rattle.std.proofs.Common.{sym, ap, ◌∙◌, subst}
 use Rattle.std.proofs.lemmas.Bool.{cond-true, and_from}
 use Rattle.std.proofs.lemmas.Slice.Eq.{bytes_eq-Decides}
@@ -16,13 +17,13 @@ use Rattle.path_proof.specs.declared.answer.ReadFault.{ReadFault}
 use Rattle.path_proof.specs.declared.way.Progress.{Progress}
 use Rattle.path_proof.specs.Progressing.{Comes}
 use Rattle.path_proof.specs.Ways.{HasCause}
-use Rattle.path_proof.specs.Ways.{Waypoint, start, path_at, under, below, way, fault_at, Fits, GoesOn, LeadsTo}
+use Rattle.path_proof.specs.Ways.{Ends, Waypoint, waypoint, start, path_at, under, below, way, fault_at, Fits, GoesOn, LeadsTo}
 use Rattle.std.proofs.lemmas.List.{map_push}
 use Rattle.std.specs.declared.sync.Arc.{Arc}
 use Rattle.std.specs.declared.alloc.Global.{Global}
 use Rattle.shamap_node.specs.declared.Node.{Node}
 use Rattle.shamap_node.specs.Nodes.{held}
-use Rattle.path_proof.specs.Paths.{held_nodes, last_data, outcome_by}
+use Rattle.path_proof.specs.Paths.{held_nodes, last_branches, last_data, outcome_by}
 use Rattle.path_proof.specs.declared.Outcome.{Outcome}
 use Rattle.path_proof.specs.declared.Outcome.TheVariants.{Nothing, Value}
 use Rattle.path_proof.proofs.Steps.{from_root}
@@ -122,6 +123,26 @@ last_data_push (x ∷ y ∷ xs) n = two x y (xs ++ n ∷ []) ∙ last_data_push 
     two (inner hashes) y rest = refl
     two (header bytes) y rest = refl
 
+-- the last node's branches
+last_branches_push : (xs : List Held) (n : Held) → last_branches (xs ++ n ∷ []) ≡ inner_hashes n
+last_branches_push [] n = refl
+last_branches_push (x ∷ []) n = refl
+last_branches_push (x ∷ y ∷ xs) n = last_branches_push (y ∷ xs) n
+
+-- the node at the last place of a path
+branches_at : (used : List (Arc Node Global)) (a : Arc Node Global) (n : ℕ) → length used ≡ n + 1 → Some a ≡ slice_get used n
+    → inner_hashes (held a.value) ≡ last_branches (held_nodes used)
+branches_at [] a n size is = absurd (omega (arith, size))
+branches_at (x ∷ []) a zero size is = let same : a ≡ x = cc in ap (λ (n : Arc Node Global). inner_hashes (held n.value)) same
+branches_at (x ∷ []) a (suc n) size is = absurd (omega (arith, size))
+branches_at (x ∷ y ∷ rest) a zero size is = absurd (omega (arith, size))
+branches_at (x ∷ y ∷ rest) a (suc n) size is = branches_at (y ∷ rest) a n (omega (arith, size)) is
+
+pub branches_found : (used : List (Arc Node Global)) (a : Arc Node Global) → Some a ≡ slice_get used (length used - 1)
+    → inner_hashes (held a.value) ≡ last_branches (held_nodes used)
+branches_found [] a is = cc
+branches_found (x ∷ rest) a is = branches_at (x ∷ rest) a (length (x ∷ rest) - 1) (omega arith) is
+
 outcome_as : (xs ys : List Held) (o : Outcome) → last_data xs ≡ last_data ys → outcome_by xs o ≡ outcome_by ys o
 outcome_as xs ys Nothing e = refl
 outcome_as xs ys Value e = ap spec.value e
@@ -162,16 +183,21 @@ all_stored half kind root key tells nodes xs n s so fits held =
 
 -- the same, for shared nodes in a vector
 pub goes_further : (half : Half) (kind : Kind) (root key : Hash) (tells : Bool) (nodes now : Lookup) (used more : List (Arc Node Global))
-    (node : Arc Node Global) (seen : Node) (s t : Waypoint)
+    (node : Arc Node Global) (seen : Node) (s : Waypoint) (depth : ℕ) (h : Hash)
     → (IsTrue tells → now ≡ nodes) → LeadsTo half kind root key tells nodes (held_nodes used) s
     → Fits half kind s.above (path_at key s) s.hash (held node.value) → (IsTrue tells → Holds half (now s.hash) (held node.value))
-    → seen ≡ node.value → more ≡ used ++ node ∷ [] → GoesOn key s (held seen) t → LeadsTo half kind root key tells nodes (held_nodes more) t
-goes_further half kind root key tells nodes now used more node seen s t same so fits held_there is pushed on =
-    subst (λ l. LeadsTo half kind root key tells nodes l t)
+    → seen ≡ node.value → more ≡ used ++ node ∷ []
+    → GoesOn key s (held seen) (waypoint depth (inner_hashes (held seen)) h)
+    → LeadsTo half kind root key tells nodes (held_nodes more) (waypoint depth (last_branches (held_nodes more)) h)
+goes_further half kind root key tells nodes now used more node seen s depth h same so fits held_there is pushed on =
+    let n : Held = held node.value in
+    subst (λ l. LeadsTo half kind root key tells nodes l (waypoint depth (last_branches l) h))
     (sym (ap held_nodes pushed ∙ map_push (λ (a : Arc Node Global). held a.value) used node))
-    (leads_on half kind root key tells nodes (held_nodes used) (held node.value) s t so fits
+    (subst (λ b. LeadsTo half kind root key tells nodes (held_nodes used ++ n ∷ []) (waypoint depth b h))
+    (sym (last_branches_push (held_nodes used) n))
+    (leads_on half kind root key tells nodes (held_nodes used) n s (waypoint depth (inner_hashes n) h) so fits
     (λ told. (sym (ap (λ (f : Lookup). f s.hash) (same told)) ∙ (held_there told).0, (held_there told).1))
-    (subst (λ m. GoesOn key s (held m) t) is on))
+    (subst (λ m. GoesOn key s (held m) (waypoint depth (inner_hashes (held m)) h)) is on)))
 
 pub comes_to_end : (half : Half) (kind : Kind) (root key : Hash) (tells : Bool) (nodes : Lookup) (used more : List (Arc Node Global))
     (node : Arc Node Global) (seen : Node) (s : Waypoint) (o : Outcome)
@@ -195,8 +221,22 @@ stored_more half kind root key tells nodes used more node s so fits held_there p
     (all_stored half kind root key tells nodes (held_nodes used) (held node.value) s so fits held_there)
 
 -- a read that ended with no answer has the cause
-pub ended_by : (half : Half) (kind : Kind) (root key : Hash) (tells : Bool) (nodes : Lookup)
+ended_by : (half : Half) (kind : Kind) (root key : Hash) (tells : Bool) (nodes : Lookup)
     (r : Result Progress ReadFault) (why : ReadFault)
     → IsErrAnd r (λ e. e ≡ why) → HasCause half kind root key tells nodes why → Comes half kind root key tells nodes r
 ended_by half kind root key tells nodes (Ok p) why is cause = absurd is
 ended_by half kind root key tells nodes (Err e) why is cause = subst (HasCause half kind root key tells nodes) (sym is) cause
+
+-- the same, where the place above is known by another name
+pub ended_above : (half : Half) (kind : Kind) (root key : Hash) (tells : Bool) (nodes : Lookup)
+    (r : Result Progress ReadFault) (why : ReadFault)
+    → IsErrAnd r (λ e. e ≡ why) → (used : List Held) (depth : ℕ) (over above : Option (List Hash)) (h : Hash) → over ≡ above
+    → LeadsTo half kind root key tells nodes used (waypoint depth above h)
+    → Ends half kind tells nodes over (path_at key (waypoint depth above h)) h why → Comes half kind root key tells nodes r
+ended_above half kind root key tells nodes r why is used depth over above h same leads ends =
+    ended_by half kind root key tells nodes r why is (record {
+      used = used;
+      place = waypoint depth above h;
+      leads = leads;
+      ends = subst (λ (b : Option (List Hash)). Ends half kind tells nodes b (path_at key (waypoint depth above h)) h why) same ends;
+    })

@@ -1,14 +1,13 @@
 -- Paths of shared nodes, and what their last node says.
-use Rattle.std.specs.Prelude.{◌<◌, ℕ, List, [], ◌∷◌, map, Option}
-use Rattle.std.specs.Option.{option_map}
+use Rattle.std.specs.Prelude.{◌<◌, ℕ, List, [], ◌∷◌, map, Option, None}
 use Rattle.std.specs.declared.sync.Arc.{Arc}
 use Rattle.std.specs.declared.alloc.Global.{Global}
 use Rattle.shamap_node.specs.declared.Node.{Node}
-use Rattle.shamap_node.specs.declared.parts.Inner.{Inner}
 use Rattle.shamap_node.specs.Nodes.{held}
 use Rattle.ledger_spec.specs.Bytes.{Bytes, Hash}
 use Rattle.ledger_spec.specs.Forms.{Held, inner, leaf, header}
 use Rattle.ledger_spec.specs.Reads as spec
+use Rattle.ledger_spec.specs.Reads.{inner_hashes}
 use Rattle.path_proof.specs.declared.Outcome.{Outcome}
 use Rattle.path_proof.specs.declared.Outcome.TheVariants.{Nothing, Value}
 
@@ -16,9 +15,11 @@ use Rattle.path_proof.specs.declared.Outcome.TheVariants.{Nothing, Value}
 abbrev pub held_nodes : List (Arc Node Global) → List Held
 held_nodes used = map (λ a. held a.value) used
 
--- the branches of the inner node above, if there is one
-abbrev pub hashes_kept : Option Inner → Option (List Hash)
-hashes_kept parent = option_map (λ i. i.hashes) parent
+-- the branches of the last node, where it is an inner one: a path goes on below it
+abbrev pub last_branches : List Held → Option (List Hash)
+last_branches [] = None
+last_branches (n ∷ []) = inner_hashes n
+last_branches (n ∷ m ∷ rest) = last_branches (m ∷ rest)
 
 -- an inner node has levels below it
 abbrev pub IsAbove : Held → ℕ → Type 0

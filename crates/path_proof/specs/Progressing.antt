@@ -11,7 +11,7 @@ use Rattle.path_proof.specs.declared.answer.ReadFault.{ReadFault}
 use Rattle.path_proof.specs.declared.way.Reading.{Reading}
 use Rattle.path_proof.specs.declared.way.Progress.{Progress}
 use Rattle.path_proof.specs.declared.way.Progress.TheVariants.{More, Done}
-use Rattle.path_proof.specs.Paths.{held_nodes, outcome_by}
+use Rattle.path_proof.specs.Paths.{held_nodes, last_branches, outcome_by}
 use Rattle.path_proof.specs.Sources.{AreHeld, Gives, HasHash}
 use Rattle.path_proof.specs.Ways.{waypoint, LeadsTo, HasCause}
 
@@ -26,7 +26,8 @@ levels_left r = 64 - r.place.depth
 -- its nodes lead from the root to its place, and are those that the source holds, where it tells that
 abbrev pub IsOnWay : Half → Kind → Hash → Hash → Bool → Lookup → Reading → Type 0
 IsOnWay half kind root key tells nodes r =
-    LeadsTo half kind root key tells nodes (held_nodes r.used.items) (waypoint r.place.depth r.place.parent r.place.wanted)
+    LeadsTo half kind root key tells nodes (held_nodes r.used.items)
+    (waypoint r.place.depth (last_branches (held_nodes r.used.items)) r.place.wanted)
 
 -- a source that holds this gave it for the hash
 pub record IsFetched (half : Half) (tells : Bool) (nodes : Lookup) (h : Hash) (fetched : Result (Option (Arc Node Global)) FetchFault)

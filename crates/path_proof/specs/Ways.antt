@@ -11,8 +11,6 @@ use Rattle.ledger_spec.specs.Bytes.{Hash, Half, Lookup, zero_hash, is_nonzero, s
 use Rattle.ledger_spec.specs.Forms.{Held, inner, hash_of}
 use Rattle.ledger_spec.specs.Rules.{fault_of}
 use Rattle.ledger_spec.specs.Reads.{inner_hashes}
-use Rattle.path_proof.specs.Paths.{hashes_kept}
-use Rattle.shamap_node.specs.declared.parts.Inner.{Inner}
 use Rattle.path_proof.specs.Sources.{AreHeld, Holds, IsForeign}
 use Rattle.path_proof.specs.declared.answer.ReadFault.{ReadFault}
 use Rattle.path_proof.specs.declared.answer.ReadFault.TheVariants.{Absent, Fault, Shape, Memory}
@@ -23,9 +21,9 @@ pub record Waypoint : Type 0 where
   pub above : Option (List Hash)
   pub hash : Hash
 
--- the same, from what the code keeps
-abbrev pub waypoint : ℕ → Option Inner → Hash → Waypoint
-waypoint depth parent wanted = record { depth = depth; above = hashes_kept parent; hash = wanted }
+-- the same, from its parts
+abbrev pub waypoint : ℕ → Option (List Hash) → Hash → Waypoint
+waypoint depth above wanted = record { depth = depth; above = above; hash = wanted }
 
 -- the root's place
 abbrev pub start : Hash → Waypoint

@@ -10,7 +10,7 @@ use crate::Outcome;
 use crate::waypoints::{Waypoint, leaf_says};
 use half_hash::{Hash32, NodeHash, known_half};
 use nib_path::NodeId;
-use shamap_node::{Kind, Node};
+use shamap_node::{Inner, Kind, Node};
 use std::sync::Arc;
 
 /// What the nodes say of the key, where they are a path to it: each of the hash that the one before
@@ -63,9 +63,10 @@ fn path_says<H: NodeHash>(
         };
     }
     let mut waypoint = Waypoint::root(root);
+    let mut parent: Option<&Inner> = None;
     let mut rest = used;
     while let Some((node, after)) = rest.split_first() {
-        if !waypoint.fits::<H>(node, kind, key) {
+        if !waypoint.fits::<H>(node, parent, kind, key) {
             return None;
         }
         if after.is_empty() {
@@ -75,6 +76,7 @@ fn path_says<H: NodeHash>(
             return None;
         };
         waypoint = waypoint.below(inner, key);
+        parent = Some(inner);
         rest = after;
     }
     None

@@ -5,7 +5,7 @@ ghost use Rattle.std.specs.FinMap as map;
 ghost use Rattle.ledger_spec.specs.Reads as spec;
 ghost use Rattle.ledger_spec.specs.Reads.{AreNodes, AnswersOrShows};
 ghost use Rattle.shamap_node.specs.Nodes.{held, hashes_above};
-ghost use Rattle.path_proof.specs.Paths.{held_nodes, outcome_by, hashes_kept, IsAbove};
+ghost use Rattle.path_proof.specs.Paths.{held_nodes, outcome_by};
 ghost use Rattle.path_proof.specs.Sources.{AreHeld, Holds, LeavesSource, RoseIf};
 ghost use Rattle.path_proof.specs.Ways.{Ends, Fits, HasCause};
 

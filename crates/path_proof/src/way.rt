@@ -3,9 +3,10 @@ ghost use Rattle.std.specs.Prelude.{◌≡◌, ◌<◌, false, Err, None, IfErr,
 ghost use Rattle.nib_path.specs.Paths.{nibbles};
 ghost use Rattle.ledger_spec.specs.Bytes.{Lookup, is_zero};
 ghost use Rattle.ledger_spec.specs.declared.Kind.{Kind};
+ghost use Rattle.ledger_spec.specs.Reads.{inner_hashes};
 ghost use Rattle.ledger_spec.specs.Rules.{fault_of};
 ghost use Rattle.shamap_node.specs.Nodes.{held, hashes_above};
-ghost use Rattle.path_proof.specs.Paths.{hashes_kept, IsAbove};
+ghost use Rattle.path_proof.specs.Paths.{held_nodes, last_branches, IsAbove};
 ghost use Rattle.path_proof.specs.Sources.{Gives, Holds, HasHash};
 ghost use Rattle.path_proof.specs.Ways.{Ends, Fits};
 ghost use Rattle.path_proof.specs.Progressing.{Comes, IsFetched, IsOnWay, levels_left, wanted_by, StaysBelow};
@@ -68,7 +69,7 @@ impl Reading {
         ensures fault { IfErr result (λ why. why ≡ ReadFault.Fault → fetched ≡ Err FetchFault.Fault) }
     {
         let Reading { place, mut used } = self;
-        let node = node_for::<H>(&place, fetched, kind, key)?;
+        let node = node_for::<H>(&place, last_inner(&used), fetched, kind, key)?;
         let next = place.after(&node, key);
         used.push(node)?;
         match next {
@@ -78,25 +79,46 @@ impl Reading {
     }
 }
 
-// The node that was given for a place on the way, if it may stand there.
+// The last node of a path, where it is an inner one: the path goes on below it.
+fn last_inner(used: &[Arc<Node>]) -> Option<&Inner>
+    ensures { hashes_above result ≡ last_branches (held_nodes used.now) }
+{
+    match used.last() {
+        Some(node) => inner_in(node),
+        None => None,
+    }
+}
+
+// A node, where it is an inner one.
+fn inner_in(node: &Node) -> Option<&Inner>
+    ensures { hashes_above result ≡ inner_hashes (held node.now) }
+{
+    match node {
+        Node::Inner(inner) => Some(inner),
+        Node::Leaf(_) => None,
+    }
+}
+
+// The node that was given for a place on the way, if it may stand there, below this inner node (none at the root).
 fn node_for<H: NodeHash>(
     place: &Waypoint,
+    parent: Option<&Inner>,
     fetched: Result<Option<Arc<Node>>, FetchFault>,
     kind: Kind,
     key: &Hash32,
 ) -> Result<Arc<Node>, ReadFault>
     ensures fits { HasHash H.half place.now.wanted fetched → IfOk result (λ a.
-        Fits H.half kind (hashes_kept place.now.parent) (take place.now.depth (nibbles key.now)) place.now.wanted (held a.value)) }
+        Fits H.half kind (hashes_above parent.entry) (take place.now.depth (nibbles key.now)) place.now.wanted (held a.value)) }
     ensures above { IfOk result (λ a. IsAbove (held a.value) place.now.depth) }
     ensures held { (there : Option (List ℕ)) → Gives H.half there fetched → IfOk result (λ a. Holds H.half there (held a.value)) }
     ensures ends { (tells : Bool) (nodes : Lookup) → IsFetched H.half tells nodes place.now.wanted fetched
-        → IfErr result (Ends H.half kind tells nodes (hashes_kept place.now.parent) (take place.now.depth (nibbles key.now))
+        → IfErr result (Ends H.half kind tells nodes (hashes_above parent.entry) (take place.now.depth (nibbles key.now))
         place.now.wanted) }
     ensures fault { IfErr result (λ why. why ≡ ReadFault.Fault → fetched ≡ Err FetchFault.Fault) }
 {
     key.known();
     let id = NodeId::of_key(&key.bytes, place.depth);
-    judged::<H>(fetched, kind, place.parent.as_ref(), &id, &place.wanted)
+    judged::<H>(fetched, kind, parent, &id, &place.wanted)
 }
 
 /// The node that was given for a place of a map, below this inner node (none at the root), if it may stand there.

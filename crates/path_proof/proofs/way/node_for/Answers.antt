@@ -1,9 +1,8 @@
-use Rattle.std.proofs.Common.{ap, ◌∙◌, List, ℕ, Option, take, subst, IfErr}
+use Rattle.std.proofs.Common.{ap, ◌∙◌, List, ℕ, take, subst, IfErr}
 use Rattle.nib_path.specs.Paths.{nibbles}
-use Rattle.ledger_spec.specs.Bytes.{Hash}
-use Rattle.path_proof.specs.Paths.{hashes_kept}
+use Rattle.shamap_node.specs.Nodes.{hashes_above}
 use Rattle.path_proof.specs.Ways.{Ends}
-use Rattle.path_proof.proofs.PathLaws.{rules_above, kept_above}
+use Rattle.path_proof.proofs.PathLaws.{rules_above}
 use Rattle.path_proof.proofs.way.node_for.Goals as goal
 
 -- a node that breaks no rule at the key's path has levels below it, if it is an inner one
@@ -17,7 +16,5 @@ pub returns-clause-ends : goal.returns-clause-ends
 returns-clause-ends g c tells nodes fetched =
     let half = g.H.NodeHash.half in
     let place = c.args.place.now in
-    subst (λ (p : List ℕ). IfErr c.judged.result (Ends half c.args.kind tells nodes (hashes_kept place.parent) p place.wanted))
-    (c.of_key-id.ensures ∙ ap (λ (k : List ℕ). take place.depth (nibbles k)) c.key.view_is)
-    (subst (λ (above : Option (List Hash)). IfErr c.judged.result (Ends half c.args.kind tells nodes above c.of_key-id.result place.wanted))
-    (kept_above c.as_ref.result place.parent c.as_ref.ensures.value) (c.judged.ensures.ends tells nodes fetched))
+    subst (λ (p : List ℕ). IfErr c.judged.result (Ends half c.args.kind tells nodes (hashes_above c.args.parent) p place.wanted))
+    (c.of_key-id.ensures ∙ ap (λ (k : List ℕ). take place.depth (nibbles k)) c.key.view_is) (c.judged.ensures.ends tells nodes fetched)
