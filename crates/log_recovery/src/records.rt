@@ -1,6 +1,6 @@
 //! The records of the live logs that are found on the disks of a room.
-ghost use Rattle.std.specs.Prelude.{◌≡◌, ◌≢◌, ◌++◌, IsTrue, IfOk, OnErr};
-ghost use Rattle.run_io.specs.Bytes.{Rose};
+ghost use Rattle.std.specs.Prelude.{◌≡◌, IsTrue, IfOk};
+ghost use Rattle.log_shelf.specs.Reading.{ReadsRoom};
 ghost use Rattle.ledger_machine.specs.Records.{AreRecords};
 ghost use Rattle.log_recovery.specs.Records.{records_of, AreRecovered};
 
@@ -18,10 +18,7 @@ pub fn recover<H: NodeHash, R: Room>(
 ) -> Result<Vec<Record>, RecoverFault<R::D>>
     ensures records { IsTrue R.tells → IfOk result (λ records. AreRecovered H.half (R.files room.old) records.items) }
     ensures fit { IsTrue R.tells → IfOk result (λ records. AreRecords H.half records.items) }
-    ensures same { IsTrue R.tells → R.files room.new ≡ R.files room.old }
-    ensures calm { IsTrue (R.is_calm room.old) → IsTrue (R.is_calm room.new) × OnErr result (result ≡ Err RecoverFault.Memory) }
-    ensures room { result ≡ Err RecoverFault.Room → Rose (R.faults room.old) (R.faults room.new) }
-    ensures disk { (d : R.D) → result ≡ Err (RecoverFault.Disk d) → R.D.faults d ≢ 0 }
+    ensures read { ReadsRoom R.tells R.files R.is_calm R.faults R.D.faults room.old room.new result }
 {
     known_half::<H>();
     let found = recover_where::<R, StoredForms<H>>(alloc, room)?;

@@ -1,6 +1,7 @@
 pub mod Disks
 pub mod Entries
 pub mod Logs
+pub mod Adding
 pub mod Places
 pub mod Backends
 pub mod Stops
@@ -10,4 +11,5 @@ pub mod Manifests
 pub mod Rooms
 pub mod Shelves
 pub mod Recovery
+pub mod Reading
 pub mod Images

@@ -46,3 +46,8 @@ MayDoubtEntry before entry now = (now ≡ None) ⊎ ((now ≡ before) ⊎ (now �
 -- a file reads as these entries, or as they are with the one in doubt at their end
 abbrev pub ReadsAs : List ℕ → List (List ℕ) → Option (List ℕ) → Type 0
 ReadsAs file told doubt = (entries_of file ≡ told) ⊎ (entries_of file ≡ with_doubted told doubt)
+
+-- what stands in front of the gate and behind it is as before
+pub record KeepsAround (tail : ℕ) (old new : List ℕ) : Type 0 where
+  pub front : take tail new ≡ take tail old
+  pub same : behind tail new ≡ behind tail old

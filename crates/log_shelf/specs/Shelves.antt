@@ -1,11 +1,13 @@
 -- A shelf of logs, as contracts of other crates name it, and what a stop leaves of it.
 use Rattle.std.specs.Prelude.{◌≡◌, ◌++◌, ◌<◌, ◌==◌, ℕ, Bool, true, false, cond, IsTrue, List, [], ◌∷◌, map}
-use Rattle.std.specs.Prelude.{◌+◌, is_none, Option, None, Some}
+use Rattle.std.specs.Prelude.{◌+◌, is_none, Option, None, Some, Result, IsSomeAnd, OnOk}
 use Rattle.std.specs.FinMap as finite
 use Rattle.ledger_spec.specs.Bytes.{Bytes, Hash, Nodes}
 use Rattle.node_backend.specs.Numbers.{is_among}
 use Rattle.node_backend.specs.Doubts.{Pair}
-use Rattle.log_shelf.specs.Manifests.{AreLive, NamesOnly}
+use Rattle.node_backend.specs.declared.back.BackFault.{BackFault}
+use Rattle.log_shelf.specs.Disks.{CountsFaults, OnFault}
+use Rattle.log_shelf.specs.Manifests.{AreLive, NamesOnly, FreshFailed}
 use Rattle.log_shelf.specs.Rooms.{Files, file_in}
 use Rattle.log_shelf.specs.Recovery.{entries_at, live_in, IsKept, IsRecovered}
 use Rattle.log_shelf.specs.Stops.{held_of, doubt_of, may_leave_of}
@@ -39,6 +41,26 @@ module _ {R D : Type 0} {room : Rooms R D} {disk : Disks D} where
   abbrev pub StandsLive : LogShelf R D room disk → Type 0
   StandsLive s = (file : List ℕ) → disk.may_leave s.manifest.disk file → AreLive s.live.items file
       × NamesOnly s.live.items (numbers_of s.spent.items) (is_none s.broken) (s.made + 1) file
+
+  -- what every call leaves of a shelf: its count of faults, and a manifest that a stop leaves with its live logs
+  pub record LeavesShelf {X : Type 0} (old new : LogShelf R D room disk) (result : Result X BackFault) : Type 0 where
+    pub counts : CountsFaults (OnFault result) old.faults new.faults
+    pub stop : StandsLive new
+
+  -- the lists, the last number, the manifest and the count of faults are as before
+  pub record KeepsShelf (old new : LogShelf R D room disk) : Type 0 where
+    pub live : new.live ≡ old.live
+    pub spent : new.spent ≡ old.spent
+    pub made : new.made ≡ old.made
+    pub manifest : new.manifest ≡ old.manifest
+    pub faults : new.faults ≡ old.faults
+
+  -- no disk is left broken by a call that made a log; and one that `failed` says why: the room or the manifest failed, no number is left,
+  -- or the new log's disk failed, which is kept as the broken one
+  pub record TellsWhy {X : Type 0} (failed : Type 0) (old new : LogShelf R D room disk) (result : Result X BackFault) : Type 0 where
+    pub whole : OnOk result (new.broken ≡ None)
+    pub why : failed → FreshFailed (room.faults old.room) (room.faults new.room) (disk.faults old.manifest.disk)
+        (disk.faults new.manifest.disk) old.made (IsSomeAnd new.broken (λ d. 0 < disk.faults d))
 
   -- what a stop left of a shelf and of backends that are in its first list: a log that the manifest names and that is neither one of
   -- these nor one whose discard failed has no entry

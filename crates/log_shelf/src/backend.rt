@@ -1,5 +1,5 @@
 //! A backend whose pairs are entries of a log, with the place of each value in memory.
-ghost use Rattle.std.specs.Prelude.{◌≡◌, ◌≢◌, ◌≤◌, ◌+◌, ◌++◌, [], ℕ, Bool, IsTrue, true, false, None, length, take, drop, IfOk, OnOk};
+ghost use Rattle.std.specs.Prelude.{◌≡◌, ◌≢◌, ◌≤◌, ◌+◌, ◌++◌, true, false, None, length, take, IfOk, OnOk};
 ghost use Rattle.std.specs.Prelude.{OnErr};
 ghost use Rattle.std.specs.FinMap as map;
 ghost use Rattle.std.specs.Option.{option_copied};
@@ -7,9 +7,9 @@ ghost use Rattle.node_backend.specs.Order.{IsNext};
 ghost use Rattle.run_io.specs.Bytes.{Rose};
 ghost use Rattle.node_backend.specs.Counts.{held_sum};
 ghost use Rattle.node_backend.specs.Doubts.{MayDoubt, FailedPut};
+ghost use Rattle.log_shelf.specs.Disks.{LeavesDevice, OnFault};
 ghost use Rattle.log_shelf.specs.Places.{Shows};
-ghost use Rattle.log_shelf.specs.Logs.{told_entries};
-ghost use Rattle.log_shelf.specs.Backends.{held_in, pair_in_doubt, HoldsOrDoubts};
+ghost use Rattle.log_shelf.specs.Backends.{held_in, pair_in_doubt};
 
 use crate::index::Index;
 use crate::log::Log;
@@ -75,9 +75,7 @@ fn store_pair<D: Disk>(
     ensures unset { OnErr result (held_in log.new.tail (D.seen log.new.disk) ≡ held_in log.old.tail (D.seen log.old.disk)) }
     ensures doubted { OnErr result (MayDoubt (pair_in_doubt log.old.tail log.old.doubt (D.seen log.old.disk)) (h.now, form.now)
         (pair_in_doubt log.new.tail log.new.doubt (D.seen log.new.disk))) }
-    ensures numbered { D.number log.new.disk ≡ D.number log.old.disk }
-    ensures later { D.faults log.old.disk ≤ D.faults log.new.disk }
-    ensures cause { result ≡ Err BackFault.Fault → Rose (D.faults log.old.disk) (D.faults log.new.disk) }
+    ensures device { LeavesDevice D.number D.faults (OnFault result) log.old.disk log.new.disk }
 {
     h.known();
     let entry = entry_bytes(alloc, h, form)?;
@@ -96,17 +94,13 @@ fn store_pair<D: Disk>(
 }
 
 impl<D: Disk> LogBackend<D> {
-    ghost use Rattle.log_shelf.specs.Stops.{held_of, doubt_of, WithstandsStop};
+    ghost use Rattle.log_shelf.specs.Adding.{IsEmptyLog};
+    ghost use Rattle.log_shelf.specs.Stops.{IsNewBackend};
 
     /// A backend over a log without entries.
     pub(crate) fn over(alloc: Global, number: u64, log: Log<D>) -> LogBackend<D>
-        requires told { told_entries log.tail (D.seen log.disk) ≡ [] }
-        requires sure { log.doubt ≡ false }
-        requires own { D.number log.disk ≡ number }
-        ensures empty { held_of result ≡ map.empty }
-        ensures sure { doubt_of result ≡ None }
-        ensures uncounted { (result.faults ≡ 0) × (result.gets ≡ 0) }
-        ensures number { result.number ≡ number }
+        requires { IsEmptyLog number log }
+        ensures backend { IsNewBackend number result }
         ensures log { result.log ≡ log }
     {
         LogBackend {
@@ -121,7 +115,7 @@ impl<D: Disk> LogBackend<D> {
 
 impl<D: Disk + Send> Backend for LogBackend<D> {
     ghost use Rattle.std.specs.Prelude.{true};
-    ghost use Rattle.log_shelf.specs.Stops.{held_of, doubt_of, WithstandsStop};
+    ghost use Rattle.log_shelf.specs.Stops.{held_of, doubt_of, LeavesLog};
 
     ghost tells = { true };
 
@@ -142,14 +136,10 @@ impl<D: Disk + Send> Backend for LogBackend<D> {
     fn get(&mut self, alloc: Global, h: &Hash32) -> Result<Option<Blob>, BackFault>
         ensures same { held_of self.new ≡ held_of self.old }
         ensures found { IfOk result (λ b. b ≡ map.get (held_of self.old) h.now) }
-        ensures later { self.old.faults ≤ self.new.faults }
         ensures counted { self.new.gets ≡ held_sum self.old.gets 1 }
         ensures risen { self.old.gets ≤ self.new.gets }
-        ensures numbered { self.new.number ≡ self.old.number }
         ensures doubted { doubt_of self.new ≡ doubt_of self.old }
-        ensures cause { result ≡ Err BackFault.Fault → Rose self.old.faults self.new.faults }
-        ensures disk { self.new.faults ≢ self.old.faults → Rose (D.faults self.old.log.disk) (D.faults self.new.log.disk) }
-        ensures stop { WithstandsStop self.new }
+        ensures left { LeavesLog self.old self.new result }
     {
         self.gets = self.gets.saturating_add(1);
         match self.index.get(h) {
@@ -169,12 +159,8 @@ impl<D: Disk + Send> Backend for LogBackend<D> {
         ensures unset { OnErr result (held_of self.new ≡ held_of self.old) }
         ensures sure { OnOk result (doubt_of self.new ≡ None) }
         ensures doubted { OnErr result (MayDoubt (doubt_of self.old) (h.now, form.now) (doubt_of self.new)) }
-        ensures later { self.old.faults ≤ self.new.faults }
         ensures uncounted { self.new.gets ≡ self.old.gets }
-        ensures numbered { self.new.number ≡ self.old.number }
-        ensures cause { result ≡ Err BackFault.Fault → Rose self.old.faults self.new.faults }
-        ensures disk { self.new.faults ≢ self.old.faults → Rose (D.faults self.old.log.disk) (D.faults self.new.log.disk) }
-        ensures stop { WithstandsStop self.new }
+        ensures left { LeavesLog self.old self.new result }
     {
         let outcome = store_pair(alloc, &mut self.index, &mut self.log, h, form);
         count_fault(&mut self.faults, outcome)
@@ -183,13 +169,9 @@ impl<D: Disk + Send> Backend for LogBackend<D> {
     fn next(&mut self, _: Global, after: Option<&Hash32>) -> Result<Option<Hash32>, BackFault>
         ensures same { held_of self.new ≡ held_of self.old }
         ensures next { IfOk result (IsNext (held_of self.old) (option_copied after.entry)) }
-        ensures later { self.old.faults ≤ self.new.faults }
         ensures uncounted { self.new.gets ≡ self.old.gets }
-        ensures numbered { self.new.number ≡ self.old.number }
         ensures doubted { doubt_of self.new ≡ doubt_of self.old }
-        ensures cause { result ≡ Err BackFault.Fault → Rose self.old.faults self.new.faults }
-        ensures disk { self.new.faults ≢ self.old.faults → Rose (D.faults self.old.log.disk) (D.faults self.new.log.disk) }
-        ensures stop { WithstandsStop self.new }
+        ensures left { LeavesLog self.old self.new result }
     {
         Ok(self.index.next(after))
     }

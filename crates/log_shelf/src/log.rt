@@ -1,11 +1,11 @@
 //! A log: entries one after another, and then a closed gate. An entry is its gate, a length and so many bytes, and counts
 //! where its gate is open. What stands behind a gate is on the disk before the gate is opened, by a write of its own, so a
 //! stop leaves the entry whole or without effect, and no checksum is trusted.
-ghost use Rattle.std.specs.Prelude.{◌≡◌, ◌≢◌, ◌⊎◌, ◌+◌, ◌^◌, ◌<◌, ◌≤◌, ◌++◌, [], ◌∷◌, ℕ, List, true, false, length, take, drop};
+ghost use Rattle.std.specs.Prelude.{◌≡◌, ◌≢◌, ◌+◌, ◌^◌, ◌<◌, ◌≤◌, [], ◌∷◌, true, false, length, take, drop};
 ghost use Rattle.std.specs.Prelude.{slice_index, IfOk, IfErr, OnOk, OnErr};
 ghost use Rattle.run_io.specs.Bytes.{Rose};
-ghost use Rattle.log_shelf.specs.Disks.{Holds, Only, NoMore};
-ghost use Rattle.log_shelf.specs.Logs.{body_of, behind, IsLog, told_entries, doubted, MayDoubtEntry};
+ghost use Rattle.log_shelf.specs.Disks.{Holds, Only, OnFault, KeepsBytes, LeavesDevice};
+ghost use Rattle.log_shelf.specs.Logs.{body_of, behind, IsLog, doubted, KeepsAround};
 
 use crate::Disk;
 use node_backend::BackFault;
@@ -29,11 +29,8 @@ pub(crate) struct Log<D: Disk> {
 /// Waits until a stop leaves what reads give.
 fn settle<D: Disk>(disk: &mut D) -> Result<(), BackFault>
     ensures durable { OnOk result (Only (D.seen disk.old) (D.may_leave disk.new)) }
-    ensures seen { D.seen disk.new ≡ D.seen disk.old }
-    ensures stop { NoMore (D.may_leave disk.old) (D.may_leave disk.new) }
-    ensures numbered { D.number disk.new ≡ D.number disk.old }
-    ensures later { D.faults disk.old ≤ D.faults disk.new }
-    ensures cause { OnErr result (Rose (D.faults disk.old) (D.faults disk.new)) }
+    ensures kept { KeepsBytes D.seen D.may_leave disk.old disk.new }
+    ensures device { LeavesDevice D.number D.faults (OnErr result) disk.old disk.new }
     ensures memory { result ≢ Err BackFault.Memory }
 {
     match disk.sync() {
@@ -56,9 +53,7 @@ fn body_bytes(alloc: Global, entry: &[u8]) -> Result<Vec<u8>, AllocError>
 fn write_first<D: Disk>(disk: &mut D) -> Result<(), BackFault>
     requires { D.seen disk.old ≡ [] }
     ensures ok { OnOk result ((D.seen disk.new ≡ 0 ∷ []) × Only (D.seen disk.new) (D.may_leave disk.new)) }
-    ensures numbered { D.number disk.new ≡ D.number disk.old }
-    ensures later { D.faults disk.old ≤ D.faults disk.new }
-    ensures cause { result ≡ Err BackFault.Fault → Rose (D.faults disk.old) (D.faults disk.new) }
+    ensures device { LeavesDevice D.number D.faults (OnFault result) disk.old disk.new }
 {
     disk.write_at(0, &[CLOSED])?;
     settle(disk)
@@ -68,12 +63,9 @@ fn write_first<D: Disk>(disk: &mut D) -> Result<(), BackFault>
 fn write_gate<D: Disk>(disk: &mut D, tail: u64, gate: u8) -> Result<(), BackFault>
     requires log { IsLog tail true (D.seen disk.old) (D.may_leave disk.old) }
     ensures log { IsLog tail true (D.seen disk.new) (D.may_leave disk.new) }
-    ensures front { take tail (D.seen disk.new) ≡ take tail (D.seen disk.old) }
-    ensures same { behind tail (D.seen disk.new) ≡ behind tail (D.seen disk.old) }
+    ensures around { KeepsAround tail (D.seen disk.old) (D.seen disk.new) }
     ensures ok { OnOk result (Only (D.seen disk.new) (D.may_leave disk.new) × (slice_index (D.seen disk.new) tail ≡ gate)) }
-    ensures numbered { D.number disk.new ≡ D.number disk.old }
-    ensures later { D.faults disk.old ≤ D.faults disk.new }
-    ensures cause { result ≡ Err BackFault.Fault → Rose (D.faults disk.old) (D.faults disk.new) }
+    ensures device { LeavesDevice D.number D.faults (OnFault result) disk.old disk.new }
 {
     disk.write_at(tail, &[gate])?;
     settle(disk)
@@ -86,22 +78,20 @@ fn write_body<D: Disk>(disk: &mut D, tail: u64, body: &[u8]) -> Result<(), BackF
     ensures front { take tail (D.seen disk.new) ≡ take tail (D.seen disk.old) }
     ensures ok { OnOk result (Only (D.seen disk.new) (D.may_leave disk.new) × Holds (D.seen disk.new) (tail + 1) body.now
         × (tail + 1 + length body.now ≤ 2 ^ 63)) }
-    ensures numbered { D.number disk.new ≡ D.number disk.old }
-    ensures later { D.faults disk.old ≤ D.faults disk.new }
-    ensures cause { result ≡ Err BackFault.Fault → Rose (D.faults disk.old) (D.faults disk.new) }
+    ensures device { LeavesDevice D.number D.faults (OnFault result) disk.old disk.new }
 {
     disk.write_at(tail + 1, body)?;
     settle(disk)
 }
 
 impl<D: Disk> Log<D> {
+    ghost use Rattle.log_shelf.specs.Adding.{IsEmptyLog, AddsEntry, OpensGate};
+
     /// A log without entries on an empty disk. Where that fails the disk comes back.
     pub(crate) fn format(disk: D) -> Result<Log<D>, (BackFault, D)>
         requires { D.seen disk ≡ [] }
-        ensures told { IfOk result (λ log. told_entries log.tail (D.seen log.disk) ≡ []) }
-        ensures sure { IfOk result (λ log. log.doubt ≡ false) }
+        ensures log { IfOk result (λ log. IsEmptyLog (D.number disk) log) }
         ensures empty { IfOk result (λ log. take log.tail (D.seen log.disk) ≡ []) }
-        ensures numbered { IfOk result (λ log. D.number log.disk ≡ D.number disk) }
         ensures later { IfOk result (λ log. D.faults disk ≤ D.faults log.disk) }
         ensures cause { IfErr result (λ e. (D.faults disk ≤ D.faults e.1) × (e.0 ≡ BackFault.Fault
             → Rose (D.faults disk) (D.faults e.1))) }
@@ -125,9 +115,7 @@ impl<D: Disk> Log<D> {
         ensures err { OnErr result ((self.new.doubt ≡ self.old.doubt)
             × (doubted self.old.tail self.new.doubt (D.seen self.new.disk) ≡ doubted self.old.tail self.old.doubt (D.seen
             self.old.disk))) }
-        ensures numbered { D.number self.new.disk ≡ D.number self.old.disk }
-        ensures later { D.faults self.old.disk ≤ D.faults self.new.disk }
-        ensures cause { result ≡ Err BackFault.Fault → Rose (D.faults self.old.disk) (D.faults self.new.disk) }
+        ensures device { LeavesDevice D.number D.faults (OnFault result) self.old.disk self.new.disk }
     {
         if self.doubt {
             write_gate(&mut self.disk, self.tail, CLOSED)?;
@@ -140,15 +128,9 @@ impl<D: Disk> Log<D> {
     fn publish(&mut self, len: u64) -> Result<(), BackFault>
         requires ready { IsLog self.old.tail true (D.seen self.old.disk) (D.may_leave self.old.disk) }
         requires len { len ≡ length (behind self.old.tail (D.seen self.old.disk)) }
-        ensures told { OnOk result (told_entries self.new.tail (D.seen self.new.disk)
-            ≡ told_entries self.old.tail (D.seen self.old.disk) ++ behind self.old.tail (D.seen self.old.disk) ∷ []) }
-        ensures ok { OnOk result ((self.new.doubt ≡ false) × (self.new.tail ≡ self.old.tail + 9 + len)) }
-        ensures front { take self.old.tail (D.seen self.new.disk) ≡ take self.old.tail (D.seen self.old.disk) }
-        ensures same { behind self.old.tail (D.seen self.new.disk) ≡ behind self.old.tail (D.seen self.old.disk) }
-        ensures err { OnErr result ((self.new.doubt ≡ true) × (self.new.tail ≡ self.old.tail)) }
-        ensures numbered { D.number self.new.disk ≡ D.number self.old.disk }
-        ensures later { D.faults self.old.disk ≤ D.faults self.new.disk }
-        ensures cause { result ≡ Err BackFault.Fault → Rose (D.faults self.old.disk) (D.faults self.new.disk) }
+        ensures opened { OpensGate len self.old self.new result }
+        ensures around { KeepsAround self.old.tail (D.seen self.old.disk) (D.seen self.new.disk) }
+        ensures device { LeavesDevice D.number D.faults (OnFault result) self.old.disk self.new.disk }
     {
         self.doubt = true;
         write_gate(&mut self.disk, self.tail, OPEN)?;
@@ -161,16 +143,8 @@ impl<D: Disk> Log<D> {
     /// one that was. It takes no memory but what the disk takes.
     pub(crate) fn add(&mut self, entry: &[u8], body: &[u8]) -> Result<(), BackFault>
         requires body { body.now ≡ body_of entry.now }
-        ensures told { OnOk result (told_entries self.new.tail (D.seen self.new.disk)
-            ≡ told_entries self.old.tail (D.seen self.old.disk) ++ entry.now ∷ []) }
-        ensures ok { OnOk result ((self.new.doubt ≡ false) × (self.new.tail ≡ self.old.tail + 9 + length entry.now)) }
-        ensures front { take self.old.tail (D.seen self.new.disk) ≡ take self.old.tail (D.seen self.old.disk) }
-        ensures err { OnErr result ((self.new.tail ≡ self.old.tail)
-            × MayDoubtEntry (doubted self.old.tail self.old.doubt (D.seen self.old.disk)) entry.now
-            (doubted self.new.tail self.new.doubt (D.seen self.new.disk))) }
-        ensures numbered { D.number self.new.disk ≡ D.number self.old.disk }
-        ensures later { D.faults self.old.disk ≤ D.faults self.new.disk }
-        ensures cause { result ≡ Err BackFault.Fault → Rose (D.faults self.old.disk) (D.faults self.new.disk) }
+        ensures added { AddsEntry entry.now self.old self.new result }
+        ensures device { LeavesDevice D.number D.faults (OnFault result) self.old.disk self.new.disk }
     {
         self.close()?;
         write_body(&mut self.disk, self.tail, body)?;
@@ -179,16 +153,8 @@ impl<D: Disk> Log<D> {
 
     /// Adds an entry. Where that fails the entry may be in doubt, and no other is but one that was.
     pub(crate) fn append(&mut self, alloc: Global, entry: &[u8]) -> Result<(), BackFault>
-        ensures told { OnOk result (told_entries self.new.tail (D.seen self.new.disk)
-            ≡ told_entries self.old.tail (D.seen self.old.disk) ++ entry.now ∷ []) }
-        ensures ok { OnOk result ((self.new.doubt ≡ false) × (self.new.tail ≡ self.old.tail + 9 + length entry.now)) }
-        ensures front { take self.old.tail (D.seen self.new.disk) ≡ take self.old.tail (D.seen self.old.disk) }
-        ensures err { OnErr result ((self.new.tail ≡ self.old.tail)
-            × MayDoubtEntry (doubted self.old.tail self.old.doubt (D.seen self.old.disk)) entry.now
-            (doubted self.new.tail self.new.doubt (D.seen self.new.disk))) }
-        ensures numbered { D.number self.new.disk ≡ D.number self.old.disk }
-        ensures later { D.faults self.old.disk ≤ D.faults self.new.disk }
-        ensures cause { result ≡ Err BackFault.Fault → Rose (D.faults self.old.disk) (D.faults self.new.disk) }
+        ensures added { AddsEntry entry.now self.old self.new result }
+        ensures device { LeavesDevice D.number D.faults (OnFault result) self.old.disk self.new.disk }
     {
         let body = body_bytes(alloc, entry)?;
         self.add(entry, &body)
@@ -200,9 +166,7 @@ impl<D: Disk> Log<D> {
         ensures bytes { IfOk result (λ bytes. bytes.items ≡ take len (drop at (take self.old.tail (D.seen self.old.disk)))) }
         ensures seen { D.seen self.new.disk ≡ D.seen self.old.disk }
         ensures same { (self.new.tail ≡ self.old.tail) × (self.new.doubt ≡ self.old.doubt) }
-        ensures numbered { D.number self.new.disk ≡ D.number self.old.disk }
-        ensures later { D.faults self.old.disk ≤ D.faults self.new.disk }
-        ensures cause { result ≡ Err BackFault.Fault → Rose (D.faults self.old.disk) (D.faults self.new.disk) }
+        ensures device { LeavesDevice D.number D.faults (OnFault result) self.old.disk self.new.disk }
     {
         let mut bytes = vec![in alloc; 0; len as usize]?;
         match self.disk.read(at, &mut bytes) {

@@ -1,10 +1,9 @@
 //! A disk in memory. It keeps what was synced and the writes since then, so a stop may leave all that a disk's contract allows.
-ghost use Rattle.std.specs.Prelude.{◌≡◌, ◌≢◌, ◌⊎◌, ◌+◌, ◌-◌, ◌^◌, ◌<◌, ◌≤◌, ◌++◌, [], ◌∷◌, true, false, IsTrue, is_none, length, take};
-ghost use Rattle.std.specs.Prelude.{drop, replicate, IfOk, OnOk, OnErr, vec_len};
+ghost use Rattle.std.specs.Prelude.{◌≡◌, ◌≢◌, ◌+◌, ◌-◌, ◌^◌, ◌<◌, ◌≤◌, ◌++◌, [], true, false, IsTrue, is_none, length, take};
+ghost use Rattle.std.specs.Prelude.{drop, IfOk, OnOk};
 ghost use Rattle.std.specs.Vec.{vec_capacity};
-ghost use Rattle.run_io.specs.Bytes.{Rose};
-ghost use Rattle.log_shelf.specs.Disks.{Torn, Follows, NoMore, Only, padded, overwritten};
-ghost use Rattle.log_shelf.specs.MemDisks.{applied, IsOutcome};
+ghost use Rattle.log_shelf.specs.Disks.{padded, overwritten};
+ghost use Rattle.log_shelf.specs.MemDisks.{applied, IsOutcome, KeepsWrite};
 
 use crate::{Disk, Span};
 use node_backend::BackFault;
@@ -164,11 +163,8 @@ impl MemDisk {
     /// Keeps a write that was not synced yet. Where memory is refused nothing changes.
     fn keep(&mut self, at: u64, bytes: &[u8]) -> Result<(), BackFault>
         requires near { at + length bytes.now ≤ 2 ^ 63 }
-        ensures written { OnOk result (self.new.shown.items ≡ overwritten self.old.shown.items at bytes.now) }
-        ensures pending { OnOk result ((span : _) × (span.at ≡ at) × (span.bytes.items ≡ bytes.now)
-            × (self.new.pending.items ≡ self.old.pending.items ++ span ∷ [])) }
-        ensures unwritten { OnErr result ((self.new.shown.items ≡ self.old.shown.items)
-            × (self.new.pending.items ≡ self.old.pending.items)) }
+        ensures kept { KeepsWrite at bytes.now self.old.shown.items self.new.shown.items self.old.pending.items self.new.pending.items
+            result }
         ensures synced { self.new.synced.items ≡ self.old.synced.items }
         ensures rest { (self.new.faults ≡ self.old.faults) × (self.new.stop ≡ self.old.stop) × (self.new.number ≡ self.old.number) }
         ensures cause { result ≢ Err BackFault.Fault }

@@ -1,13 +1,13 @@
 //! What is recovered from the disks of a room, whatever a stop left of them.
-ghost use Rattle.std.specs.Prelude.{◌≡◌, ◌≢◌, ◌≤◌, ◌∷◌, [], ℕ, List, Bool, true, IsTrue, length, IfOk, OnOk, OnErr, IfSome, IfNone};
+ghost use Rattle.std.specs.Prelude.{◌≡◌, ◌≤◌, ◌∷◌, [], ℕ, List, Bool, true, IsTrue, length, IfOk, OnOk, OnErr, IfSome, IfNone};
 ghost use Rattle.std.specs.List.{filter};
 ghost use Rattle.std.specs.FinMap as map;
 ghost use Rattle.std.specs.Option.{option_copied};
-ghost use Rattle.run_io.specs.Bytes.{Rose};
 ghost use Rattle.log_shelf.specs.Entries.{entries_of};
 ghost use Rattle.log_shelf.specs.Backends.{nodes_after};
 ghost use Rattle.log_shelf.specs.Manifests.{live_of};
-ghost use Rattle.log_shelf.specs.Recovery.{entries_at, Rises, recovered_after, IsRecovered};
+ghost use Rattle.log_shelf.specs.Reading.{ReadsRoom};
+ghost use Rattle.log_shelf.specs.Recovery.{entries_at, Rises, IsRecovered};
 ghost use Rattle.node_backend.specs.Numbers.{is_among};
 
 use crate::reading::{front, live_numbers, read_file};
@@ -121,11 +121,8 @@ pub enum RecoverFault<D: Disk> {
 /// The bytes of a disk; none where there is no disk.
 fn file_of<R: Room>(alloc: Global, room: &mut R, number: u64) -> Result<Vec<u8>, RecoverFault<R::D>>
     ensures found { IsTrue R.tells → IfOk result (λ bytes. entries_of bytes.items ≡ entries_at (R.files room.old) number) }
-    ensures same { IsTrue R.tells → R.files room.new ≡ R.files room.old }
     ensures later { R.faults room.old ≤ R.faults room.new }
-    ensures calm { IsTrue (R.is_calm room.old) → IsTrue (R.is_calm room.new) × OnErr result (result ≡ Err RecoverFault.Memory) }
-    ensures room { result ≡ Err RecoverFault.Room → Rose (R.faults room.old) (R.faults room.new) }
-    ensures disk { (d : R.D) → result ≡ Err (RecoverFault.Disk d) → R.D.faults d ≢ 0 }
+    ensures read { ReadsRoom R.tells R.files R.is_calm R.faults R.D.faults room.old room.new result }
 {
     let attached = match room.attach(alloc, number) {
         Ok(attached) => attached,
@@ -159,10 +156,7 @@ pub fn recover_where<R: Room, T: EntryTest>(
     room: &mut R,
 ) -> Result<Found, RecoverFault<R::D>>
     ensures found { IsTrue R.tells → IfOk result (IsRecovered T.is_record (R.files room.old)) }
-    ensures same { IsTrue R.tells → R.files room.new ≡ R.files room.old }
-    ensures calm { IsTrue (R.is_calm room.old) → IsTrue (R.is_calm room.new) × OnErr result (result ≡ Err RecoverFault.Memory) }
-    ensures room { result ≡ Err RecoverFault.Room → Rose (R.faults room.old) (R.faults room.new) }
-    ensures disk { (d : R.D) → result ≡ Err (RecoverFault.Disk d) → R.D.faults d ≢ 0 }
+    ensures read { ReadsRoom R.tells R.files R.is_calm R.faults R.D.faults room.old room.new result }
 {
     let manifest = file_of(alloc, room, 0)?;
     let Ok(numbers) = sorted_numbers(alloc, &manifest) else {

@@ -1,8 +1,8 @@
 //! A room of disks, each with a number: the trait that a shelf of logs is generic in.
-ghost use Rattle.std.specs.Prelude.{◌≡◌, ◌≢◌, ◌≤◌, ℕ, Bool, IsTrue, [], List, IfOk, IfSome};
+ghost use Rattle.std.specs.Prelude.{◌≡◌, ◌≢◌, ℕ, Bool, IsTrue, [], IfOk, IfSome};
 ghost use Rattle.std.specs.Option.{option_map};
-ghost use Rattle.run_io.specs.Bytes.{Rose};
-ghost use Rattle.log_shelf.specs.Rooms.{Files, file_in};
+ghost use Rattle.log_shelf.specs.Disks.{CountsFaults, OnFault};
+ghost use Rattle.log_shelf.specs.Rooms.{Files, IsAttached, file_in};
 
 use crate::Disk;
 use node_backend::BackFault;
@@ -30,11 +30,9 @@ pub trait Room: Drop {
         ensures empty { IfOk result (λ d. Self.D.seen d ≡ []) }
         ensures calm { IsTrue (is_calm self.old) → IsTrue (is_calm self.new) × (result ≢ Err BackFault.Fault)
             × IfOk result (λ d. IsTrue (Self.D.is_calm d)) }
-        ensures numbered { IfOk result (λ d. Self.D.number d ≡ number) }
-        ensures uncounted { IfOk result (λ d. Self.D.faults d ≡ 0) }
+        ensures attached { IfOk result (λ d. IsAttached Self.D.number Self.D.faults number d) }
         ensures others { IsTrue tells → (n : ℕ) → n ≢ number → file_in (files self.new) n ≡ file_in (files self.old) n }
-        ensures later { faults self.old ≤ faults self.new }
-        ensures cause { result ≡ Err BackFault.Fault → Rose (faults self.old) (faults self.new) };
+        ensures counts { CountsFaults (OnFault result) (faults self.old) (faults self.new) };
 
     /// The disk of a number, or None exactly where there is none.
     fn attach(&mut self, alloc: Global, number: u64) -> Result<Option<Self::D>, BackFault>
@@ -42,8 +40,6 @@ pub trait Room: Drop {
         ensures calm { IsTrue (is_calm self.old) → IsTrue (is_calm self.new) × (result ≢ Err BackFault.Fault)
             × IfOk result (λ d. IfSome d (λ d. IsTrue (Self.D.is_calm d))) }
         ensures found { IsTrue tells → IfOk result (λ d. option_map Self.D.seen d ≡ file_in (files self.old) number) }
-        ensures numbered { IfOk result (λ d. IfSome d (λ d. Self.D.number d ≡ number)) }
-        ensures uncounted { IfOk result (λ d. IfSome d (λ d. Self.D.faults d ≡ 0)) }
-        ensures later { faults self.old ≤ faults self.new }
-        ensures cause { result ≡ Err BackFault.Fault → Rose (faults self.old) (faults self.new) };
+        ensures attached { IfOk result (λ d. IfSome d (λ d. IsAttached Self.D.number Self.D.faults number d)) }
+        ensures counts { CountsFaults (OnFault result) (faults self.old) (faults self.new) };
 }

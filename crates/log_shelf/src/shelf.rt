@@ -1,13 +1,14 @@
 //! A shelf of logs on the disks of a room. The manifest, disk 0, has an entry for each log that was made and for each that is
 //! gone, so a stop finds the live ones.
-ghost use Rattle.std.specs.Prelude.{◌≡◌, ◌≢◌, ◌⊎◌, ◌+◌, ◌^◌, ◌<◌, ◌≤◌, ◌++◌, [], ◌∷◌, ℕ, List, true, false, length, map as map_list};
-ghost use Rattle.std.specs.Prelude.{is_none, IsTrue, IfOk, IfErr, OnOk, OnErr};
+ghost use Rattle.std.specs.Prelude.{◌≡◌, ◌≢◌, ◌⊎◌, ◌+◌, ◌<◌, ◌≤◌, ◌++◌, [], ◌∷◌, false, length, map as map_list};
+ghost use Rattle.std.specs.Prelude.{is_none, IsTrue, IfOk, OnOk, OnErr};
 ghost use Rattle.std.specs.Vec.{vec_capacity};
 ghost use Rattle.run_io.specs.Bytes.{Rose};
 ghost use Rattle.node_backend.specs.Numbers.{is_among, exceeds, without};
+ghost use Rattle.log_shelf.specs.Disks.{CountsFaults, LeavesDevice, OnFault};
 ghost use Rattle.log_shelf.specs.Entries.{number_bytes};
 ghost use Rattle.log_shelf.specs.Logs.{body_of, told_entries, doubted, MayDoubtEntry};
-ghost use Rattle.log_shelf.specs.Manifests.{Manifested, FreshFailed};
+ghost use Rattle.log_shelf.specs.Manifests.{Manifested};
 
 use crate::backend::count_fault;
 use crate::log::Log;
@@ -75,9 +76,7 @@ fn note_number<D: Disk>(manifest: &mut Log<D>, kind: u8, number: u64) -> Result<
     ensures doubted { OnErr result (MayDoubtEntry (doubted manifest.old.tail manifest.old.doubt (D.seen manifest.old.disk)) (kind ∷
         number_bytes number)
         (doubted manifest.new.tail manifest.new.doubt (D.seen manifest.new.disk))) }
-    ensures numbered { D.number manifest.new.disk ≡ D.number manifest.old.disk }
-    ensures later { D.faults manifest.old.disk ≤ D.faults manifest.new.disk }
-    ensures cause { result ≡ Err BackFault.Fault → Rose (D.faults manifest.old.disk) (D.faults manifest.new.disk) }
+    ensures device { LeavesDevice D.number D.faults (OnFault result) manifest.old.disk manifest.new.disk }
 {
     manifest.add(&number_entry(kind, number), &number_body(kind, number))
 }
@@ -112,10 +111,10 @@ fn unlist(live: &mut Vec<u64>, number: u64) -> bool
 }
 
 impl<R: Room> LogShelf<R> {
-    ghost use Rattle.std.specs.Prelude.{None, IsSomeAnd};
-    ghost use Rattle.std.specs.FinMap as map;
-    ghost use Rattle.log_shelf.specs.Stops.{held_of, doubt_of};
-    ghost use Rattle.log_shelf.specs.Shelves.{StandsLive};
+    ghost use Rattle.std.specs.Prelude.{IsSomeAnd};
+    ghost use Rattle.log_shelf.specs.Adding.{IsEmptyLog};
+    ghost use Rattle.log_shelf.specs.Stops.{IsNewBackend};
+    ghost use Rattle.log_shelf.specs.Shelves.{KeepsShelf, StandsLive, TellsWhy};
 
     /// A shelf without backends, in a room. It makes the manifest.
     pub fn new(alloc: Global, room: R) -> Result<LogShelf<R>, Unmade<R>>
@@ -148,15 +147,11 @@ impl<R: Room> LogShelf<R> {
     /// Makes the log of a number. Where its disk fails it is kept as the broken one.
     fn make_log(&mut self, alloc: Global, number: u64) -> Result<Log<R::D>, BackFault>
         requires closed { self.old.manifest.doubt ≡ false }
-        ensures told { IfOk result (λ log. told_entries log.tail (R.D.seen log.disk) ≡ []) }
-        ensures sure { IfOk result (λ log. log.doubt ≡ false) }
-        ensures numbered { IfOk result (λ log. R.D.number log.disk ≡ number) }
-        ensures lists { (self.new.live ≡ self.old.live) × (self.new.spent ≡ self.old.spent) × (self.new.made ≡ self.old.made) }
-        ensures rest { (self.new.manifest ≡ self.old.manifest) × (self.new.faults ≡ self.old.faults) }
+        ensures log { IfOk result (λ log. IsEmptyLog number log) }
+        ensures rest { KeepsShelf self.old self.new }
         ensures whole { OnOk result (self.new.broken ≡ self.old.broken) }
-        ensures later { R.faults self.old.room ≤ R.faults self.new.room }
-        ensures cause { result ≡ Err BackFault.Fault → Rose (R.faults self.old.room) (R.faults self.new.room) ⊎ IsSomeAnd
-            self.new.broken (λ d. 0 < R.D.faults d) }
+        ensures counts { CountsFaults (λ rose. OnFault result (rose ⊎ IsSomeAnd self.new.broken (λ d. 0 < R.D.faults d)))
+            (R.faults self.old.room) (R.faults self.new.room) }
     {
         let disk = self.room.make(alloc, number)?;
         match Log::format(disk) {
@@ -170,18 +165,12 @@ impl<R: Room> LogShelf<R> {
 
     /// Makes a backend with the next number.
     fn make(&mut self, alloc: Global) -> Result<LogBackend<R::D>, BackFault>
-        ensures empty { IfOk result (λ b. held_of b ≡ map.empty) }
-        ensures uncounted { IfOk result (λ b. (b.faults ≡ 0) × (b.gets ≡ 0)) }
-        ensures sure { IfOk result (λ b. doubt_of b ≡ None) }
-        ensures number { IfOk result (λ b. b.number ≡ self.old.made + 1) }
+        ensures backend { IfOk result (λ b. IsNewBackend (self.old.made + 1) b) }
         ensures listed { IfOk result (λ b. self.new.live.items ≡ self.old.live.items ++ b.number ∷ []) }
         ensures unlisted { OnErr result (self.new.live.items ≡ self.old.live.items) }
         ensures others { self.new.spent.items ≡ self.old.spent.items }
         ensures faults { self.new.faults ≡ self.old.faults }
-        ensures whole { OnOk result (self.new.broken ≡ None) }
-        ensures cause { result ≡ Err BackFault.Fault → FreshFailed (R.faults self.old.room) (R.faults self.new.room)
-            (R.D.faults self.old.manifest.disk) (R.D.faults self.new.manifest.disk) self.old.made (IsSomeAnd self.new.broken (λ d. 0 <
-            R.D.faults d)) }
+        ensures fresh { TellsWhy (result ≡ Err BackFault.Fault) self.old self.new result }
     {
         reserve_log(&mut self.live, &mut self.spent)?;
         self.broken = None;
@@ -219,10 +208,8 @@ impl<R: Room + Send> Shelf for LogShelf<R>
 where
     R::D: Send,
 {
-    ghost use Rattle.std.specs.Prelude.{None, IsSomeAnd, map as map_list};
-    ghost use Rattle.std.specs.FinMap as map;
-    ghost use Rattle.log_shelf.specs.Stops.{held_of, doubt_of};
-    ghost use Rattle.log_shelf.specs.Shelves.{numbers_of, StandsLive};
+    ghost use Rattle.log_shelf.specs.Stops.{IsNewBackend};
+    ghost use Rattle.log_shelf.specs.Shelves.{numbers_of, LeavesShelf, TellsWhy};
 
     type B = LogBackend<R::D>;
 
@@ -233,22 +220,14 @@ where
     ghost undone = { λ s. numbers_of s.spent.items };
 
     fn fresh(&mut self, alloc: Global) -> Result<LogBackend<R::D>, BackFault>
-        ensures empty { IfOk result (λ b. held_of b ≡ map.empty) }
-        ensures uncounted { IfOk result (λ b. (b.faults ≡ 0) × (b.gets ≡ 0)) }
-        ensures sure { IfOk result (λ b. doubt_of b ≡ None) }
-        ensures number { IfOk result (λ b. b.number ≡ self.old.made + 1) }
+        ensures backend { IfOk result (λ b. IsNewBackend (self.old.made + 1) b) }
         ensures above { IfOk result (λ b. IsTrue (exceeds b.number self.old.live.items)
             × IsTrue (exceeds b.number (numbers_of self.old.spent.items))) }
         ensures listed { IfOk result (λ b. self.new.live.items ≡ self.old.live.items ++ b.number ∷ []) }
         ensures unlisted { OnErr result (self.new.live.items ≡ self.old.live.items) }
         ensures others { numbers_of self.new.spent.items ≡ numbers_of self.old.spent.items }
-        ensures later { self.old.faults ≤ self.new.faults }
-        ensures cause { result ≡ Err BackFault.Fault → Rose self.old.faults self.new.faults }
-        ensures rose { self.new.faults ≢ self.old.faults → FreshFailed (R.faults self.old.room) (R.faults self.new.room)
-            (R.D.faults self.old.manifest.disk) (R.D.faults self.new.manifest.disk) self.old.made (IsSomeAnd self.new.broken (λ d. 0 <
-            R.D.faults d)) }
-        ensures whole { OnOk result (self.new.broken ≡ None) }
-        ensures stop { StandsLive self.new }
+        ensures fresh { TellsWhy (self.new.faults ≢ self.old.faults) self.old self.new result }
+        ensures left { LeavesShelf self.old self.new result }
     {
         let outcome = self.make(alloc);
         count_fault(&mut self.faults, outcome)
@@ -259,10 +238,8 @@ where
         ensures done { OnOk result (numbers_of self.new.spent.items ≡ numbers_of self.old.spent.items) }
         ensures kept { OnErr result (IsTrue (is_among self.old.live.items old.number)
             → numbers_of self.new.spent.items ≡ numbers_of self.old.spent.items ++ old.number ∷ []) }
-        ensures later { self.old.faults ≤ self.new.faults }
-        ensures cause { result ≡ Err BackFault.Fault → Rose self.old.faults self.new.faults }
-        ensures disk { self.new.faults ≢ self.old.faults → Rose (R.D.faults self.old.manifest.disk) (R.D.faults self.new.manifest.disk) }
-        ensures stop { StandsLive self.new }
+        ensures rose { self.new.faults ≢ self.old.faults → Rose (R.D.faults self.old.manifest.disk) (R.D.faults self.new.manifest.disk) }
+        ensures left { LeavesShelf self.old self.new result }
     {
         let number = old.number;
         if !unlist(&mut self.live, number) {

@@ -18,7 +18,7 @@ returns-in-Ok-clause-set g c =
     let held = nodes_of told in
     let h = c.args.h.now in
     let form = c.args.form.now in
-    ap nodes_of (c.in-Ok.ensures.told ∙ ap (λ (e : List ℕ). told ++ e ∷ []) entry)
+    ap nodes_of (c.in-Ok.ensures.added.told ∙ ap (λ (e : List ℕ). told ++ e ∷ []) entry)
     ∙ (nodes_after-more map.empty told (h ++ form)
     ∙ (ap (λ (x : List ℕ). map.insert held x (drop 32 (h ++ form))) (take_at h form 32 c.known.ensures)
     ∙ ap (λ (x : List ℕ). map.insert held h x) (drop_at h form 32 c.known.ensures)))
@@ -37,7 +37,7 @@ returns-in-Ok-clause-shows g c =
     c.append.new.self.doubt
     (g.D.Disk.may_leave c.args.log.now.disk) (g.D.Disk.may_leave c.append.new.self.disk) (h ++ form) c.args.log.now.kept
     c.append.new.self.kept
-    (c.in-Ok.ensures.told ∙ ap (λ (e : List ℕ). told_entries tail seen ++ e ∷ []) entry) in
+    (c.in-Ok.ensures.added.told ∙ ap (λ (e : List ℕ). told_entries tail seen ++ e ∷ []) entry) in
     let shows = shows-more c.args.index.now (take tail seen) h form (held_in tail seen) place c.requires.shows c.known.ensures (ap (λ (n
     : ℕ). n + 41) (sym count)) refl in
     subst (λ (x : Places). Shows x (take c.append.new.self.tail (g.D.Disk.seen c.append.new.self.disk)) (held_in c.append.new.self.tail
@@ -55,4 +55,4 @@ returns-clause-doubted g c =
     (doubted c.append.new.self.tail c.append.new.self.doubt (g.D.Disk.seen c.append.new.self.disk)) c.args.h.now c.args.form.now
     c.known.ensures
     (subst (λ (e : List ℕ). MayDoubtEntry (doubted c.args.log.now.tail c.args.log.now.doubt (g.D.Disk.seen c.args.log.now.disk)) e
-    (doubted c.append.new.self.tail c.append.new.self.doubt (g.D.Disk.seen c.append.new.self.disk))) entry c.in-Err.ensures.err.1)
+    (doubted c.append.new.self.tail c.append.new.self.doubt (g.D.Disk.seen c.append.new.self.disk))) entry c.in-Err.ensures.added.err.1)

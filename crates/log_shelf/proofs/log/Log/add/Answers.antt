@@ -28,8 +28,8 @@ publish-requires-clause-len g c =
     (subst (λ (b : List ℕ). Holds (g.D.Disk.seen disk) (c.close.new.self.tail + 1) b) body c.in_ok-write_body.ensures.ok.1)))
 
 -- what was told is the same, and the entry comes to it
-pub returns-clause-told : goal.returns-clause-told
-returns-clause-told g c =
+pub returns-clause-added : goal.returns-clause-added
+returns-clause-added g c =
     let disk = c.write_body.new.disk in
     let body = c.requires.body in
     let same = behind-holds c.close.new.self.tail (g.D.Disk.seen disk) c.args.entry.now
@@ -37,22 +37,22 @@ returns-clause-told g c =
     (subst (λ (b : List ℕ). Holds (g.D.Disk.seen disk) (c.close.new.self.tail + 1) b) body c.in_ok-write_body.ensures.ok.1) in
     let front = c.write_body.ensures.front
     ∙ (ap (λ (n : ℕ). take n (g.D.Disk.seen c.close.new.self.disk)) c.close.ensures.tail ∙ c.close.ensures.front) in
-    on_ok_weaker c.publish.result
-    (λ h. h ∙ (ap (λ (told : List (List ℕ)). told ++ behind c.close.new.self.tail (g.D.Disk.seen disk) ∷ []) (ap entries_of front)
-    ∙ ap (λ (e : List ℕ). told_entries c.args.self.now.tail (g.D.Disk.seen c.args.self.now.disk) ++ e ∷ []) same))
-    c.publish.ensures.told
-
-pub returns-clause-err : goal.returns-clause-err
-returns-clause-err g c =
-    let disk = c.write_body.new.disk in
-    let body = c.requires.body in
-    let same = behind-holds c.close.new.self.tail (g.D.Disk.seen disk) c.args.entry.now
-    (omega (arith, c.in_ok-write_body.ensures.ok.2, ap length body, length-body_of c.args.entry.now))
-    (subst (λ (b : List ℕ). Holds (g.D.Disk.seen disk) (c.close.new.self.tail + 1) b) body c.in_ok-write_body.ensures.ok.1) in
-    on_err_weaker c.publish.result
-    (λ h. (
-      h.1 ∙ c.close.ensures.tail,
-      inr (inr (doubted-true c.close.new.self.tail c.publish.new.self.tail c.publish.new.self.doubt (g.D.Disk.seen c.publish.new.self.disk)
-          c.args.entry.now h.0 h.1 (c.publish.ensures.same ∙ same))),
-    ))
-    c.publish.ensures.err
+    record {
+      told = on_ok_weaker c.publish.result
+          (λ h. h ∙ (ap (λ (told : List (List ℕ)). told ++ behind c.close.new.self.tail (g.D.Disk.seen disk) ∷ []) (ap entries_of front)
+          ∙ ap (λ (e : List ℕ). told_entries c.args.self.now.tail (g.D.Disk.seen c.args.self.now.disk) ++ e ∷ []) same))
+          c.publish.ensures.opened.told;
+      ok = on_ok_weaker c.publish.result
+          (λ h. (h.0, h.1 ∙ ap (λ (n : ℕ). n + 9 + length c.args.entry.now) c.close.ensures.tail))
+          c.publish.ensures.opened.ok;
+      front = sym (ap (λ (n : ℕ). take n (g.D.Disk.seen c.publish.new.self.disk)) c.close.ensures.tail)
+          ∙ (c.publish.ensures.around.front ∙ front);
+      err = on_err_weaker c.publish.result
+          (λ h. (
+            h.1 ∙ c.close.ensures.tail,
+            inr (inr (doubted-true c.close.new.self.tail c.publish.new.self.tail c.publish.new.self.doubt (g.D.Disk.seen
+                c.publish.new.self.disk)
+                c.args.entry.now h.0 h.1 (c.publish.ensures.around.same ∙ same))),
+          ))
+          c.publish.ensures.opened.err;
+    }

@@ -1,9 +1,10 @@
+use Rattle.std.proofs.Common.{refl}
 use Rattle.log_shelf.proofs.Entries.{entries_of-nil}
 use Rattle.log_shelf.proofs.Steps.{log-first}
 use Rattle.log_shelf.proofs.log.Log.format.Goals as goal
 
-pub returns-clause-told : goal.returns-clause-told
-returns-clause-told g c = entries_of-nil
+pub returns-clause-log : goal.returns-clause-log
+returns-clause-log g c = record { told = entries_of-nil; sure = refl; numbered = c.write_first.ensures.device.numbered }
 
 pub invariant_of-result : goal.invariant_of-result
 invariant_of-result g c =

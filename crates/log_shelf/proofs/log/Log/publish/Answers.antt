@@ -14,20 +14,25 @@ invariant_of-self-2 g c =
           c.write_gate.ensures.log
           (g.met.D.Disk.seen_stays disk)
           c.in_ok-write_gate.ensures.ok.1 c.in_ok-write_gate.ensures.ok.0
-          (omega (arith, c.requires.len, ap length c.write_gate.ensures.same));
+          (omega (arith, c.requires.len, ap length c.write_gate.ensures.around.same));
     }
 
-pub returns-clause-told : goal.returns-clause-told
-returns-clause-told g c =
+pub returns-clause-opened : goal.returns-clause-opened
+returns-clause-opened g c =
     let disk = c.write_gate.new.disk in
     let log = c.write_gate.ensures.log in
     let image = log.images (g.D.Disk.seen disk) (g.met.D.Disk.seen_stays disk) in
     let next : c.args.self.now.tail + (9 + c.args.len) ≡ c.args.self.now.tail + 9 + length (behind c.args.self.now.tail (g.D.Disk.seen
     disk)) =
-    omega (arith, c.requires.len, ap length c.write_gate.ensures.same) in
-    told-opened c.args.self.now.tail (c.args.self.now.tail + (9 + c.args.len)) (g.D.Disk.seen disk) (behind c.args.self.now.tail
-    (g.D.Disk.seen disk))
-    log.whole image.within c.in_ok-write_gate.ensures.ok.1 (image.in_doubt refl) next (omega (arith, log.small refl))
-    ∙ (ap (λ (told : List (List ℕ)). told ++ behind c.args.self.now.tail (g.D.Disk.seen disk) ∷ []) (ap entries_of
-    c.write_gate.ensures.front)
-    ∙ ap (λ (e : List ℕ). told_entries c.args.self.now.tail (g.D.Disk.seen c.args.self.now.disk) ++ e ∷ []) c.write_gate.ensures.same)
+    omega (arith, c.requires.len, ap length c.write_gate.ensures.around.same) in
+    record {
+      told = told-opened c.args.self.now.tail (c.args.self.now.tail + (9 + c.args.len)) (g.D.Disk.seen disk) (behind c.args.self.now.tail
+          (g.D.Disk.seen disk))
+          log.whole image.within c.in_ok-write_gate.ensures.ok.1 (image.in_doubt refl) next (omega (arith, log.small refl))
+          ∙ (ap (λ (told : List (List ℕ)). told ++ behind c.args.self.now.tail (g.D.Disk.seen disk) ∷ []) (ap entries_of
+          c.write_gate.ensures.around.front)
+          ∙ ap (λ (e : List ℕ). told_entries c.args.self.now.tail (g.D.Disk.seen c.args.self.now.disk) ++ e ∷ [])
+          c.write_gate.ensures.around.same);
+      ok = (refl, omega arith);
+      err = tt;
+    }

@@ -7,13 +7,12 @@ use Rattle.log_shelf.proofs.MemDisks.{applied-more}
 use Rattle.log_shelf.proofs.memory.MemDisk.keep.Goals as goal
 
 -- the write is the last of those that are kept
-pub returns-clause-pending : goal.returns-clause-pending
-returns-clause-pending c = (
-  record { at = c.args.at; bytes = c.in_ok-copy.copy },
-  refl,
-  c.in_ok-copy.ensures.items,
-  c.in_ok-push.ensures.items,
-)
+pub returns-clause-kept : goal.returns-clause-kept
+returns-clause-kept c = record {
+  written = c.write_into.ensures.written ∙ ap (λ (x : List ℕ). overwritten x c.args.at c.args.bytes.now) c.reserve_to.ensures.items;
+  pending = (record { at = c.args.at; bytes = c.in_ok-copy.copy }, refl, c.in_ok-copy.ensures.items, c.in_ok-push.ensures.items);
+  unwritten = tt;
+}
 
 pub invariant_of-self-2 : goal.invariant_of-self-2
 invariant_of-self-2 c =

@@ -11,4 +11,4 @@ returns-in-Ok-format-clause-stop g c =
     log-live c.new.result.items (numbers_of c.new-in-Ok-format.result.items) 0 true log
     (manifest-new c.new.result.items (numbers_of c.new-in-Ok-format.result.items) (told_entries log.tail (g.R.D.Disk.seen log.disk))
     (doubted log.tail log.doubt (g.R.D.Disk.seen log.disk)) c.new.ensures.items (ap numbers_of c.new-in-Ok-format.ensures.items)
-    c.in-Ok-format.ensures.told (ap (λ (b : Bool). doubted log.tail b (g.R.D.Disk.seen log.disk)) c.in-Ok-format.ensures.sure))
+    c.in-Ok-format.ensures.log.told (ap (λ (b : Bool). doubted log.tail b (g.R.D.Disk.seen log.disk)) c.in-Ok-format.ensures.log.sure))
