@@ -5,11 +5,10 @@ ghost use Rattle.std.specs.FinMap as map;
 ghost use Rattle.std.specs.Option.{option_copied};
 ghost use Rattle.node_backend.specs.Order.{IsNext};
 ghost use Rattle.run_io.specs.Bytes.{Rose};
-ghost use Rattle.node_backend.specs.Counts.{held_sum};
 ghost use Rattle.node_backend.specs.Doubts.{MayDoubt, FailedPut};
 ghost use Rattle.log_shelf.specs.Disks.{LeavesDevice, OnFault};
 ghost use Rattle.log_shelf.specs.Places.{Shows};
-ghost use Rattle.log_shelf.specs.Backends.{held_in, pair_in_doubt};
+ghost use Rattle.log_shelf.specs.Backends.{held_in, pair_in_doubt, SetsPair, Doubts, CountsGet};
 
 use crate::index::Index;
 use crate::log::Log;
@@ -69,10 +68,9 @@ fn store_pair<D: Disk>(
 ) -> Result<(), BackFault>
     requires shows { Shows index.old (take log.old.tail (D.seen log.old.disk)) (held_in log.old.tail (D.seen log.old.disk)) }
     ensures shows { Shows index.new (take log.new.tail (D.seen log.new.disk)) (held_in log.new.tail (D.seen log.new.disk)) }
-    ensures set { OnOk result (held_in log.new.tail (D.seen log.new.disk) ≡ map.insert (held_in log.old.tail (D.seen log.old.disk))
-        h.now form.now) }
+    ensures pair { SetsPair (held_in log.old.tail (D.seen log.old.disk)) (held_in log.new.tail (D.seen log.new.disk)) h.now form.now
+        result }
     ensures sure { OnOk result (log.new.doubt ≡ false) }
-    ensures unset { OnErr result (held_in log.new.tail (D.seen log.new.disk) ≡ held_in log.old.tail (D.seen log.old.disk)) }
     ensures doubted { OnErr result (MayDoubt (pair_in_doubt log.old.tail log.old.doubt (D.seen log.old.disk)) (h.now, form.now)
         (pair_in_doubt log.new.tail log.new.doubt (D.seen log.new.disk))) }
     ensures device { LeavesDevice D.number D.faults (OnFault result) log.old.disk log.new.disk }
@@ -136,8 +134,7 @@ impl<D: Disk + Send> Backend for LogBackend<D> {
     fn get(&mut self, alloc: Global, h: &Hash32) -> Result<Option<Blob>, BackFault>
         ensures same { held_of self.new ≡ held_of self.old }
         ensures found { IfOk result (λ b. b ≡ map.get (held_of self.old) h.now) }
-        ensures counted { self.new.gets ≡ held_sum self.old.gets 1 }
-        ensures risen { self.old.gets ≤ self.new.gets }
+        ensures asked { CountsGet self.old.gets self.new.gets }
         ensures doubted { doubt_of self.new ≡ doubt_of self.old }
         ensures left { LeavesLog self.old self.new result }
     {
@@ -153,12 +150,10 @@ impl<D: Disk + Send> Backend for LogBackend<D> {
     }
 
     fn put(&mut self, alloc: Global, h: &Hash32, form: &[u8]) -> Result<(), BackFault>
-        ensures set { OnOk result (held_of self.new ≡ map.insert (held_of self.old) h.now form.now) }
+        ensures pair { SetsPair (held_of self.old) (held_of self.new) h.now form.now result }
         ensures partly { OnErr result (FailedPut (held_of self.old) (doubt_of self.old) (h.now, form.now) (held_of self.new) (doubt_of
             self.new)) }
-        ensures unset { OnErr result (held_of self.new ≡ held_of self.old) }
-        ensures sure { OnOk result (doubt_of self.new ≡ None) }
-        ensures doubted { OnErr result (MayDoubt (doubt_of self.old) (h.now, form.now) (doubt_of self.new)) }
+        ensures doubts { Doubts (doubt_of self.old) (h.now, form.now) (doubt_of self.new) result }
         ensures uncounted { self.new.gets ≡ self.old.gets }
         ensures left { LeavesLog self.old self.new result }
     {

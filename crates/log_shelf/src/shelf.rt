@@ -114,7 +114,7 @@ impl<R: Room> LogShelf<R> {
     ghost use Rattle.std.specs.Prelude.{IsSomeAnd};
     ghost use Rattle.log_shelf.specs.Adding.{IsEmptyLog};
     ghost use Rattle.log_shelf.specs.Stops.{IsNewBackend};
-    ghost use Rattle.log_shelf.specs.Shelves.{KeepsShelf, StandsLive, TellsWhy};
+    ghost use Rattle.log_shelf.specs.Shelves.{KeepsShelf, ListsNew, StandsLive, TellsWhy};
 
     /// A shelf without backends, in a room. It makes the manifest.
     pub fn new(alloc: Global, room: R) -> Result<LogShelf<R>, Unmade<R>>
@@ -166,9 +166,7 @@ impl<R: Room> LogShelf<R> {
     /// Makes a backend with the next number.
     fn make(&mut self, alloc: Global) -> Result<LogBackend<R::D>, BackFault>
         ensures backend { IfOk result (λ b. IsNewBackend (self.old.made + 1) b) }
-        ensures listed { IfOk result (λ b. self.new.live.items ≡ self.old.live.items ++ b.number ∷ []) }
-        ensures unlisted { OnErr result (self.new.live.items ≡ self.old.live.items) }
-        ensures others { self.new.spent.items ≡ self.old.spent.items }
+        ensures lists { ListsNew (λ s. s.spent.items) self.old self.new result }
         ensures faults { self.new.faults ≡ self.old.faults }
         ensures fresh { TellsWhy (result ≡ Err BackFault.Fault) self.old self.new result }
     {
@@ -209,7 +207,7 @@ where
     R::D: Send,
 {
     ghost use Rattle.log_shelf.specs.Stops.{IsNewBackend};
-    ghost use Rattle.log_shelf.specs.Shelves.{numbers_of, LeavesShelf, TellsWhy};
+    ghost use Rattle.log_shelf.specs.Shelves.{numbers_of, LeavesShelf, ListsNew, TellsWhy};
 
     type B = LogBackend<R::D>;
 
@@ -223,9 +221,7 @@ where
         ensures backend { IfOk result (λ b. IsNewBackend (self.old.made + 1) b) }
         ensures above { IfOk result (λ b. IsTrue (exceeds b.number self.old.live.items)
             × IsTrue (exceeds b.number (numbers_of self.old.spent.items))) }
-        ensures listed { IfOk result (λ b. self.new.live.items ≡ self.old.live.items ++ b.number ∷ []) }
-        ensures unlisted { OnErr result (self.new.live.items ≡ self.old.live.items) }
-        ensures others { numbers_of self.new.spent.items ≡ numbers_of self.old.spent.items }
+        ensures lists { ListsNew (λ s. numbers_of s.spent.items) self.old self.new result }
         ensures fresh { TellsWhy (self.new.faults ≢ self.old.faults) self.old self.new result }
         ensures left { LeavesShelf self.old self.new result }
     {

@@ -11,17 +11,20 @@ use Rattle.log_shelf.proofs.Backends.{nodes_after-more, front-more, shows-more, 
 use Rattle.log_shelf.proofs.backend.store_pair.Goals as goal
 
 -- the pair is the last that counts
-pub returns-in-Ok-clause-set : goal.returns-in-Ok-clause-set
-returns-in-Ok-clause-set g c =
+pub returns-in-Ok-clause-pair : goal.returns-in-Ok-clause-pair
+returns-in-Ok-clause-pair g c =
     let entry = c.deref.ensures.value ∙ c.in_ok-entry.ensures in
     let told = told_entries c.args.log.now.tail (g.D.Disk.seen c.args.log.now.disk) in
     let held = nodes_of told in
     let h = c.args.h.now in
     let form = c.args.form.now in
-    ap nodes_of (c.in-Ok.ensures.added.told ∙ ap (λ (e : List ℕ). told ++ e ∷ []) entry)
-    ∙ (nodes_after-more map.empty told (h ++ form)
-    ∙ (ap (λ (x : List ℕ). map.insert held x (drop 32 (h ++ form))) (take_at h form 32 c.known.ensures)
-    ∙ ap (λ (x : List ℕ). map.insert held h x) (drop_at h form 32 c.known.ensures)))
+    record {
+      set = ap nodes_of (c.in-Ok.ensures.added.told ∙ ap (λ (e : List ℕ). told ++ e ∷ []) entry)
+          ∙ (nodes_after-more map.empty told (h ++ form)
+          ∙ (ap (λ (x : List ℕ). map.insert held x (drop 32 (h ++ form))) (take_at h form 32 c.known.ensures)
+          ∙ ap (λ (x : List ℕ). map.insert held h x) (drop_at h form 32 c.known.ensures)));
+      unset = tt;
+    }
 
 pub returns-in-Ok-clause-shows : goal.returns-in-Ok-clause-shows
 returns-in-Ok-clause-shows g c =
@@ -46,7 +49,7 @@ returns-in-Ok-clause-shows g c =
     (subst (λ (x : List ℕ). Shows (map.insert c.args.index.now h place) x (held_in c.append.new.self.tail (g.D.Disk.seen
     c.append.new.self.disk))) (sym front)
     (subst (λ (x : Nodes). Shows (map.insert c.args.index.now h place) (take tail seen ++ text_of (h ++ form)) x) (sym
-    (returns-in-Ok-clause-set g c)) shows))
+    (returns-in-Ok-clause-pair g c).set) shows))
 
 pub returns-clause-doubted : goal.returns-clause-doubted
 returns-clause-doubted g c =
