@@ -19,10 +19,12 @@ use Rattle.ledger_machine.specs.Closing.{after_close, close_forms}
 use Rattle.ledger_machine.specs.Rotation.{begin_reply}
 use Rattle.ledger_machine.specs.Steps.{Answered, own_forms, Step}
 use Rattle.ledger_laws.proofs.shared.SoundSteps.{gets_after, pages_after}
-use Rattle.ledger_laws.proofs.SoundSteps.{want_sound, peer_sound, tick_sound, check_step_sound, base_sound}
-use Rattle.ledger_laws.proofs.SoundSteps.{node_sound, view_step_sound, unview_step_sound, get_step_sound, page_step_sound, edit_step_sound}
-use Rattle.ledger_laws.proofs.SoundSteps.{put_step_sound, tx_step_sound, del_step_sound, close_step_sound, abandon_step_sound}
-use Rattle.ledger_laws.proofs.SoundSteps.{begin_step_sound, swap_step_sound}
+use Rattle.ledger_laws.proofs.SoundOffers.{want_sound, peer_sound, base_sound, node_sound, tick_sound}
+use Rattle.ledger_laws.proofs.SoundCheck.{check_step_sound}
+use Rattle.ledger_laws.proofs.SoundViews.{view_step_sound, unview_step_sound, get_step_sound, page_step_sound}
+use Rattle.ledger_laws.proofs.SoundSessions.{edit_step_sound, put_step_sound, tx_step_sound, del_step_sound, abandon_step_sound}
+use Rattle.ledger_laws.proofs.shared.SoundClosing.{close_step_sound}
+use Rattle.ledger_laws.proofs.SoundRotation.{begin_step_sound, swap_step_sound}
 use Rattle.ledger_laws.proofs.Stored.{same, after, want_goes, check_goes, tick_goes, view_goes, edit_goes, session_goes, base_goes}
 use Rattle.ledger_laws.proofs.Stored.{node_goes, close_goes, begin_goes, swap_goes}
 use Rattle.ledger_laws.proofs.shared.Stored.{Goes, on}

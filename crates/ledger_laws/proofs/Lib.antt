@@ -7,7 +7,6 @@ pub mod SoundCheck
 pub mod SoundOffers
 pub mod SoundViews
 pub mod SoundRuns
-pub mod SoundSteps
 pub mod Received
 pub mod StoredWhole
 pub mod Closure

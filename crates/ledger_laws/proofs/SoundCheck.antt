@@ -13,7 +13,7 @@ use Rattle.ledger_spec.specs.declared.Place.TheVariants.{Header}
 use Rattle.ledger_spec.specs.declared.ShapeFault.{ShapeFault}
 use Rattle.ledger_spec.specs.Bytes.{Bytes, Hash, Half, Lookup, is_zero, is_nonzero}
 use Rattle.ledger_spec.specs.Header.{seq_of, state_root_of}
-use Rattle.ledger_spec.specs.Forms.{header_of}
+use Rattle.ledger_spec.specs.Forms.{header_of, Held}
 use Rattle.ledger_spec.specs.Spots.{header_in}
 use Rattle.ledger_spec.specs.Findings.{Finding, lacks, breaks, findings, up_to, Whole}
 use Rattle.ledger_spec.proofs.shared.Growth.{found, met, no_cons, whole_stored}
@@ -30,10 +30,16 @@ use Rattle.ledger_spec.specs.Acquiring.{place_verdict, header_verdict, after_ver
 use Rattle.ledger_spec.specs.Findings.{missing_of, first_broken, seen, header_or_foreign, header_sight, maps_of, walk_ledger}
 use Rattle.ledger_machine.specs.Sound.{Sound, IsWholeLedger}
 use Rattle.ledger_machine.specs.Complete.{IsAcceptable}
+use Rattle.ledger_machine.specs.declared.commands.Command.TheVariants as command
+use Rattle.ledger_machine.specs.declared.replies.Reply.{Reply}
+use Rattle.ledger_machine.specs.declared.replies.Reply.TheVariants as says
+use Rattle.ledger_machine.specs.Steps.{Step}
 use Rattle.std.specs.Cmp.Lexicographic.{nat_list_cmp_total}
 use Rattle.ledger_laws.proofs.SoundTables.{insert_rises}
-use Rattle.ledger_laws.proofs.SoundKeeps.{keeps_sound, with_wanted_keeps, ended_keeps}
+use Rattle.ledger_laws.proofs.SoundKeeps.{keeps_sound, with_wanted_keeps, ended_keeps, gives_same}
 use Rattle.ledger_laws.proofs.shared.SoundCheck.{get_inserted, key_inserted}
+use Rattle.ledger_laws.proofs.shared.SoundForms.{refused_none}
+use Rattle.ledger_laws.proofs.shared.SoundSteps.{outcome_cases}
 
 -- a verdict that is answered `complete` is complete
 said_complete : (v : Verdict) → check_said v ≡ check.Complete → v ≡ complete
@@ -247,3 +253,12 @@ check_sound half s t (check.Malformed place rule) e sound = keeps_sound half s _
 check_sound half s t (check.Waiting n) e sound = sound
 check_sound half s t check.NoPeer e sound = sound
 check_sound half s t check.NotOpen e sound = sound
+
+-- a step of `check`
+pub check_step_sound : (half : Half) (s s' : State) (a : ℕ) (t : Hash) (reply : Reply) (used : List Held) → Sound half s
+    → Step half s a (command.Check t) reply used s' → Sound half s'
+check_step_sound half s s' a t reply used sound step =
+    ⊎_elim (λ r. keeps_sound half s s' sound (refused_none half s a (command.Check t) s' refl r))
+    (λ g. gives_same half (after_check s t (stored_seq s t) (check_reply half s t)) s' (says.Check (check_reply half s t)) reply
+    (check_sound half s t (check_reply half s t) refl sound) g)
+    (outcome_cases half s a (command.Check t) reply used s' step.outcome)

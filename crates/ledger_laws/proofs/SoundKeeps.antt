@@ -19,7 +19,8 @@ use Rattle.ledger_machine.specs.Sound.{Sound, IsStoredAt, AreTables}
 use Rattle.ledger_laws.proofs.Charges.{AreCharges}
 use Rattle.ledger_laws.proofs.SoundTables.{set_rises, remove_rises, same_tables}
 use Rattle.ledger_laws.proofs.shared.SoundTables.{all_found}
-use Rattle.ledger_machine.specs.Steps.{IsAfter}
+use Rattle.ledger_machine.specs.Steps.{IsAfter, Gives}
+use Rattle.ledger_machine.specs.declared.replies.Reply.{Reply}
 use Rattle.ledger_laws.proofs.shared.SoundKeeps.{whole_ledger_grows}
 
 -- the charges of an acquisition are a finite map
@@ -163,3 +164,12 @@ pub ended_keeps : (half : Half) (s : State) (t : Hash) → Keeps half s (ended s
 ended_keeps half s t =
     wanted_keeps half s (remove_in hash_cmp s.wanted t) (remove_rises hash_cmp _ s.wanted)
     (λ all. All-map-remove_entry _ (λ e. e.1) HasCharges s.wanted all)
+
+-- the state after an answer that keeps a state sound
+pub gives_sound : (half : Half) (s t s' : State) (r reply : Reply) → Sound half s → Keeps half s t → Gives r t reply s' → Sound half s'
+gives_sound half s t s' r reply sound k g = keeps_sound half s s' sound (keeps_after half s t s' k g.after)
+
+-- the state after an answer whose state is sound
+pub gives_same : (half : Half) (t s' : State) (r reply : Reply) → Sound half t → Gives r t reply s' → Sound half s'
+gives_same half t s' r reply sound g =
+    keeps_sound half t s' sound (same_keeps half t s' (shaded_same t s' g.after) (shaded_tables half t s' g.after))

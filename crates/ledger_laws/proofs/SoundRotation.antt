@@ -14,16 +14,24 @@ use Rattle.ledger_spec.specs.Header.{seq_of}
 use Rattle.ledger_spec.specs.Reach.{Reach, root}
 use Rattle.ledger_spec.specs.Retaining.{listed_from}
 use Rattle.ledger_spec.specs.Spots.{header_in}
+use Rattle.ledger_spec.specs.Forms.{Held}
 use Rattle.ledger_spec.proofs.shared.ReachLaws.{reach_joins}
 use Rattle.ledger_spec.proofs.shared.Storing.{in_one}
 use Rattle.ledger_machine.specs.declared.replies.BeginReply.{BeginReply}
 use Rattle.ledger_machine.specs.declared.replies.BeginReply.TheVariants as begins
 use Rattle.ledger_machine.specs.State.{State, form_in, retained, roots, bases}
 use Rattle.ledger_machine.specs.Sound.{Sound}
-use Rattle.ledger_machine.specs.Rotation.{after_begin, Swapped}
-use Rattle.ledger_laws.proofs.shared.SoundForms.{some_same, same_hash, in_head, in_tail}
+use Rattle.ledger_machine.specs.Rotation.{after_begin, Swapped, begin_reply}
+use Rattle.ledger_machine.specs.declared.commands.Command.TheVariants as command
+use Rattle.ledger_machine.specs.declared.replies.Reply.{Reply}
+use Rattle.ledger_machine.specs.declared.replies.Reply.TheVariants as says
+use Rattle.ledger_machine.specs.Steps.{Step, Swaps}
+use Rattle.ledger_machine.specs.declared.replies.SwapReply.TheVariants as swaps
+use Rattle.ledger_laws.proofs.shared.SoundForms.{some_same, same_hash, in_head, in_tail, refused_none}
 use Rattle.ledger_laws.proofs.SoundTables.{filter_rises, same_tables}
 use Rattle.ledger_laws.proofs.Alike.{ledger_alike, header_in_alike}
+use Rattle.ledger_laws.proofs.SoundKeeps.{keeps_sound, gives_same}
+use Rattle.ledger_laws.proofs.shared.SoundSteps.{outcome_cases}
 
 -- a key of an entry that passes a test was a key before
 filtered_key : {X : Type 0} (test : Hash × X → Bool) (m : ForHash X) (q : Hash) → Contains (keys_of (filter test m)) q
@@ -142,3 +150,23 @@ module _ (half : Half) (s s' : State) (w : Swapped s s') (sound : Sound half s) 
         header_stays t (λ h. seq_of h + 1 < 2 ^ 32) (Contains-append_right (keys_of s.listed ++ values_of s.views) (bases s) t base)
         (sound.base_seq t base);
   }
+
+-- a step of `begin`
+pub begin_step_sound : (half : Half) (s s' : State) (a : ℕ) (reply : Reply) (used : List Held) → Sound half s
+    → Step half s a command.Begin reply used s' → Sound half s'
+begin_step_sound half s s' a reply used sound step =
+    ⊎_elim (λ r. keeps_sound half s s' sound (refused_none half s a command.Begin s' refl r))
+    (λ g. gives_same half (after_begin s (begin_reply s)) s' (says.Begin (begin_reply s)) reply (begin_sound half s (begin_reply s) sound)
+    g.0)
+    (outcome_cases half s a command.Begin reply used s' step.outcome)
+
+-- a step of `swap`
+pub swap_step_sound : (half : Half) (s s' : State) (a : ℕ) (reply : Reply) (used : List Held) → Sound half s
+    → Step half s a command.Swap reply used s' → Sound half s'
+swap_step_sound half s s' a reply used sound step =
+    ⊎_elim (λ r. keeps_sound half s s' sound (refused_none half s a command.Swap s' refl r)) (λ g. at s.turning g)
+    (outcome_cases half s a command.Swap reply used s' step.outcome)
+  where
+    at : (o : Option ℕ) → Swaps s o reply s' → Sound half s'
+    at None g = gives_same half s s' (says.Swap swaps.Idle) reply sound g
+    at (Some v) g = swap_sound half s s' g.1 sound

@@ -17,7 +17,7 @@ use Rattle.ledger_spec.specs.declared.Kind.TheVariants as kinds
 use Rattle.ledger_spec.specs.Maps.{ForActor, hash_cmp, numbered_cmp, IsMap, get_in, has_in, insert_in, remove_in, set_in}
 use Rattle.ledger_spec.specs.Bytes.{Bytes, Hash, Half, IsHalf, Lookup, Items, zero_hash, is_nonzero, are_bytes}
 use Rattle.ledger_spec.specs.Header.{seq_of, state_root_of}
-use Rattle.ledger_spec.specs.Forms.{leaf, IsHeld, IsItem}
+use Rattle.ledger_spec.specs.Forms.{leaf, IsHeld, IsItem, Held}
 use Rattle.ledger_spec.specs.Spots.{header_in, header_root}
 use Rattle.ledger_spec.specs.Tree.{Entry, IsByteEntry, AreItems}
 use Rattle.ledger_spec.specs.Findings.{items_of}
@@ -29,11 +29,20 @@ use Rattle.ledger_machine.specs.State.{State, Session, form_in, retained, bases,
 use Rattle.ledger_machine.specs.Sound.{Sound, IsWholeLedger, AreStored}
 use Rattle.ledger_machine.specs.Views.{is_retained}
 use Rattle.ledger_machine.specs.Sessions.{edit_reply, session_on, after_edit, with_session, after_put, after_tx, after_del, without_session}
-use Rattle.ledger_laws.proofs.shared.SoundForms.{in_nothing}
+use Rattle.ledger_machine.specs.Sessions.{has_session, del_reply}
+use Rattle.ledger_machine.specs.declared.commands.Command.TheVariants as command
+use Rattle.ledger_machine.specs.declared.replies.Reply.{Reply}
+use Rattle.ledger_machine.specs.declared.replies.Reply.TheVariants as says
+use Rattle.ledger_machine.specs.Commands.{IsInRange}
+use Rattle.ledger_machine.specs.Steps.{Step}
+use Rattle.ledger_laws.proofs.shared.SoundForms.{in_nothing, refused_none}
 use Rattle.ledger_laws.proofs.SoundTables.{insert_rises, remove_rises, set_rises, none_rises}
 use Rattle.ledger_laws.proofs.shared.SoundTables.{all_found}
 use Rattle.ledger_laws.proofs.shared.SoundViews.{among, numbered_total}
 use Rattle.ledger_laws.proofs.shared.SoundSessions.{IsFit, fits_of}
+use Rattle.ledger_laws.proofs.SoundKeeps.{keeps_sound, gives_same}
+use Rattle.ledger_laws.proofs.shared.SoundSteps.{outcome_cases}
+use Rattle.shamap_node.specs.declared.parts.Item.{Item}
 
 -- an image is that of a value for which this is so
 all_images : {A B : Type 0} (f : A → B) (P : A → Type 0) (Q : B → Type 0) → ((x : A) → P x → Q (f x)) → (xs : List A) → All P xs
@@ -236,3 +245,46 @@ with_session_nodes s x change = at (get_in numbered_cmp s.sessions x)
         → (option_map_or (λ e. record s { sessions = set_in numbered_cmp s.sessions x (change e) }) o s).nodes ≡ s.nodes
     at None = refl
     at (Some e) = refl
+
+-- a step of `edit`
+pub edit_step_sound : (half : Half) (sized : IsHalf half) (s s' : State) (a x : ℕ) (t : Hash) (reply : Reply) (used : List Held) → Sound half s
+    → Step half s a (command.Edit x t) reply used s' → Sound half s'
+edit_step_sound half sized s s' a x t reply used sound step =
+    ⊎_elim (λ r. keeps_sound half s s' sound (refused_none half s a (command.Edit x t) s' refl r))
+    (λ g. gives_same half (after_edit half s (a, x) t (edit_reply s (a, x) t)) s' (says.Edit (edit_reply s (a, x) t)) reply
+    (edit_sound half sized s (a, x) t (edit_reply s (a, x) t) refl sound) g)
+    (outcome_cases half s a (command.Edit x t) reply used s' step.outcome)
+
+-- a step of `put`
+pub put_step_sound : (half : Half) (s s' : State) (a x : ℕ) (item : Item) (reply : Reply) (used : List Held)
+    → IsInRange (command.Put x item) → Sound half s → Step half s a (command.Put x item) reply used s' → Sound half s'
+put_step_sound half s s' a x item reply used range sound step =
+    ⊎_elim (λ r. keeps_sound half s s' sound (refused_none half s a (command.Put x item) s' refl r))
+    (λ g. gives_same half (after_put s (a, x) item.key item.value) s' (says.Put (has_session s (a, x))) reply
+    (put_sound half s (a, x) item.key item.value item.valid range.0 range.1 sound) g)
+    (outcome_cases half s a (command.Put x item) reply used s' step.outcome)
+
+-- a step of `tx`
+pub tx_step_sound : (half : Half) (s s' : State) (a x : ℕ) (item : Item) (reply : Reply) (used : List Held)
+    → IsInRange (command.Tx x item) → Sound half s → Step half s a (command.Tx x item) reply used s' → Sound half s'
+tx_step_sound half s s' a x item reply used range sound step =
+    ⊎_elim (λ r. keeps_sound half s s' sound (refused_none half s a (command.Tx x item) s' refl r))
+    (λ g. gives_same half (after_tx s (a, x) item.key item.value) s' (says.Tx (has_session s (a, x))) reply
+    (tx_sound half s (a, x) item.key item.value item.valid range.0 range.1 sound) g)
+    (outcome_cases half s a (command.Tx x item) reply used s' step.outcome)
+
+-- a step of `del`
+pub del_step_sound : (half : Half) (s s' : State) (a x : ℕ) (key : Hash) (reply : Reply) (used : List Held) → Sound half s
+    → Step half s a (command.Del x key) reply used s' → Sound half s'
+del_step_sound half s s' a x key reply used sound step =
+    ⊎_elim (λ r. keeps_sound half s s' sound (refused_none half s a (command.Del x key) s' refl r))
+    (λ g. gives_same half (after_del s (a, x) key) s' (says.Del (del_reply s (a, x) key)) reply (del_sound half s (a, x) key sound) g)
+    (outcome_cases half s a (command.Del x key) reply used s' step.outcome)
+
+-- a step of `abandon`
+pub abandon_step_sound : (half : Half) (s s' : State) (a x : ℕ) (reply : Reply) (used : List Held) → Sound half s
+    → Step half s a (command.Abandon x) reply used s' → Sound half s'
+abandon_step_sound half s s' a x reply used sound step =
+    ⊎_elim (λ r. keeps_sound half s s' sound (refused_none half s a (command.Abandon x) s' refl r))
+    (λ g. gives_same half (without_session s (a, x)) s' (says.Abandon (has_session s (a, x))) reply (without_sound half s (a, x) sound) g)
+    (outcome_cases half s a (command.Abandon x) reply used s' step.outcome)

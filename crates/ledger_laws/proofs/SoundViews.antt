@@ -1,5 +1,5 @@
 -- Views keep a state sound: each is of a ledger that was retained before.
-use Rattle.std.proofs.Common.{◌≡◌, ⊎_elim, ℕ, ◌++◌, Bool, true, false, not, if◌then◌else◌, ◌==◌, length}
+use Rattle.std.proofs.Common.{◌≡◌, ⊎_elim, ℕ, ◌++◌, Bool, true, false, not, if◌then◌else◌, ◌==◌, length, List}
 use Rattle.std.proofs.Common.{get_or, refl}
 use Rattle.std.specs.Map.{keys_of, values_of}
 use Rattle.std.specs.List.{All}
@@ -8,13 +8,23 @@ use Rattle.std.proofs.lemmas.List.Elements.{Contains-append_left, Contains-appen
 use Rattle.std.proofs.lemmas.Map.Views.{All-values-insert_entry, All-map-remove_entry}
 use Rattle.ledger_spec.specs.Maps.{ForActor, numbered_cmp, IsMap, insert_in, remove_in, has_in}
 use Rattle.ledger_spec.specs.Bytes.{Hash, Half}
+use Rattle.ledger_spec.specs.declared.Kind.{Kind}
+use Rattle.ledger_spec.specs.Forms.{Held}
 use Rattle.ledger_machine.specs.State.{State, form_in, retained, bases}
 use Rattle.ledger_machine.specs.Sound.{Sound, IsWholeLedger}
-use Rattle.ledger_machine.specs.Views.{is_retained, view_reply, after_view, after_unview}
+use Rattle.ledger_machine.specs.Views.{is_retained, view_reply, after_view, after_unview, unview_reply}
 use Rattle.ledger_machine.specs.declared.replies.ViewReply.{ViewReply}
 use Rattle.ledger_machine.specs.declared.replies.ViewReply.TheVariants as view
+use Rattle.ledger_machine.specs.declared.commands.Command.TheVariants as command
+use Rattle.ledger_machine.specs.declared.replies.Reply.{Reply}
+use Rattle.ledger_machine.specs.declared.replies.Reply.TheVariants as says
+use Rattle.ledger_machine.specs.Steps.{Step}
+use Rattle.ledger_machine.specs.Reading.{view_root}
 use Rattle.ledger_laws.proofs.SoundTables.{insert_rises, remove_rises}
 use Rattle.ledger_laws.proofs.shared.SoundViews.{numbered_total, among}
+use Rattle.ledger_laws.proofs.SoundKeeps.{keeps_sound, keeps_self, keeps_after, gives_same}
+use Rattle.ledger_laws.proofs.shared.SoundForms.{refused_none}
+use Rattle.ledger_laws.proofs.shared.SoundSteps.{outcome_cases, gets_after, pages_after}
 
 -- a view that is opened is of a retained ledger
 fine_retained : (a b c : Bool)
@@ -80,3 +90,38 @@ view_nodes s v t view.Fine = refl
 view_nodes s v t view.InUse = refl
 view_nodes s v t view.NotRetained = refl
 view_nodes s v t view.TooMany = refl
+
+-- a step of `view`
+pub view_step_sound : (half : Half) (s s' : State) (a v : ℕ) (t : Hash) (reply : Reply) (used : List Held) → Sound half s
+    → Step half s a (command.View v t) reply used s' → Sound half s'
+view_step_sound half s s' a v t reply used sound step =
+    ⊎_elim (λ r. keeps_sound half s s' sound (refused_none half s a (command.View v t) s' refl r))
+    (λ g. gives_same half (after_view s (a, v) t (view_reply s (a, v) t)) s' (says.View (view_reply s (a, v) t)) reply
+    (view_sound half s (a, v) t (view_reply s (a, v) t) refl sound) g)
+    (outcome_cases half s a (command.View v t) reply used s' step.outcome)
+
+-- a step of `unview`
+pub unview_step_sound : (half : Half) (s s' : State) (a v : ℕ) (reply : Reply) (used : List Held) → Sound half s
+    → Step half s a (command.Unview v) reply used s' → Sound half s'
+unview_step_sound half s s' a v reply used sound step =
+    ⊎_elim (λ r. keeps_sound half s s' sound (refused_none half s a (command.Unview v) s' refl r))
+    (λ g. gives_same half (after_unview s (a, v)) s' (says.Unview (unview_reply s (a, v))) reply (unview_sound half s (a, v) sound) g)
+    (outcome_cases half s a (command.Unview v) reply used s' step.outcome)
+
+-- a step of `get`
+pub get_step_sound : (half : Half) (s s' : State) (a v : ℕ) (kind : Kind) (key : Hash) (reply : Reply) (used : List Held) → Sound half s
+    → Step half s a (command.Get v kind key) reply used s' → Sound half s'
+get_step_sound half s s' a v kind key reply used sound step =
+    ⊎_elim (λ r. keeps_sound half s s' sound (refused_none half s a (command.Get v kind key) s' refl r))
+    (λ g. keeps_sound half s s' sound (keeps_after half s s s' (keeps_self half s)
+    (gets_after half s kind key (view_root s kind (a, v)) reply used s' g)))
+    (outcome_cases half s a (command.Get v kind key) reply used s' step.outcome)
+
+-- a step of `page`
+pub page_step_sound : (half : Half) (s s' : State) (a v : ℕ) (kind : Kind) (key : Hash) (n : ℕ) (reply : Reply) (used : List Held)
+    → Sound half s → Step half s a (command.Page v kind key n) reply used s' → Sound half s'
+page_step_sound half s s' a v kind key n reply used sound step =
+    ⊎_elim (λ r. keeps_sound half s s' sound (refused_none half s a (command.Page v kind key n) s' refl r))
+    (λ g. keeps_sound half s s' sound (keeps_after half s s s' (keeps_self half s)
+    (pages_after half s kind key n (view_root s kind (a, v)) reply used s' g)))
+    (outcome_cases half s a (command.Page v kind key n) reply used s' step.outcome)

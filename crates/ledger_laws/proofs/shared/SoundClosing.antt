@@ -13,7 +13,7 @@ use Rattle.ledger_spec.specs.declared.Kind.TheVariants as kinds
 use Rattle.ledger_spec.specs.Maps.{hash_cmp, numbered_cmp, get_in, has_in}
 use Rattle.ledger_spec.specs.Bytes.{Bytes, Hash, Half, IsHalf, Lookup, Items, is_zero, is_nonzero, are_bytes}
 use Rattle.ledger_spec.specs.Header.{header_bytes, IsHeader, seq_of, state_root_of, close_of}
-use Rattle.ledger_spec.specs.Forms.{header, header_prefix, header_of, hash_or_zero}
+use Rattle.ledger_spec.specs.Forms.{header, header_prefix, header_of, hash_or_zero, Held}
 use Rattle.ledger_spec.specs.Spots.{header_in}
 use Rattle.ledger_spec.specs.Tree.{form_at, root_of, forms_of}
 use Rattle.ledger_spec.specs.Offers.{Clash}
@@ -33,16 +33,19 @@ use Rattle.ledger_machine.specs.Sound.{Sound, IsWholeLedger, AreStored}
 use Rattle.ledger_machine.specs.Scripts.{AreFields, drops_in, close_in, resolution_in, flags_in}
 use Rattle.ledger_machine.specs.Closing.{new_header, closing_forms, first_clash, closed_or_clash, zero_or, close_given}
 use Rattle.ledger_machine.specs.Closing.{close_reply, closed, after_close, close_forms, closes_into, unless_zero}
+use Rattle.ledger_machine.specs.declared.commands.Command.TheVariants as command
+use Rattle.ledger_machine.specs.Steps.{Step}
 use Rattle.ledger_laws.proofs.Making.{forms_fit, forms_whole, root_nonzero}
 use Rattle.ledger_laws.proofs.SoundCheck.{listed_sound}
-use Rattle.ledger_laws.proofs.shared.SoundForms.{IsByteForm, may_store, with_forms_keeps, in_nothing}
-use Rattle.ledger_laws.proofs.SoundKeeps.{Keeps, keeps_sound}
+use Rattle.ledger_laws.proofs.shared.SoundForms.{IsByteForm, may_store, with_forms_keeps, in_nothing, refused_keeps}
+use Rattle.ledger_laws.proofs.SoundKeeps.{Keeps, keeps_sound, gives_same}
 use Rattle.ledger_laws.proofs.shared.SoundTables.{all_found}
 use Rattle.ledger_laws.proofs.shared.SoundSessions.{IsFit, fits_of}
 use Rattle.ledger_laws.proofs.SoundSessions.{without_sound}
 use Rattle.ledger_laws.proofs.HeaderBytes.{four_small, header_all, header_back}
 use Rattle.ledger_laws.proofs.shared.StoringAll.{none_zero}
 use Rattle.ledger_laws.proofs.StoringAll.{all_stored, whole_from}
+use Rattle.ledger_laws.proofs.shared.SoundSteps.{outcome_cases}
 
 -- what is known of the ledger that a session edits
 record IsParent (half : Half) (t p : Bytes) : Type 0 where
@@ -271,3 +274,13 @@ close_own half sized s x given form are sound c = at (get_in numbered_cmp s.sess
     at (Some e) there c =
         by e (all_found (IsFit half s) _ s.sessions e (fits_of half s sound) there)
         (find (λ f. is_zero (half f)) (closing_forms half e (new_header half s e given))) refl c
+
+-- a step of `close`
+pub close_step_sound : (half : Half) (sized : IsHalf half) (s s' : State) (a x : ℕ) (given : List ℕ) (reply : Reply)
+    (used : List Held) → AreFields given → Sound half s → Step half s a (command.Close x given) reply used s' → Sound half s'
+close_step_sound half sized s s' a x given reply used are sound step =
+    ⊎_elim (λ r. keeps_sound half s s' sound
+    (refused_keeps half s a (command.Close x given) s' (λ form i. close_own half sized s (a, x) given form are sound i) r))
+    (λ g. gives_same half (after_close half s (a, x) given reply) s' (close_reply half s (a, x) given) reply
+    (close_sound half sized s (a, x) given reply are (sym g.says) sound) g)
+    (outcome_cases half s a (command.Close x given) reply used s' step.outcome)
