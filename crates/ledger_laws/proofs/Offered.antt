@@ -1,5 +1,5 @@
 -- All that a run stores is of some forms: those that its lines offer and its closes make.
-use Rattle.std.proofs.Common.{◌≡◌, ◌⊎◌, ⊎_elim, ℕ, Bool, true, false, not, if◌then◌else◌, ◌==◌}
+use Rattle.std.proofs.Common.{◌≡◌, ⊎_elim, ℕ, Bool, true, false, not, if◌then◌else◌, ◌==◌}
 use Rattle.std.proofs.Common.{List, [], ◌∷◌, ◌++◌, length}
 use Rattle.std.proofs.Common.{Option, None, Some, is_some, Result, Ok, Err, Contains, sym, ap, ◌∙◌, subst}
 use Rattle.std.specs.List.{find}

@@ -1,6 +1,6 @@
 -- A clash shows two different forms with one hash, and a zero hash a form that has it, of those that a run brings. For proofs of other
 -- crates.
-use Rattle.std.proofs.Common.{◌≡◌, ◌⊎◌, ⊎_elim, ℕ, Bool, true, false, if◌then◌else◌, ◌==◌}
+use Rattle.std.proofs.Common.{◌≡◌, ⊎_elim, ℕ, Bool, true, false, if◌then◌else◌, ◌==◌}
 use Rattle.std.proofs.Common.{nat_lt, IsTrue, List, [], ◌∷◌, ◌++◌, length}
 use Rattle.std.proofs.Common.{Option, None, Some, Err, All, Contains, refl, sym, subst}
 use Rattle.std.specs.Option.{option_or}
@@ -19,7 +19,6 @@ use Rattle.ledger_machine.specs.declared.commands.Line.{Line}
 use Rattle.ledger_machine.specs.declared.commands.Record.{Record}
 use Rattle.ledger_machine.specs.Records.{AreRecords, forms_of}
 use Rattle.ledger_machine.specs.declared.journal.Entry.{Entry}
-use Rattle.ledger_spec.specs.declared.outcomes.Offered.TheVariants as offered
 use Rattle.ledger_machine.specs.declared.replies.Reply.{Reply}
 use Rattle.ledger_machine.specs.declared.replies.Reply.TheVariants as says
 use Rattle.ledger_machine.specs.State.{State, Session, form_in, with_form, with_forms}

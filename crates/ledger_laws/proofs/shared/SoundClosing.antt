@@ -1,5 +1,5 @@
 -- What a session closes into is a whole ledger, stored in forms of its own. For proofs of other crates.
-use Rattle.std.proofs.Common.{◌≡◌, ◌≢◌, ◌⊎◌, ⊎_elim, ℕ, ◌+◌, ◌<◌, ◌≤◌, ◌^◌, ◌++◌}
+use Rattle.std.proofs.Common.{◌≡◌, ◌≢◌, ⊎_elim, ℕ, ◌+◌, ◌<◌, ◌≤◌, ◌^◌, ◌++◌}
 use Rattle.std.proofs.Common.{◌==◌, nat_lt, Bool, true, false}
 use Rattle.std.proofs.Common.{if◌then◌else◌, List, [], ◌∷◌, length, take, drop, IsTrue}
 use Rattle.std.proofs.Common.{IsSomeAnd, Option, None, Some, Contains}

@@ -1,5 +1,5 @@
 -- No form of a list has the zero hash where none is found that has. For proofs of other crates.
-use Rattle.std.proofs.Common.{◌≡◌, ◌⊎◌, ⊎_elim}
+use Rattle.std.proofs.Common.{◌≡◌, ⊎_elim}
 use Rattle.std.proofs.Common.{Bool, true, false, not}
 use Rattle.std.proofs.Common.{if◌then◌else◌, List, [], ◌∷◌, IsTrue}
 use Rattle.std.proofs.Common.{None, Some, Contains}
