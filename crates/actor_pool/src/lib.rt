@@ -2,6 +2,7 @@
 #![tactic(auto)]
 
 mod gate;
+mod near;
 mod pool;
 mod reading;
 mod shared;

@@ -6,6 +6,7 @@ ghost use Rattle.store_core.specs.Journal.{IsJournal};
 ghost use Rattle.actor_pool.specs.Order.{IsOf, IsSameRun, AreAnswered, AreOfOne};
 
 use crate::gate::{Gate, Point};
+use crate::near::Near;
 use crate::reading::read_outside;
 use crate::shared::{
     Pinned, Section, Shared, answered_locked, commit_locked, is_left_locked, job_locked,
@@ -142,9 +143,13 @@ fn work<R: Wait, H: NodeHash, Sh: Shelf, G: Gate, J: Pinned>(
     actor: u8,
     lines: usize,
 ) {
+    let Ok(shard) = cache.shard(alloc) else {
+        return;
+    };
+    let mut near = Near::new(shard);
     let mut job = job_locked(rt, shared, actor);
     for _ in 0..lines {
-        match answer(rt, alloc, shared, cache, gate, actor, job) {
+        match answer(rt, alloc, shared, cache, &mut near, gate, actor, job) {
             Some(next) => job = next,
             None => break,
         }
@@ -158,13 +163,14 @@ fn answer<R: Wait, H: NodeHash, Sh: Shelf, G: Gate, J: Pinned>(
     alloc: Global,
     shared: &Mutex<Shared<H, Sh, J>>,
     cache: &ReadCache<H>,
+    near: &mut Near<H>,
     gate: &G,
     actor: u8,
     job: Option<ReadJob>,
 ) -> Option<Option<ReadJob>> {
     let mut job = job;
     for _ in 0..TRIES {
-        let Section { stepped, next } = try_line(rt, alloc, shared, cache, gate, actor, job);
+        let Section { stepped, next } = try_line(rt, alloc, shared, cache, near, gate, actor, job);
         match stepped {
             Stepped::Answered => {
                 gate.pass(actor, Point::Answered);
@@ -186,13 +192,14 @@ fn try_line<R: Wait, H: NodeHash, Sh: Shelf, G: Gate, J: Pinned>(
     alloc: Global,
     shared: &Mutex<Shared<H, Sh, J>>,
     cache: &ReadCache<H>,
+    near: &mut Near<H>,
     gate: &G,
     actor: u8,
     job: Option<ReadJob>,
 ) -> Section {
     let mut job = job;
     for _ in 0..SECTIONS {
-        let done = section(rt, alloc, shared, cache, gate, actor, job);
+        let done = section(rt, alloc, shared, cache, near, gate, actor, job);
         match done.stepped {
             Stepped::More => gate.pass(actor, Point::BetweenSlices),
             _ => return done,
@@ -211,6 +218,7 @@ fn section<R: Wait, H: NodeHash, Sh: Shelf, G: Gate, J: Pinned>(
     alloc: Global,
     shared: &Mutex<Shared<H, Sh, J>>,
     cache: &ReadCache<H>,
+    near: &mut Near<H>,
     gate: &G,
     actor: u8,
     job: Option<ReadJob>,
@@ -219,7 +227,7 @@ fn section<R: Wait, H: NodeHash, Sh: Shelf, G: Gate, J: Pinned>(
         gate.pass(actor, Point::BeforeCommit);
         return step_locked(rt, alloc, shared, actor);
     };
-    let handed = read_outside(rt, alloc, shared, cache, gate, actor, job);
+    let handed = read_outside(rt, alloc, shared, cache, near, gate, actor, job);
     gate.pass(actor, Point::BeforeCommit);
     commit_locked(rt, alloc, shared, actor, handed)
 }

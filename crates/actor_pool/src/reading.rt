@@ -1,14 +1,16 @@
-//! Reads outside the core's lock. Each node of the path comes from the cache of readers or, where that lacks it, is made here of the bytes
-//! that the core gives in a section of its own: no two locks are held at once, and none between two nodes. A node that comes either way
-//! has the hash that was asked for, so what the path says is known here, and nothing of it is hashed as it is handed in.
-ghost use Rattle.std.specs.Prelude.{◌≡◌, false, IfOk, IfSome, IsTrue};
+//! Reads outside the core's lock. Each node of the path is one that the reader keeps for itself, or comes from the cache of all readers;
+//! where both lack it, it is made here of the bytes that the core gives in a section of its own: no two locks are held at once, and none
+//! between two nodes. A node that comes either way has the hash that was asked for, so what the path says is known here, and nothing of it
+//! is hashed as it is handed in.
+ghost use Rattle.std.specs.Prelude.{◌≡◌, false, IfSome, IsTrue};
 ghost use Rattle.ledger_spec.specs.Bytes.{is_zero};
 ghost use Rattle.ledger_spec.specs.Forms.{hash_of};
 ghost use Rattle.path_proof.specs.Sources.{HasHash};
 ghost use Rattle.shamap_node.specs.Nodes.{held};
-ghost use Rattle.store_core.specs.Reads.{IsFollowed, IsSaid};
+ghost use Rattle.store_core.specs.Reads.{IsSaid};
 
 use crate::gate::{Gate, Point};
+use crate::near::Near;
 use crate::shared::{Pinned, Shared, form_locked};
 use half_hash::{Hash32, NodeHash};
 use node_backend::{Backend, Shelf};
@@ -25,6 +27,7 @@ pub(crate) fn read_outside<R: Wait, H: NodeHash, Sh: Shelf, G: Gate, J: Pinned>(
     alloc: Global,
     shared: &Mutex<Shared<H, Sh, J>>,
     cache: &ReadCache<H>,
+    near: &mut Near<H>,
     gate: &G,
     actor: u8,
     job: ReadJob,
@@ -35,7 +38,7 @@ pub(crate) fn read_outside<R: Wait, H: NodeHash, Sh: Shelf, G: Gate, J: Pinned>(
             used: Vec::new(alloc),
         })
     } else {
-        go_down(rt, alloc, shared, cache, gate, actor, &job)
+        go_down(rt, alloc, shared, cache, near, gate, actor, &job)
     };
     Followed::new(job, got)
 }
@@ -46,6 +49,7 @@ fn go_down<R: Wait, H: NodeHash, Sh: Shelf, G: Gate, J: Pinned>(
     alloc: Global,
     shared: &Mutex<Shared<H, Sh, J>>,
     cache: &ReadCache<H>,
+    near: &mut Near<H>,
     gate: &G,
     actor: u8,
     job: &ReadJob,
@@ -54,13 +58,45 @@ fn go_down<R: Wait, H: NodeHash, Sh: Shelf, G: Gate, J: Pinned>(
     ensures { IsSaid H.half job.now result }
 {
     let mut reading = Reading::at_root(alloc, &job.root);
+    near.begin();
     loop {
-        let given = node_of(rt, alloc, shared, cache, gate, actor, reading.wanted());
+        let given = node_near(
+            rt,
+            alloc,
+            shared,
+            cache,
+            near,
+            gate,
+            actor,
+            reading.wanted(),
+        );
+        near.descend();
         match reading.go_on::<H>(given, job.kind, &job.key)? {
             Progress::More(next) => reading = next,
             Progress::Done(answer) => return Ok(answer),
         }
     }
+}
+
+// The node of a hash: the copy that the reader keeps for itself, or the one that all readers get.
+fn node_near<R: Wait, H: NodeHash, Sh: Shelf, G: Gate, J: Pinned>(
+    rt: &R,
+    alloc: Global,
+    shared: &Mutex<Shared<H, Sh, J>>,
+    cache: &ReadCache<H>,
+    near: &mut Near<H>,
+    gate: &G,
+    actor: u8,
+    h: &Hash32,
+) -> Result<Option<Arc<Node>>, FetchFault>
+    ensures { HasHash H.half h.now result }
+{
+    if let Some(node) = near.find(h) {
+        return Ok(Some(node));
+    }
+    let given = node_of(rt, alloc, shared, cache, gate, actor, h);
+    near.keep(alloc, h, &given);
+    given
 }
 
 // The node of a hash: the one that the cache has, or that of the bytes which the core gives, which is put into the cache.

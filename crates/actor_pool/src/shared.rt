@@ -5,10 +5,10 @@ ghost use Rattle.actor_pool.specs.Order.{IsOf};
 use half_hash::{Blob, Hash32, NodeHash};
 use node_backend::{Backend, Shelf};
 use path_proof::FetchFault;
+use read_cache::take_lock;
 use std::alloc::Global;
-use std::hint::spin_loop;
 use std::marker::{Brand, Model, PhantomData};
-use std::sync::{Mutex, MutexGuard, Wait};
+use std::sync::{Mutex, Wait};
 use store_core::{Core, Followed, ReadJob, Stepped};
 
 /// Which run it is: the script, the interval, the count of faults at opening and what was missed. Each
@@ -121,23 +121,6 @@ impl<H: NodeHash, Sh: Shelf, J: Pinned> Shared<H, Sh, J> {
     }
 }
 
-/// How often the core's lock is tried before a worker sleeps for it.
-const SPINS: u32 = 500;
-
-// The core under its lock. A section takes less than a sleep, so the lock is tried for a while first.
-fn taken<'a, H: NodeHash, Sh: Shelf, J: Pinned>(
-    rt: &impl Wait,
-    shared: &'a Mutex<Shared<H, Sh, J>>,
-) -> MutexGuard<'a, Shared<H, Sh, J>> {
-    for _ in 0..SPINS {
-        if let Some(guard) = shared.try_lock() {
-            return guard;
-        }
-        spin_loop();
-    }
-    shared.lock(rt)
-}
-
 /// One section for the actor's next line.
 pub(crate) fn step_locked<H: NodeHash, Sh: Shelf, J: Pinned>(
     rt: &impl Wait,
@@ -145,7 +128,7 @@ pub(crate) fn step_locked<H: NodeHash, Sh: Shelf, J: Pinned>(
     shared: &Mutex<Shared<H, Sh, J>>,
     actor: u8,
 ) -> Section {
-    taken(rt, shared).step(alloc, actor)
+    take_lock(rt, shared).step(alloc, actor)
 }
 
 /// The read that the actor's next line asks for.
@@ -154,7 +137,7 @@ pub(crate) fn job_locked<H: NodeHash, Sh: Shelf, J: Pinned>(
     shared: &Mutex<Shared<H, Sh, J>>,
     actor: u8,
 ) -> Option<ReadJob> {
-    taken(rt, shared).read_job(actor)
+    take_lock(rt, shared).read_job(actor)
 }
 
 /// The bytes that are stored under a hash, in a section of its own.
@@ -167,7 +150,7 @@ pub(crate) fn form_locked<H: NodeHash, Sh: Shelf, J: Pinned>(
 ) -> Result<Option<Blob>, FetchFault>
     ensures { IfOk result (λ o. IfSome o (λ form. IsTrue Sh.B.tells → H.half form ≡ h.now)) }
 {
-    taken(rt, shared).form_at(alloc, actor, h)
+    take_lock(rt, shared).form_at(alloc, actor, h)
 }
 
 /// One section for the actor's next line, with what a reader got for it.
@@ -178,7 +161,7 @@ pub(crate) fn commit_locked<H: NodeHash, Sh: Shelf, J: Pinned>(
     actor: u8,
     handed: Followed<H>,
 ) -> Section {
-    taken(rt, shared).commit(alloc, actor, handed)
+    take_lock(rt, shared).commit(alloc, actor, handed)
 }
 
 /// How many lines have their entries.
@@ -186,7 +169,7 @@ pub(crate) fn answered_locked<H: NodeHash, Sh: Shelf, J: Pinned>(
     rt: &impl Wait,
     shared: &Mutex<Shared<H, Sh, J>>,
 ) -> usize {
-    taken(rt, shared).answered()
+    take_lock(rt, shared).answered()
 }
 
 /// Whether the actor has a line left.
@@ -195,7 +178,7 @@ pub(crate) fn is_left_locked<H: NodeHash, Sh: Shelf, J: Pinned>(
     shared: &Mutex<Shared<H, Sh, J>>,
     actor: u8,
 ) -> bool {
-    taken(rt, shared).is_left(actor)
+    take_lock(rt, shared).is_left(actor)
 }
 
 /// The core of a lock that goes out of use.

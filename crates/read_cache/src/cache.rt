@@ -4,6 +4,7 @@ ghost use Rattle.ledger_spec.specs.Forms.{hash_of as form_hash};
 ghost use Rattle.shamap_node.specs.Nodes.{held};
 
 use crate::Shard;
+use crate::taking::take_lock;
 use half_hash::{Hash32, Memory, NodeHash};
 use shamap_node::{Node, hash_of};
 use std::alloc::Global;
@@ -30,11 +31,16 @@ impl<H: NodeHash> ReadCache<H> {
         Ok(ReadCache { hash, shards })
     }
 
+    /// A shard for one reader alone, without entries, which no lock is round.
+    pub fn shard(&self, alloc: Global) -> Result<Shard<H>, Memory> {
+        Shard::new(alloc, self.hash)
+    }
+
     /// The node that is kept under a hash, if there is one. It waits for a lock.
     pub fn get<R: Wait>(&self, rt: &R, h: &Hash32) -> Result<Option<Arc<Node>>, Memory>
         ensures { IfOk result (λ o. IfSome o (λ a. form_hash H.half (held a.value) ≡ h.now)) }
     {
-        self.shards[shard_of(h)].lock(rt).find(h)
+        take_lock(rt, &self.shards[shard_of(h)]).find(h)
     }
 
     /// Keeps a node under its own hash. It waits for a lock.
@@ -47,7 +53,7 @@ impl<H: NodeHash> ReadCache<H> {
     pub fn put_hashed<R: Wait>(&self, rt: &R, h: &Hash32, node: Arc<Node>) -> Result<(), Memory>
         requires own { form_hash H.half (held node.value) ≡ h.now }
     {
-        self.shards[shard_of(h)].lock(rt).keep_hashed(h, node)
+        take_lock(rt, &self.shards[shard_of(h)]).keep_hashed(h, node)
     }
 }
 

@@ -5,9 +5,11 @@
 
 mod cache;
 mod shard;
+mod taking;
 
 pub use cache::ReadCache;
 pub use shard::Shard;
+pub use taking::take_lock;
 
 #[cfg(test)]
 mod tests;

@@ -77,8 +77,8 @@ impl<H: NodeHash> Shard<H> {
         self.keep_hashed(&h, node)
     }
 
-    // The same under a hash that is known as the node's, so that nothing is hashed behind a lock.
-    pub(crate) fn keep_hashed(&mut self, h: &Hash32, node: Arc<Node>) -> Result<(), Memory>
+    /// The same under a hash that is known as the node's, which isn't hashed again.
+    pub fn keep_hashed(&mut self, h: &Hash32, node: Arc<Node>) -> Result<(), Memory>
         requires { form_hash H.half (held node.value) ≡ h.now }
         ensures ok { OnOk result (self.new ≡ with_node H.half node.value self.old) }
         ensures err { OnErr result (self.new ≡ self.old) }

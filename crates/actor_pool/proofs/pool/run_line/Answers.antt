@@ -14,9 +14,9 @@ unreachable-requires g c =
     let left = sym c.is_answered.ensures ∙ c.if-is_answered.false in
     no_other c.step_whole.result c.in_default.not-Answered c.step_whole.ensures.whole
     (λ e. first_free core.lines core.journal c.script.ensures.servable c.journal.ensures.kept.projects c.journal.ensures.kept.known
-    c.args.at line c.requires.within is c.requires.before left (c.step_whole.ensures.blocked.0 e))
+    c.args.at line c.requires.within is c.requires.before left (c.step_whole.ensures.comes.blocked.0 e))
     (λ e. first_left core.lines core.journal c.script.ensures.servable c.journal.ensures.kept.projects c.journal.ensures.kept.known
-    c.args.at line c.requires.within is c.requires.before left (c.step_whole.ensures.finished.0 e))
+    c.args.at line c.requires.within is c.requires.before left (c.step_whole.ensures.comes.finished.0 e))
 
 -- the actor's next line was answered, and that is this one, so the lines up to and with it have their entries
 pub returns-clause-answered : goal.returns-clause-answered
