@@ -1,6 +1,7 @@
 -- What the commands act on: the state over a store, the store's count of faults, and where its forms lie.
 use Rattle.std.specs.Prelude.{◌≡◌, ◌≤◌, ◌&&◌, ◌==◌, if◌then◌else◌, ℕ, suc, Bool, IsTrue, List, [], Result, IfErr, OnErr, length, is_some}
 use Rattle.std.specs.FinMap as finite
+use Rattle.half_hash.specs.declared.Memory.{Memory}
 use Rattle.ledger_spec.specs.Bytes.{Hash, Half, Lookup, Nodes}
 use Rattle.ledger_spec.specs.Maps.{ForHash, ForActor}
 use Rattle.ledger_spec.specs.Acquiring.{Acquiring}
@@ -109,6 +110,12 @@ pub record OnlyReads (told : Bool) (d d' : Desk) : Type 0 where
   pub slices : d'.slices ≡ d.slices
   pub tables : d'.state ≡ record d.state { nodes = d'.state.nodes; born = d'.state.born }
   pub later : d.faults ≤ d'.faults
+
+-- a call that only memory refuses: nothing is listed, told or copied, and where it is refused all is as before
+pub record WantsMemory {X : Type 0} (tells : Bool) (d : Desk) (result : Result X Memory) (d' : Desk) : Type 0 where
+  pub err : OnErr result (d' ≡ d)
+  pub told : d'.state.shaded ≡ d.state.shaded
+  pub stays : Stays tells d d'
 
 -- a call that looks something up in the store: nothing is listed, told or copied, and where it is refused the state is as before
 pub record LooksUp {X : Type 0} (tells : Bool) (d : Desk) (result : Result X BackFault) (d' : Desk) : Type 0 where

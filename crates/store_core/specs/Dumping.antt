@@ -8,6 +8,8 @@ use Rattle.node_backend.specs.Order.{IsAfter}
 use Rattle.ledger_spec.specs.Bytes.{Bytes, Hash, Nodes, are_bytes, zero_hash}
 use Rattle.ledger_spec.specs.Maps.{hash_cmp}
 use Rattle.ledger_machine.specs.declared.commands.Record.{Record}
+use Rattle.ledger_machine.specs.Runs.{opening_of}
+use Rattle.rotating_store.specs.Stores.{Store, nodes_of}
 use Rattle.node_backend.specs.Counts.{held_sum}
 use Rattle.store_core.specs.declared.core_calls.OpenFault.{OpenFault}
 use Rattle.store_core.specs.declared.core_calls.OpenFault.TheVariants as faults
@@ -33,6 +35,17 @@ records_after nodes after = filter (λ r. comes_after after r.hash) (records_of 
 -- nothing is stored but these records, each form under its hash
 abbrev pub HoldsOf : List Record → Nodes → Type 0
 HoldsOf records nodes = (h : Hash) (form : Bytes) → finite.get nodes h ≡ Some form → Contains records (record { hash = h; form = form })
+
+-- a core that was opened with these records over a shelf that had failed so often
+pub record IsOpened (told : Bool) (records : List Record) (interval faults : ℕ) (c : CoreView) : Type 0 where
+  pub counted : c.opened ≡ c.faults
+  pub since : faults ≤ c.opened
+  pub state : IsTrue told → c.state ≡ opening_of records interval
+
+-- a store that is handed back in place of a core, since it failed: its count rose, and nothing but records of the script is stored in it
+pub record IsHandedBack (told : Bool) (records : List Record) (faults : ℕ) (s : Store) : Type 0 where
+  pub rose : Rose faults s.faults
+  pub held : IsTrue told → HoldsOf records (nodes_of s)
 
 -- the next stored record after a hash, or none where no greater hash is stored
 abbrev pub IsNextRecord : Nodes → Option Hash → Option Record → Type 0

@@ -1,5 +1,5 @@
 -- What the core says of reads.
-use Rattle.std.specs.Prelude.{◌≡◌, ◌⊎◌, ℕ, Bool, IsTrue, List, [], Option, None, Some, Result, Ok, Err, IfOk, IfErr, IfSome}
+use Rattle.std.specs.Prelude.{◌≡◌, ◌≢◌, ◌⊎◌, ℕ, Bool, IsTrue, List, [], Option, None, Some, Result, Ok, Err, IfOk, IfErr, IfSome}
 use Rattle.std.specs.declared.sync.Arc.{Arc}
 use Rattle.std.specs.declared.alloc.Global.{Global}
 use Rattle.shamap_node.specs.declared.Node.{Node}
@@ -67,18 +67,29 @@ pub record IsListed (half : Half) (s : State) (kind : Kind) (key : Hash) (n : �
   pub pages : Pages half s kind key n root (says.Page paged.reply) (held_nodes paged.used.items) s'
   pub uses : UsesNodes (says.Page paged.reply) (held_nodes paged.used.items)
 
+-- what is given for a hash is a node that has it, or none; where the store tells what it holds, the node of the bytes there
+pub record IsNodeOf (half : Half) (tells : Bool) (there : Option Bytes) (h : Hash) (result : Result (Option (Arc Node Global)) FetchFault)
+    : Type 0 where
+  pub hash : IfOk result (λ o. IfSome o (λ node. hash_of half (held node.value) ≡ h))
+  pub exact : IsTrue tells → Gives half there result
+
+-- what is given for a hash are, where the store tells what it holds, the bytes there, which have it; no bytes are refused for what they say
+pub record IsFormOf (half : Half) (tells : Bool) (there : Option Bytes) (h : Hash) (result : Result (Option Bytes) FetchFault)
+    : Type 0 where
+  pub exact : IsTrue tells → IfOk result (λ form. form ≡ there)
+  pub own : IfOk result (λ o. IfSome o (λ form. IsTrue tells → half form ≡ h))
+  pub unread : IfErr result (λ e. e ≢ faults.Foreign)
+
 -- the node of a hash, as a store gives it that is only read
 pub record GivesNode (half : Half) (tells : Bool) (d : Desk) (h : Hash) (result : Result (Option (Arc Node Global)) FetchFault) (d' : Desk)
     : Type 0 where
-  pub hash : IfOk result (λ o. IfSome o (λ node. hash_of half (held node.value) ≡ h))
-  pub exact : IsTrue tells → Gives half (form_in d.state h) result
+  pub node : IsNodeOf half tells (form_in d.state h) h result
   pub reads : OnlyReads tells d d'
   pub fault : IfErr result (λ e. e ≡ faults.Fault → Rose d.faults d'.faults)
 
 -- the bytes of a hash, which have it where the store tells what it holds
 pub record GivesForm (half : Half) (tells : Bool) (d : Desk) (h : Hash) (result : Result (Option Bytes) FetchFault) (d' : Desk)
     : Type 0 where
-  pub exact : IsTrue tells → IfOk result (λ form. form ≡ form_in d.state h)
-  pub own : IfOk result (λ o. IfSome o (λ form. IsTrue tells → half form ≡ h))
+  pub form : IsFormOf half tells (form_in d.state h) h result
   pub reads : OnlyReads tells d d'
   pub fault : IfErr result (λ e. e ≡ faults.Fault → Rose d.faults d'.faults)

@@ -1,5 +1,5 @@
 -- What a command may count on, and what it does: at once, or in a section.
-use Rattle.std.specs.Prelude.{◌≡◌, ◌<◌, ◌≤◌, ◌+◌, ◌-◌, ◌^◌, ℕ, Bool, IsTrue, IfErr, IfOk, List, Option, Result}
+use Rattle.std.specs.Prelude.{◌≡◌, ◌<◌, ◌≤◌, ◌+◌, ◌-◌, ◌^◌, ℕ, Bool, IsTrue, IfErr, IfOk, List, [], Option, Result}
 use Rattle.ledger_spec.specs.Bytes.{Half, Hash}
 use Rattle.ledger_spec.specs.Forms.{Held}
 use Rattle.missing_walk.specs.declared.Found.{Found}
@@ -19,7 +19,7 @@ use Rattle.ledger_machine.specs.Steps.{Does, Step}
 use Rattle.run_io.specs.Bytes.{Rose}
 use Rattle.store_core.specs.Commands.{IsNoCheck}
 use Rattle.store_core.specs.Checking.{AsksNothing, HasFound, IsSliced, IsSought, LeavesSearch, SearchesBy, Shares}
-use Rattle.store_core.specs.Desks.{Desk, IsFiled, Grows, KeepsRest, OnlyReads}
+use Rattle.store_core.specs.Desks.{Desk, IsFiled, Grows, KeepsRest, OnlyReads, Stays}
 use Rattle.store_core.specs.Refusals.{IsRefusal}
 use Rattle.store_core.specs.Telling.{AreTold, AreWantedTold, CopiesBy, CopiesFew, CountsFrom}
 use Rattle.store_core.specs.declared.acquiring.Sought.{Sought}
@@ -56,6 +56,14 @@ pub record Acts (half : Half) (tells : Bool) (d : Desk) (a : ℕ) (c : Command) 
   pub leaves : Leaves (Rose d.faults d'.faults) d c reply d'
   pub copies : IsTrue tells → CopiesBy c d d'
   pub asks : AsksNothing c d.gets d'.gets
+
+-- what a peer's offer does, whoever's command brings it: nothing is listed, told or copied
+pub record Takes (half : Half) (tells : Bool) (d : Desk) (c : Command) (reply : Reply) (d' : Desk) : Type 0 where
+  pub does : IsTrue tells → (a : ℕ) → Does half d.state a c reply [] d'.state
+  pub refused : IsRefusal reply → KeepsRest d.state d'.state
+  pub stays : Stays tells d d'
+  pub told : d'.state.shaded ≡ d.state.shaded
+  pub fault : reply ≡ says.Fault → Rose d.faults d'.faults
 
 -- What a command of an actor does that is answered by this reply, for which these nodes were used: where the store tells what it holds, a
 -- step of the machine.

@@ -4,6 +4,7 @@ use Rattle.std.specs.Prelude.{Some, Result, Ok, Err, IfErr, IfOk, OnErr, ℕ}
 use Rattle.std.specs.List.{Contains}
 use Rattle.std.specs.Map.{keys_of, values_of}
 use Rattle.std.specs.FinSet as set
+use Rattle.half_hash.specs.declared.Memory.{Memory}
 use Rattle.ledger_spec.specs.Bytes.{Bytes, Hash, Half}
 use Rattle.ledger_spec.specs.Maps.{hash_cmp, get_in}
 use Rattle.ledger_spec.specs.Retaining.{Retention, floor_behind}
@@ -33,10 +34,8 @@ use Rattle.copy_walk.specs.Counts.{CopiesAtMost}
 use Rattle.std.specs.FinMap as finite
 use Rattle.store_core.specs.Desks.{Desk, Grows, KeepsRest, KeepsState, backs, behind}
 use Rattle.ledger_machine.specs.State.{State, form_in, Kept}
-use Rattle.ledger_machine.specs.Rotation.{WhileTurning}
-use Rattle.ledger_machine.specs.Rotation.{AreShaded}
-use Rattle.ledger_machine.specs.Rotation.{Tells}
-use Rattle.ledger_machine.specs.Steps.{own_hashes}
+use Rattle.ledger_machine.specs.Rotation.{AreShaded, Tells, WhileTurning, after_begin, begin_reply}
+use Rattle.ledger_machine.specs.Steps.{IsAfter, own_hashes}
 
 -- Nothing is pinned in the book: what views and sessions hold is told as a rotation begins. The book has a rotation under way where the
 -- rotator has, and outside of one nothing was told and nothing is walked. The walk copies what was told reaches, and what both backends
@@ -145,6 +144,17 @@ BeginsBy s more (begins.Begun v floor) s' = (h : Hash) → Contains s'.shaded h
     ↔ (IsSomeAnd (get_in hash_cmp s.listed h) (λ seq. floor_behind s.last ≤ seq)
     ⊎ Contains (values_of s.views ++ keys_of s.wanted ++ more) h)
 BeginsBy s more r s' = s'.shaded ≡ s.shaded
+
+-- The begin of the rotation that is due, which is told of these beside. Nothing is listed anew or copied, and only memory refuses it: then
+-- all is as it was.
+pub record Begins (tells : Bool) (more : List Hash) (d : Desk) (result : Result BeginReply Memory) (d' : Desk) : Type 0 where
+  pub reply : IfOk result (λ r. r ≡ begin_reply d.state)
+  pub after : IfOk result (λ r. IsAfter (after_begin d.state r) d'.state)
+  pub told : IfOk result (λ r. BeginsBy d.state more r d'.state)
+  pub err : OnErr result (d' ≡ d)
+  pub grows : Grows d d'
+  pub slices : IfOk result (λ r. CountsFrom command.Begin (says.Begin r) d.slices d'.slices)
+  pub copies : IsTrue tells → backs d' ≡ backs d
 
 -- a swap, by what the rotation was told: all that this reaches stays, and nothing else but what was born in the epoch that ended
 pub record SwapsTold (s s' : State) : Type 0 where

@@ -9,7 +9,7 @@ ghost use Rattle.ledger_spec.specs.Acquiring.{after_verdict};
 ghost use Rattle.acquire_core.specs.Replies.{found_verdict};
 ghost use Rattle.missing_walk.specs.Founds.{IsFound};
 ghost use Rattle.store_core.specs.Checking.{AreKept, HasFound, sought_by};
-ghost use Rattle.store_core.specs.Serving.{MayAct, Seeks};
+ghost use Rattle.store_core.specs.Serving.{MayAct, Seeks, Takes};
 ghost use Rattle.ledger_machine.specs.Limits.{actors};
 ghost use Rattle.ledger_machine.specs.State.{stored_seq, with_wanted, ended};
 ghost use Rattle.ledger_machine.specs.Want.{want_reply, after_want};
@@ -19,7 +19,7 @@ ghost use Rattle.ledger_machine.specs.Ticks.{tick_reply, after_tick};
 ghost use Rattle.ledger_machine.specs.Rotation.{Tells};
 ghost use Rattle.ledger_machine.specs.Steps.{IsAfter};
 ghost use Rattle.ledger_machine.specs.Steps.{Does};
-ghost use Rattle.store_core.specs.Desks.{AsksNoStore, IsFiled, Stays, Grows, KeepsRest};
+ghost use Rattle.store_core.specs.Desks.{AsksNoStore, IsFiled, Stays, Grows, KeepsRest, WantsMemory};
 ghost use Rattle.store_core.specs.Refusals.{IsRefusal};
 ghost use Rattle.store_core.specs.Commands.{TellsRoot};
 ghost use Rattle.store_core.specs.Telling.{Hears};
@@ -102,9 +102,7 @@ impl<H: NodeHash, Sh: Shelf> Tables<H, Sh> {
     fn begin_search(&mut self, alloc: Global, target: &Hash32, seq: u32) -> Result<(), Memory>
         requires { IsTrue (is_nonzero target.now) }
         ensures ok { OnOk result (self.new.state ≡ after_want self.old.state target.now seq WantReply.Opened) }
-        ensures err { OnErr result (self.new ≡ self.old) }
-        ensures told { self.new.state.shaded ≡ self.old.state.shaded }
-        ensures stays { Stays Sh.B.tells self.old self.new }
+        ensures memory { WantsMemory Sh.B.tells self.old result self.new }
     {
         self.wanted
             .insert(*target, Acquire::new(alloc, *target, seq))?;
@@ -115,9 +113,7 @@ impl<H: NodeHash, Sh: Shelf> Tables<H, Sh> {
     pub(crate) fn peer(&mut self, peer: u16, target: &Hash32) -> Result<PeerReply, Memory>
         ensures reply { IfOk result (λ r. r ≡ peer_reply self.old.state peer target.now) }
         ensures after { IfOk result (λ _. self.new.state ≡ after_peer self.old.state peer target.now) }
-        ensures told { self.new.state.shaded ≡ self.old.state.shaded }
-        ensures err { OnErr result (self.new ≡ self.old) }
-        ensures stays { Stays Sh.B.tells self.old self.new }
+        ensures memory { WantsMemory Sh.B.tells self.old result self.new }
     {
         let Some(acquire) = self.wanted.get_mut(target) else {
             return Ok(PeerReply::NotOpen);
@@ -138,12 +134,7 @@ impl<H: NodeHash, Sh: Shelf> Tables<H, Sh> {
         tx: &Option<Blob>,
     ) -> Reply
         requires may { MayAct H.half Sh.B.tells self.old (Command.Base peer target.now header.now state.now tx.now) None }
-        ensures does { IsTrue Sh.B.tells → (actor : ℕ)
-            → Does H.half self.old.state actor (Command.Base peer target.now header.now state.now tx.now) result [] self.new.state }
-        ensures refused { IsRefusal result → KeepsRest self.old.state self.new.state }
-        ensures stays { Stays Sh.B.tells self.old self.new }
-        ensures told { self.new.state.shaded ≡ self.old.state.shaded }
-        ensures fault { result ≡ Reply.Fault → Rose self.old.faults self.new.faults }
+        ensures { Takes H.half Sh.B.tells self.old (Command.Base peer target.now header.now state.now tx.now) result self.new }
     {
         known_half::<H>();
         let Some(acquire) = self.wanted.get_mut(target) else {
@@ -176,12 +167,7 @@ impl<H: NodeHash, Sh: Shelf> Tables<H, Sh> {
         blob: &Blob,
     ) -> Reply
         requires may { MayAct H.half Sh.B.tells self.old (Command.Node peer target.now kind id.now blob.now) None }
-        ensures does { IsTrue Sh.B.tells → (actor : ℕ)
-            → Does H.half self.old.state actor (Command.Node peer target.now kind id.now blob.now) result [] self.new.state }
-        ensures refused { IsRefusal result → KeepsRest self.old.state self.new.state }
-        ensures stays { Stays Sh.B.tells self.old self.new }
-        ensures told { self.new.state.shaded ≡ self.old.state.shaded }
-        ensures fault { result ≡ Reply.Fault → Rose self.old.faults self.new.faults }
+        ensures { Takes H.half Sh.B.tells self.old (Command.Node peer target.now kind id.now blob.now) result self.new }
     {
         known_half::<H>();
         let Some(acquire) = self.wanted.get_mut(target) else {
@@ -263,9 +249,7 @@ impl<H: NodeHash, Sh: Shelf> Tables<H, Sh> {
         ensures reply { IfOk result (λ r. r ≡ judged_by (get_in hash_cmp self.old.state.wanted target.now) self.old.state.floor found.now) }
         ensures after { IfOk result (λ _. self.new.state ≡ with_wanted self.old.state target.now
             (λ a. after_verdict a (found_verdict a self.old.state.floor found.now))) }
-        ensures err { OnErr result (self.new ≡ self.old) }
-        ensures told { self.new.state.shaded ≡ self.old.state.shaded }
-        ensures stays { Stays Sh.B.tells self.old self.new }
+        ensures memory { WantsMemory Sh.B.tells self.old result self.new }
         ensures store { AsksNoStore Sh.B.tells self.old self.new }
     {
         let floor = self.book.floor();

@@ -2,26 +2,24 @@
 ghost use Rattle.std.specs.Prelude.{◌≡◌, ◌≢◌, ◌⊎◌, ◌↔◌, ◌+◌, ◌<◌, ◌≤◌, ◌^◌, [], true, IsTrue, IfOk, length, count_by};
 ghost use Rattle.std.specs.Prelude.{IfErr, IfSome, MatchOption, Some, drop};
 ghost use Rattle.std.specs.Option.{option_copied};
-ghost use Rattle.ledger_spec.specs.Forms.{hash_of};
 ghost use Rattle.ledger_machine.specs.Reading.{view_root};
 ghost use Rattle.ledger_machine.specs.Scripts.{Rises, line_of, numbers_of};
 ghost use Rattle.ledger_machine.specs.Limits.{actors};
-ghost use Rattle.ledger_machine.specs.Runs.{IsDone, IsBlocked, is_answered as answered, opening_of};
+ghost use Rattle.ledger_machine.specs.Runs.{IsDone, IsBlocked, is_answered as answered};
 ghost use Rattle.ledger_machine.specs.Records.{AreRecords};
 ghost use Rattle.ledger_machine.specs.State.{form_in};
-ghost use Rattle.path_proof.specs.Sources.{Gives};
 ghost use Rattle.script_form.specs.Servable.{AreServable};
-ghost use Rattle.shamap_node.specs.Nodes.{held};
 ghost use Rattle.ledger_searches.specs.Sharing.{IsPaired};
 ghost use Rattle.run_io.specs.Bytes.{Rose};
 ghost use Rattle.rotating_store.specs.Stores.{Store, nodes_of};
 ghost use Rattle.store_core.specs.Checking.{TurnsBy};
-ghost use Rattle.store_core.specs.Committing.{Commits};
-ghost use Rattle.store_core.specs.Dumping.{HoldsOf, IsNextRecord, Follows, Lists, missed_after};
+ghost use Rattle.store_core.specs.Committing.{ComesTo, Commits, IsShort};
+ghost use Rattle.store_core.specs.Dumping.{IsHandedBack, IsNextRecord, IsOpened, Follows, Lists, missed_after};
 ghost use Rattle.store_core.specs.Failing.{is_among, failed_after, with_fault};
 ghost use Rattle.store_core.specs.Halls.{root_by};
 ghost use Rattle.store_core.specs.Jobs.{job_in, TakesIn, HandsFault};
 ghost use Rattle.store_core.specs.Journal.{Advances, AdvancesFor, Slices, ChecksFew, CopiesFew, IsJournal, IsNew, IsNext};
+ghost use Rattle.store_core.specs.Reads.{IsFormOf, IsNodeOf};
 ghost use Rattle.store_core.specs.Journal.{AllBefore, AllFrom};
 ghost use Rattle.store_core.specs.Retaining.{AreRetained};
 ghost use Rattle.store_core.specs.Totals.{totals_of, is_complete as completes, is_closed as closes};
@@ -134,14 +132,11 @@ impl<H: NodeHash, Sh: Shelf> Core<H, Sh> {
         requires apart { 0 < interval }
         requires lines { AreServable script.lines.items }
         requires records { AreRecords H.half script.records.items }
-        ensures script { IfOk result (λ c. IsNew script.records.items script.lines.items interval c) }
-        ensures counts { IfOk result (λ c. (c.opened ≡ c.faults) × (Sh.faults shelf ≤ c.opened)) }
-        ensures state { IsTrue Sh.B.tells → IfOk result (λ c. c.state ≡ opening_of script.records.items interval) }
+        ensures script { IfOk result (IsNew script.records.items script.lines.items interval) }
+        ensures opened { IfOk result (IsOpened Sh.B.tells script.records.items interval (Sh.faults shelf)) }
         // A shelf or a store is handed back only where its count of faults is greater than that of the shelf.
         ensures shelf { (s : Sh) → result ≡ Err (Unopened.Shelf s) → Rose (Sh.faults shelf) (Sh.faults s) }
-        ensures store { (s : Store) → result ≡ Err (Unopened.Store s) → Rose (Sh.faults shelf) s.faults }
-        // Nothing but records of the script is stored in such a store.
-        ensures held { IsTrue Sh.B.tells → (s : Store) → result ≡ Err (Unopened.Store s) → HoldsOf script.records.items (nodes_of s) }
+        ensures store { (s : Store) → result ≡ Err (Unopened.Store s) → IsHandedBack Sh.B.tells script.records.items (Sh.faults shelf) s }
     {
         let mut store = RotStore::open(alloc, shelf)?;
         match put_records::<H, Sh>(alloc, &mut store, &script.records) {
@@ -182,13 +177,8 @@ impl<H: NodeHash, Sh: Shelf> Core<H, Sh> {
     pub fn step(&mut self, alloc: Global, actor: u8) -> Stepped
         ensures answered { result ≡ Stepped.Answered → Advances H.half Sh.B.tells self.old actor self.new }
         ensures more { result ≡ Stepped.More → Slices H.half Sh.B.tells self.old actor self.new }
-        ensures copies { IsTrue Sh.B.tells → CopiesFew self.old actor self.new }
-        ensures slices { result ≢ Stepped.More → self.new.slices ≤ self.old.slices }
-        ensures asks { ChecksFew self.old actor self.new }
-        ensures blocked { (result ≡ Stepped.Blocked) ↔ IsBlocked self.old.lines self.old.journal actor }
-        ensures finished { (result ≡ Stepped.Finished) ↔ IsDone self.old.lines self.old.journal actor }
-        ensures unchanged { (result ≡ Stepped.Blocked) ⊎ (result ≡ Stepped.Finished) → self.new ≡ self.old }
-        ensures few { length self.new.journal ≤ length self.new.lines }
+        ensures short { IsShort Sh.B.tells self.old actor self.new }
+        ensures comes { ComesTo self.old actor result self.new }
     {
         self.advance(alloc, actor, None, Part::Slice)
     }
@@ -198,11 +188,7 @@ impl<H: NodeHash, Sh: Shelf> Core<H, Sh> {
     pub fn step_whole(&mut self, alloc: Global, actor: u8) -> Stepped
         ensures answered { result ≡ Stepped.Answered → Advances H.half Sh.B.tells self.old actor self.new }
         ensures whole { result ≢ Stepped.More }
-        ensures slices { self.new.slices ≤ self.old.slices }
-        ensures blocked { (result ≡ Stepped.Blocked) ↔ IsBlocked self.old.lines self.old.journal actor }
-        ensures finished { (result ≡ Stepped.Finished) ↔ IsDone self.old.lines self.old.journal actor }
-        ensures unchanged { (result ≡ Stepped.Blocked) ⊎ (result ≡ Stepped.Finished) → self.new ≡ self.old }
-        ensures few { length self.new.journal ≤ length self.new.lines }
+        ensures comes { ComesTo self.old actor result self.new }
     {
         self.advance(alloc, actor, None, Part::Whole)
     }
@@ -221,9 +207,7 @@ impl<H: NodeHash, Sh: Shelf> Core<H, Sh> {
         // the reader's answer is what is recorded, exactly where its nodes are a path to the key below the view's root
         ensures takes { job_in (root_by self.old.views) self.old.lines self.old.journal actor ≡ Some job.now
             → TakesIn H.half job.now got self.old.journal self.new.journal }
-        ensures blocked { (result ≡ Stepped.Blocked) ↔ IsBlocked self.old.lines self.old.journal actor }
-        ensures finished { (result ≡ Stepped.Finished) ↔ IsDone self.old.lines self.old.journal actor }
-        ensures few { length self.new.journal ≤ length self.new.lines }
+        ensures comes { ComesTo self.old actor result self.new }
     {
         let handed = Followed::judged(job, got);
         self.advance(alloc, actor, handed, Part::Slice)
@@ -234,9 +218,7 @@ impl<H: NodeHash, Sh: Shelf> Core<H, Sh> {
         ensures does { Commits H.half Sh.B.tells self.old actor handed.got result self.new }
         ensures takes { job_in (root_by self.old.views) self.old.lines self.old.journal actor ≡ Some handed.job
             → TakesIn H.half handed.job handed.got self.old.journal self.new.journal }
-        ensures blocked { (result ≡ Stepped.Blocked) ↔ IsBlocked self.old.lines self.old.journal actor }
-        ensures finished { (result ≡ Stepped.Finished) ↔ IsDone self.old.lines self.old.journal actor }
-        ensures few { length self.new.journal ≤ length self.new.lines }
+        ensures comes { ComesTo self.old actor result self.new }
     {
         self.advance(alloc, actor, Some(handed), Part::Slice)
     }
@@ -334,8 +316,7 @@ impl<H: NodeHash, Sh: Shelf> Core<H, Sh> {
         actor: u8,
         h: &Hash32,
     ) -> Result<Option<Arc<Node>>, FetchFault>
-        ensures hash { IfOk result (λ o. IfSome o (λ node. hash_of H.half (held node.value) ≡ h.now)) }
-        ensures exact { IsTrue Sh.B.tells → Gives H.half (form_in self.old.state h.now) result }
+        ensures node { IsNodeOf H.half Sh.B.tells (form_in self.old.state h.now) h.now result }
         ensures lists { Lists Sh.B.tells self.old self.new }
         ensures missed { self.new.missed ≡ self.old.missed }
         ensures failed { self.new.failed ≡ failed_after actor self.old.failed result }
@@ -357,8 +338,7 @@ impl<H: NodeHash, Sh: Shelf> Core<H, Sh> {
         actor: u8,
         h: &Hash32,
     ) -> Result<Option<Blob>, FetchFault>
-        ensures exact { IsTrue Sh.B.tells → IfOk result (λ b. b ≡ form_in self.old.state h.now) }
-        ensures own { IfOk result (λ o. IfSome o (λ form. IsTrue Sh.B.tells → H.half form ≡ h.now)) }
+        ensures form { IsFormOf H.half Sh.B.tells (form_in self.old.state h.now) h.now result }
         ensures lists { Lists Sh.B.tells self.old self.new }
         ensures missed { self.new.missed ≡ self.old.missed }
         ensures failed { self.new.failed ≡ failed_after actor self.old.failed result }

@@ -9,7 +9,7 @@ ghost use Rattle.ledger_machine.specs.State.{form_in};
 ghost use Rattle.open_sessions.specs.Changed.{Changed};
 ghost use Rattle.open_sessions.specs.Rows.{del_said};
 ghost use Rattle.store_core.specs.Machines.{IsHeaderOf, IsFit, edit_by};
-ghost use Rattle.store_core.specs.Desks.{IsFiled, LooksUp, Stays, OnlyReads};
+ghost use Rattle.store_core.specs.Desks.{IsFiled, LooksUp, Stays, OnlyReads, WantsMemory};
 
 use crate::limits::{LAST_SEQ, MOST_SESSIONS};
 use crate::machine::Machine;
@@ -79,9 +79,7 @@ impl<H: NodeHash, Sh: Shelf> Machine<H, Sh> {
         requires { IsTrue Sh.B.tells → IsFit H.half self.old.state target.now header }
         ensures reply { IfOk result (λ r. r ≡ edit_by header.seq (length self.old.state.sessions)) }
         ensures after { IsTrue Sh.B.tells → IfOk result (λ r. self.new.state ≡ after_edit H.half self.old.state id target.now r) }
-        ensures err { OnErr result (self.new ≡ self.old) }
-        ensures told { self.new.state.shaded ≡ self.old.state.shaded }
-        ensures stays { Stays Sh.B.tells self.old self.new }
+        ensures memory { WantsMemory Sh.B.tells self.old result self.new }
     {
         known_half::<H>();
         if header.seq == LAST_SEQ {
@@ -145,9 +143,7 @@ impl<H: NodeHash, Sh: Shelf> Machine<H, Sh> {
         ensures reply { IsTrue Sh.B.tells → IfOk result (λ r. r ≡ has_session self.old.state (actor, session)) }
         ensures after { IsTrue Sh.B.tells
             → IfOk result (λ _. self.new.state ≡ after_tx self.old.state (actor, session) item.now.key item.now.value) }
-        ensures err { OnErr result (self.new ≡ self.old) }
-        ensures told { self.new.state.shaded ≡ self.old.state.shaded }
-        ensures stays { Stays Sh.B.tells self.old self.new }
+        ensures memory { WantsMemory Sh.B.tells self.old result self.new }
     {
         self.tables
             .tx(alloc, &mut self.sessions, (actor, session), item)

@@ -13,7 +13,7 @@ ghost use Rattle.ledger_machine.specs.Steps.{own_hashes};
 ghost use Rattle.ledger_machine.specs.Views.{is_retained as state_retains, view_reply, after_view};
 ghost use Rattle.store_core.specs.Commands.{IsNoCheck, IsOfSessions, TellsRoot};
 ghost use Rattle.store_core.specs.Checking.{AreKept, HasFound};
-ghost use Rattle.store_core.specs.Desks.{IsFiled, Stays, over};
+ghost use Rattle.store_core.specs.Desks.{IsFiled, Stays, over, WantsMemory};
 ghost use Rattle.store_core.specs.Dumping.{GivesNext};
 ghost use Rattle.store_core.specs.Reads.{GivesForm, GivesNode};
 ghost use Rattle.store_core.specs.Serving.{Acts, Answers, LeavesMore, MayServe, Seeks, Steps};
@@ -289,9 +289,7 @@ impl<H: NodeHash, Sh: Shelf> Machine<H, Sh> {
     fn view(&mut self, actor: u8, view: u16, target: &Hash32) -> Result<ViewReply, Memory>
         ensures reply { IfOk result (λ r. r ≡ view_reply self.old.state (actor, view) target.now) }
         ensures after { IfOk result (λ r. self.new.state ≡ after_view self.old.state (actor, view) target.now r) }
-        ensures told { self.new.state.shaded ≡ self.old.state.shaded }
-        ensures err { OnErr result (self.new ≡ self.old) }
-        ensures stays { Stays Sh.B.tells self.old self.new }
+        ensures memory { WantsMemory Sh.B.tells self.old result self.new }
     {
         let retained = self.is_retained(target);
         self.tables.view(actor, view, target, retained)

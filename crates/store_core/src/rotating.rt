@@ -1,13 +1,11 @@
 //! The commands that begin and end a rotation, and what one is told meanwhile.
-ghost use Rattle.std.specs.Prelude.{◌≡◌, ◌⊎◌, false, ◌<◌, ◌≤◌, ◌-◌, ◌^◌, ◌++◌, [], IsTrue, IsSome, IfOk, OnErr};
+ghost use Rattle.std.specs.Prelude.{◌≡◌, ◌⊎◌, false, ◌<◌, ◌≤◌, ◌-◌, ◌^◌, ◌++◌, [], IsTrue, IsSome, IfOk};
 ghost use Rattle.std.specs.Map.{keys_of, values_of};
-ghost use Rattle.ledger_machine.specs.Rotation.{begin_reply, after_begin};
-ghost use Rattle.ledger_machine.specs.Steps.{IsAfter};
 ghost use Rattle.ledger_machine.specs.State.{bases as edited};
-ghost use Rattle.store_core.specs.Desks.{backs, IsFiled, Grows};
+ghost use Rattle.store_core.specs.Desks.{IsFiled};
 ghost use Rattle.store_core.specs.Serving.{Acts, MayServe};
-ghost use Rattle.store_core.specs.Telling.{most_slices, most_copied, BeginsBy, Finishes, SlicesFirst, SlicesOn};
-ghost use Rattle.store_core.specs.Telling.{AreTold, Carried, CountsFrom};
+ghost use Rattle.store_core.specs.Telling.{most_slices, most_copied, Begins, Finishes, SlicesFirst, SlicesOn};
+ghost use Rattle.store_core.specs.Telling.{AreTold, Carried};
 
 use crate::limits::{MOST_COPIED, MOST_SLICES};
 use crate::machine::Machine;
@@ -35,13 +33,7 @@ pub(crate) enum Part {
 impl<H: NodeHash, Sh: Shelf> Tables<H, Sh> {
     /// Begins the rotation that is due, which is told of the ledgers that stay listed, of those of views, of the open targets and of these.
     pub(crate) fn begin(&mut self, alloc: Global, bases: &[Hash32]) -> Result<BeginReply, Memory>
-        ensures reply { IfOk result (λ r. r ≡ begin_reply self.old.state) }
-        ensures after { IfOk result (λ r. IsAfter (after_begin self.old.state r) self.new.state) }
-        ensures told { IfOk result (λ r. BeginsBy self.old.state bases.now r self.new.state) }
-        ensures err { OnErr result (self.new ≡ self.old) }
-        ensures grows { Grows self.old self.new }
-        ensures slices { IfOk result (λ r. CountsFrom Command.Begin (Reply.Begin r) self.old.slices self.new.slices) }
-        ensures copies { IsTrue Sh.B.tells → backs self.new ≡ backs self.old }
+        ensures { Begins Sh.B.tells bases.now self.old result self.new }
     {
         let targets = self.targets(alloc, bases)?;
         let begun = self.rotator.begin(alloc, &mut self.book, &targets)?;
@@ -146,13 +138,7 @@ impl<H: NodeHash, Sh: Shelf> Machine<H, Sh> {
 
     // Begins the rotation that is due. It is told of the ledgers that are edited, too.
     fn begin(&mut self, alloc: Global) -> Result<BeginReply, Memory>
-        ensures reply { IfOk result (λ r. r ≡ begin_reply self.old.state) }
-        ensures after { IfOk result (λ r. IsAfter (after_begin self.old.state r) self.new.state) }
-        ensures told { IfOk result (λ r. BeginsBy self.old.state (edited self.old.state) r self.new.state) }
-        ensures err { OnErr result (self.new ≡ self.old) }
-        ensures grows { Grows self.old self.new }
-        ensures slices { IfOk result (λ r. CountsFrom Command.Begin (Reply.Begin r) self.old.slices self.new.slices) }
-        ensures copies { IsTrue Sh.B.tells → backs self.new ≡ backs self.old }
+        ensures { Begins Sh.B.tells (edited self.old.state) self.old result self.new }
     {
         let bases = self.sessions.bases(alloc)?;
         self.tables.begin(alloc, &bases)

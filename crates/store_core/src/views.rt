@@ -1,11 +1,9 @@
 //! Views, which pin a ledger under a number of an actor's, and reads of them.
-ghost use Rattle.std.specs.Prelude.{◌≡◌, ◌≤◌, IsTrue, OnErr, IfErr, IfOk, IfSome};
+ghost use Rattle.std.specs.Prelude.{◌≡◌, ◌≢◌, IsTrue, OnErr, IfErr, IfOk};
 ghost use Rattle.std.specs.FinMap as map;
-ghost use Rattle.ledger_spec.specs.Forms.{hash_of};
 ghost use Rattle.rotating_store.specs.Reading.{WasRead};
-ghost use Rattle.path_proof.specs.Sources.{Gives};
+ghost use Rattle.path_proof.specs.Sources.{LeavesSource, RoseIf};
 ghost use Rattle.rotating_store.specs.Stores.{nodes_of};
-ghost use Rattle.shamap_node.specs.Nodes.{held};
 ghost use Rattle.std.specs.List.{list_any};
 ghost use Rattle.std.specs.Map.{values_of};
 ghost use Rattle.ledger_spec.specs.Bytes.{Hash, Half, same_bytes};
@@ -14,9 +12,9 @@ ghost use Rattle.run_io.specs.Bytes.{Rose};
 ghost use Rattle.ledger_machine.specs.Views.{is_retained as state_retains, after_view, unview_reply, after_unview};
 ghost use Rattle.ledger_machine.specs.Reading.{IsRead, view_root};
 ghost use Rattle.store_core.specs.Machines.{view_by};
-ghost use Rattle.store_core.specs.Desks.{IsFiled, Stays, OnlyReads};
+ghost use Rattle.store_core.specs.Desks.{IsFiled, Stays, OnlyReads, WantsMemory};
 ghost use Rattle.path_proof.specs.Paths.{held_nodes};
-ghost use Rattle.store_core.specs.Reads.{GivesForm, GivesNode, IsFollowed, IsGot, Says};
+ghost use Rattle.store_core.specs.Reads.{GivesForm, GivesNode, IsFollowed, IsGot, IsNodeOf, Says};
 
 use crate::limits::MOST_VIEWS;
 use crate::tables::Tables;
@@ -49,9 +47,7 @@ impl<H: NodeHash, Sh: Shelf> Tables<H, Sh> {
     ) -> Result<ViewReply, Memory>
         ensures reply { IfOk result (λ r. r ≡ view_by retained self.old.state (actor, view)) }
         ensures after { IfOk result (λ r. self.new.state ≡ after_view self.old.state (actor, view) target.now r) }
-        ensures told { self.new.state.shaded ≡ self.old.state.shaded }
-        ensures err { OnErr result (self.new ≡ self.old) }
-        ensures stays { Stays Sh.B.tells self.old self.new }
+        ensures memory { WantsMemory Sh.B.tells self.old result self.new }
     {
         let id = (actor, view);
         if self.views.contains_key(&id) {
@@ -178,6 +174,7 @@ fn bytes_at<H: NodeHash, Sh: Shelf>(
     h: &Hash32,
 ) -> Result<Option<Blob>, FetchFault>
     ensures found { IsTrue Sh.B.tells → IfOk result (λ b. b ≡ map.get (nodes_of store.old) h.now) }
+    ensures unread { IfErr result (λ e. e ≢ FetchFault.Foreign) }
     ensures read { WasRead Sh.B.tells H.half store.old store.new }
     ensures fault { IfErr result (λ e. e ≡ FetchFault.Fault → Rose store.old.faults store.new.faults) }
 {
@@ -194,12 +191,8 @@ fn fetched<H: NodeHash, S: NodeSource<H>>(
     source: &mut S,
     h: &Hash32,
 ) -> Result<Option<Arc<Node>>, FetchFault>
-    ensures hash { IfOk result (λ o. IfSome o (λ node. hash_of H.half (held node.value) ≡ h.now)) }
-    ensures exact { IsTrue S.tells → Gives H.half (map.get (S.stored source.old) h.now) result }
-    ensures same { IsTrue S.tells → S.stored source.new ≡ S.stored source.old }
-    ensures rest { S.rest source.new ≡ S.rest source.old }
-    ensures later { S.faults source.old ≤ S.faults source.new }
-    ensures fault { IfErr result (λ e. e ≡ FetchFault.Fault → Rose (S.faults source.old) (S.faults source.new)) }
+    ensures node { IsNodeOf H.half S.tells (map.get (S.stored source.old) h.now) h.now result }
+    ensures source { LeavesSource S.tells S.stored S.rest S.faults (RoseIf FetchFault.Fault) source.old source.new result }
 {
     source.fetch(alloc, h)
 }

@@ -64,7 +64,7 @@ returns-clause-counts g c = (
     arith,
     c.print_all-status.ensures.lists.opened,
     c.run_actors-core.ensures.same.opened,
-    c.in-Ok-open.ensures.counts.1,
+    c.in-Ok-open.ensures.opened.since,
   ),
   c.journal.ensures.kept.since,
 )
@@ -91,7 +91,7 @@ returns-in-Err-clause-opening g c = record {
   cause = rw c.not_opened.ensures.unopened
       (opened_by g.Sh.Shelf.faults (g.Sh.Shelf.faults c.args.shelf) c.not_opened.result.status c.in-Err.unopened
       c.not_opened.ensures.shelf c.not_opened.ensures.store c.not_opened.ensures.memory
-      (λ s e. c.open.ensures.shelf s (c.in-Err.is ∙ ap Err e)) (λ t e. c.open.ensures.store t (c.in-Err.is ∙ ap Err e)));
+      (λ s e. c.open.ensures.shelf s (c.in-Err.is ∙ ap Err e)) (λ t e. (c.open.ensures.store t (c.in-Err.is ∙ ap Err e)).rose));
   only = λ a b n. ap is_some c.not_opened.ensures.unopened;
 }
 

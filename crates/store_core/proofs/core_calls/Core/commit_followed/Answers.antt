@@ -9,11 +9,17 @@ returns-clause-does g c = record {
       (λ cause. ⊎_elim (λ rose. inl rose) (λ by. inr (handed_fault c.args.handed by.0, by.1)) cause)
       (c.advance.ensures.answered is);
   more = λ is. (c.advance.ensures.more is).1;
-  copies = λ told. c.advance.ensures.copies told refl;
-  slices = c.advance.ensures.slices;
-  asks = c.advance.ensures.asks refl;
-  unchanged = c.advance.ensures.unchanged;
+  short = record { copies = λ told. c.advance.ensures.copies told refl; asks = c.advance.ensures.asks refl };
 }
 
 pub returns-clause-takes : goal.returns-clause-takes
 returns-clause-takes g c asked = c.advance.ensures.takes c.args.handed refl asked
+
+pub returns-clause-comes : goal.returns-clause-comes
+returns-clause-comes g c = record {
+  blocked = c.advance.ensures.blocked;
+  finished = c.advance.ensures.finished;
+  unchanged = c.advance.ensures.unchanged;
+  slices = c.advance.ensures.slices;
+  few = c.advance.ensures.few;
+}

@@ -13,13 +13,19 @@ returns-clause-does g c = record {
       )) cause)
       (c.advance.ensures.answered is);
   more = λ is. (c.advance.ensures.more is).1;
-  copies = λ told. c.advance.ensures.copies told refl;
-  slices = c.advance.ensures.slices;
-  asks = c.advance.ensures.asks refl;
-  unchanged = c.advance.ensures.unchanged;
+  short = record { copies = λ told. c.advance.ensures.copies told refl; asks = c.advance.ensures.asks refl };
 }
 
 pub returns-clause-takes : goal.returns-clause-takes
 returns-clause-takes g c asked =
     judged_takes g.H.NodeHash.half c.args.job.now c.args.got _ c.judged-handed.result _ _ asked c.judged-handed.ensures
     c.advance.ensures.takes
+
+pub returns-clause-comes : goal.returns-clause-comes
+returns-clause-comes g c = record {
+  blocked = c.advance.ensures.blocked;
+  finished = c.advance.ensures.finished;
+  unchanged = c.advance.ensures.unchanged;
+  slices = c.advance.ensures.slices;
+  few = c.advance.ensures.few;
+}

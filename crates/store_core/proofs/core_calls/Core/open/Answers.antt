@@ -13,20 +13,27 @@ use Rattle.store_core.proofs.Entries.{over_open}
 use Rattle.store_core.proofs.core_calls.Core.open.Goals as goal
 
 -- the store holds the records, and nothing else
-pub returns-clause-state : goal.returns-clause-state
-returns-clause-state g c told =
-    let stored = c.in-Ok.ensures.stored told in
-    c.new-hall.ensures.state
-    ∙ over_open c.put_records.new.store c.args.interval (with_records map.empty c.args.script.records.items)
-    (stored.0 ∙ ap (with_records map.empty) c.deref.ensures.value) stored.1
-    (c.put_records.ensures.later.past.0 ∙ c.in_ok-store.ensures.state.0)
+pub returns-clause-opened : goal.returns-clause-opened
+returns-clause-opened g c = record {
+  counted = c.faults-opened.ensures ∙ sym c.new-hall.ensures.faults;
+  since = search (rules, common_steps);
+  state = λ told.
+      let stored = c.in-Ok.ensures.stored told in
+      c.new-hall.ensures.state
+      ∙ over_open c.put_records.new.store c.args.interval (with_records map.empty c.args.script.records.items)
+      (stored.0 ∙ ap (with_records map.empty) c.deref.ensures.value) stored.1
+      (c.put_records.ensures.later.past.0 ∙ c.in_ok-store.ensures.state.0);
+}
 
 -- the store that is handed back is the one that the records were put into
-pub returns-in-Err-Fault-clause-held : goal.returns-in-Err-Fault-clause-held
-returns-in-Err-Fault-clause-held g c told s same =
+pub returns-in-Err-Fault-clause-store : goal.returns-in-Err-Fault-clause-store
+returns-in-Err-Fault-clause-store g c s same =
     let stays : c.put_records.new.store ≡ s = cc in
-    subst (λ (rs : List Record). HoldsOf rs (nodes_of s)) c.deref.ensures.value
-    (subst (λ (x : Store). HoldsOf c.deref.result.now (nodes_of x)) stays (c.put_records.ensures.held told))
+    record {
+      rose = search (rules, common_steps);
+      held = λ told. subst (λ (rs : List Record). HoldsOf rs (nodes_of s)) c.deref.ensures.value
+          (subst (λ (x : Store). HoldsOf c.deref.result.now (nodes_of x)) stays (c.put_records.ensures.held told));
+    }
 
 -- each cursor stands before the first line
 at_start : (cursors : List ℕ) (a : ℕ) → cursors ≡ replicate 64 0 → a < 64 → slice_index cursors a ≡ 0
@@ -43,7 +50,7 @@ invariant_of-result g c = (
       c.requires.records (search (rules, common_steps)) (c.faults-opened.ensures ∙ sym c.new-hall.ensures.faults)
       (ap (λ (s : State). s.listed) c.new-hall.ensures.state) (ap (λ (s : State). s.turning) c.new-hall.ensures.state)
       (ap (λ (s : State). s.epoch) c.new-hall.ensures.state ∙ c.put_records.ensures.later.past.0 ∙ c.in_ok-store.ensures.state.0)
-      (λ told. returns-clause-state g c told),
+      (returns-clause-opened g c).state,
   keeps_new g.H.NodeHash.half g.Sh.B.Backend.tells c.new-hall.result.desk.state c.in-Ok-with_capacity.journal.items c.in-Ok-new.searches
       c.in-Ok-new.ensures.paired c.in-Ok-new.ensures.empty c.in-Ok-new.ensures.generation,
 )

@@ -16,8 +16,7 @@ invariant_of-self g c =
 pub returns : goal.returns
 returns g c =
     rw (← c.self.view_is) (record {
-      exact = c.form_at.ensures.exact;
-      own = c.form_at.ensures.own;
+      form = c.form_at.ensures.form;
       reads = reads_beside g.H.NodeHash.half g.Sh.B.Backend.tells c.self.inside.sessions _ c.form_at.new.self c.form_at.ensures.reads;
       fault = c.form_at.ensures.fault;
     })

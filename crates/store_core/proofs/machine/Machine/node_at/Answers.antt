@@ -16,8 +16,7 @@ invariant_of-self g c =
 pub returns : goal.returns
 returns g c =
     rw (← c.self.view_is) (record {
-      hash = c.node_at.ensures.hash;
-      exact = c.node_at.ensures.exact;
+      node = c.node_at.ensures.node;
       reads = reads_beside g.H.NodeHash.half g.Sh.B.Backend.tells c.self.inside.sessions _ c.node_at.new.self c.node_at.ensures.reads;
       fault = c.node_at.ensures.fault;
     })

@@ -1,5 +1,6 @@
 -- the rotator and the book begin, as the machine's row says
-use Rattle.std.proofs.Common.{sym, subst, ap, ◌∙◌, ◌++◌, length, arith}
+use Rattle.std.proofs.Common.{sym, subst, ap, ◌∙◌, ◌++◌, length, arith, rules}
+use Rattle.std.proofs.lemmas.Grind.{common_steps}
 use Rattle.std.specs.Map.{keys_of, values_of}
 use Rattle.ledger_machine.specs.Rotation.{begin_reply}
 use Rattle.store_core.specs.Desks.{Desk}
@@ -26,43 +27,37 @@ invariant_of-self-2 g c = (
       c.begin.ensures.step,
 )
 
-pub returns-clause-reply : goal.returns-clause-reply
-returns-clause-reply g c =
-    c.begin_told.ensures ∙ begin_said c.self.inside.store c.self.inside.wanted.entries c.self.inside.views.entries
-    c.self.inside.book c.self.inside.rotator c.in_ok-begun.begun c.self.invariant.1.step c.in_ok-begun.ensures.reply
-    ∙ ap (λ (d : Desk). begin_reply d.state) c.self.view_is
-
-pub returns-clause-after : goal.returns-clause-after
-returns-clause-after g c =
-    rw c.begin_told.ensures (rw (← c.self.view_is) (begin_after c.self.inside.store c.self.inside.wanted.entries
-    c.self.inside.views.entries c.self.inside.book c.self.inside.rotator _ c.begin.new.book c.begin.new.self
-    c.in_ok-begun.begun c.in_ok-begun.ensures.reply c.in_ok-begun.ensures.after))
-
-pub returns-clause-told : goal.returns-clause-told
-returns-clause-told g c =
-    rw c.begin_told.ensures (rw (← c.self.view_is) (begin_by c.self.inside.store c.self.inside.wanted.entries
-    c.self.inside.views.entries c.self.inside.book c.self.inside.rotator _ c.begin.new.book c.begin.new.self
-    c.args.bases.now c.in_ok-begun.begun c.self.invariant.1.pins
-    (c.deref.ensures.value ∙ c.in_ok-targets.ensures
-    ∙ sym (ap (λ (d : Desk). values_of d.state.views ++ keys_of d.state.wanted ++ c.args.bases.now) c.self.view_is))
-    c.in_ok-begun.ensures.after))
-
--- nothing is listed anew, and the store is as it was
-pub returns-clause-grows : goal.returns-clause-grows
-returns-clause-grows g c = record {
-  later = omega (arith, ap (λ (d : Desk). d.faults) c.self.view_is);
-  few = omega (
-    arith,
-    begin_few c.self.inside.store c.self.inside.wanted.entries c.self.inside.views.entries c.self.inside.book c.self.inside.rotator _
-        c.begin.new.book c.begin.new.self c.in_ok-begun.begun c.in_ok-begun.ensures.after,
-    ap (λ (d : Desk). length d.state.listed) c.self.view_is,
-  );
-  ages = omega (arith, ap (λ (d : Desk). d.state.epoch) c.self.view_is);
+pub returns : goal.returns
+returns g c = record {
+  reply =
+      c.begin_told.ensures ∙ begin_said c.self.inside.store c.self.inside.wanted.entries c.self.inside.views.entries
+      c.self.inside.book c.self.inside.rotator c.in_ok-begun.begun c.self.invariant.1.step c.in_ok-begun.ensures.reply
+      ∙ ap (λ (d : Desk). begin_reply d.state) c.self.view_is;
+  after =
+      rw c.begin_told.ensures (rw (← c.self.view_is) (begin_after c.self.inside.store c.self.inside.wanted.entries
+      c.self.inside.views.entries c.self.inside.book c.self.inside.rotator _ c.begin.new.book c.begin.new.self
+      c.in_ok-begun.begun c.in_ok-begun.ensures.reply c.in_ok-begun.ensures.after));
+  told =
+      rw c.begin_told.ensures (rw (← c.self.view_is) (begin_by c.self.inside.store c.self.inside.wanted.entries
+      c.self.inside.views.entries c.self.inside.book c.self.inside.rotator _ c.begin.new.book c.begin.new.self
+      c.args.bases.now c.in_ok-begun.begun c.self.invariant.1.pins
+      (c.deref.ensures.value ∙ c.in_ok-targets.ensures
+      ∙ sym (ap (λ (d : Desk). values_of d.state.views ++ keys_of d.state.wanted ++ c.args.bases.now) c.self.view_is))
+      c.in_ok-begun.ensures.after));
+  err = search (rules, common_steps);
+  grows = record {
+    later = omega (arith, ap (λ (d : Desk). d.faults) c.self.view_is);
+    few = omega (
+      arith,
+      begin_few c.self.inside.store c.self.inside.wanted.entries c.self.inside.views.entries c.self.inside.book c.self.inside.rotator _
+          c.begin.new.book c.begin.new.self c.in_ok-begun.begun c.in_ok-begun.ensures.after,
+      ap (λ (d : Desk). length d.state.listed) c.self.view_is,
+    );
+    ages = omega (arith, ap (λ (d : Desk). d.state.epoch) c.self.view_is);
+  };
+  slices =
+      rw c.begin_told.ensures (rw (← c.self.view_is) (begin_counts c.self.inside.store c.self.inside.wanted.entries
+      c.self.inside.views.entries c.self.inside.book c.self.inside.rotator _ c.begin.new.book c.begin.new.self
+      c.in_ok-begun.begun c.in_ok-begun.ensures.after));
+  copies = search (rules, common_steps);
 }
-
--- a rotation that begins has done no slice
-pub returns-clause-slices : goal.returns-clause-slices
-returns-clause-slices g c =
-    rw c.begin_told.ensures (rw (← c.self.view_is) (begin_counts c.self.inside.store c.self.inside.wanted.entries
-    c.self.inside.views.entries c.self.inside.book c.self.inside.rotator _ c.begin.new.book c.begin.new.self
-    c.in_ok-begun.begun c.in_ok-begun.ensures.after))

@@ -68,14 +68,14 @@ returns-in_err-settle-clause-kept g c =
 -- a reply lists one ledger at most, and the judgement takes no fault back
 pub returns-clause-grows : goal.returns-clause-grows
 returns-clause-grows g c = record {
-  later = omega (arith, c.judge.ensures.stays.later, c.settle.ensures.store.faults);
+  later = omega (arith, c.judge.ensures.memory.stays.later, c.settle.ensures.store.faults);
   few = omega (
     arith,
     settled_few c.judge.new.self.state c.args.target.now c.found_seq.result c.in_ok-reply.reply,
     ap (λ (x : State). length x.listed) c.in_ok-settle.ensures.ok,
     ap (λ (x : State). length x.listed) c.in_ok-reply.ensures.after,
   );
-  ages = omega (arith, c.settle.ensures.store.epoch, c.judge.ensures.stays.epoch);
+  ages = omega (arith, c.settle.ensures.store.epoch, c.judge.ensures.memory.stays.epoch);
 }
 
 -- the rotation was told of the ledger that is listed, which was open
@@ -84,7 +84,7 @@ returns-clause-tells g c =
     settled_tells c.args.self.now.state c.judge.new.self.state c.settle.new.self.state c.args.target.now c.found_seq.result
     c.in_ok-reply.reply
     (subst (λ (hs : List Hash). Hears hs (told_at c.args.target.now c.in_ok-reply.reply) c.settle.new.self.state.shaded)
-    c.judge.ensures.told c.settle.ensures.hears) c.in_ok-settle.ensures.ok
+    c.judge.ensures.memory.told c.settle.ensures.hears) c.in_ok-settle.ensures.ok
 
 pub returns-in_err-settle-clause-tells : goal.returns-in_err-settle-clause-tells
 returns-in_err-settle-clause-tells g c =
@@ -99,5 +99,5 @@ returns-in_err-settle-clause-tells g c =
     c.in_ok-reply.ensures.reply
     c.in_err-settle.ensures.err.0
     (subst (λ (hs : List Hash). Hears hs (told_at c.args.target.now c.in_ok-reply.reply) c.settle.new.self.state.shaded)
-    c.judge.ensures.told c.settle.ensures.hears)
+    c.judge.ensures.memory.told c.settle.ensures.hears)
     (subst (λ (x : State). IsAfter x c.settle.new.self.state) same c.in_err-settle.ensures.err.1)

@@ -16,8 +16,11 @@ returns g c =
     let exact = λ (told : IsTrue g.Sh.B.Backend.tells). subst (λ (n : Nodes). IfOk c.bytes_at.result (λ b. b ≡ finite.get n c.args.h.now))
     (sym is.nodes) (c.bytes_at.ensures.found told) in
     record {
-      exact = exact;
-      own = form_stands g.H.NodeHash.half g.Sh.B.Backend.tells d.state c.args.h.now c.bytes_at.result c.requires exact;
+      form = record {
+        exact = exact;
+        own = form_stands g.H.NodeHash.half g.Sh.B.Backend.tells d.state c.args.h.now c.bytes_at.result c.requires exact;
+        unread = c.bytes_at.ensures.unread;
+      };
       reads = only_reads _ _ _ _ c.self.inside.store c.bytes_at.new.store c.self.view_is refl is
           (ap (λ (x : Desk). x.faults) c.self.view_is) c.bytes_at.ensures.read;
       fault = search rules;

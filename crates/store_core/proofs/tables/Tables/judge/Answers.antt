@@ -1,5 +1,6 @@
 -- the acquisition that is lent is open, and a check leaves it so
-use Rattle.std.proofs.Common.{Option, Some, sym, ◌∙◌, ap, subst}
+use Rattle.std.proofs.Common.{Option, Some, sym, ◌∙◌, ap, subst, rules}
+use Rattle.std.proofs.lemmas.Grind.{common_steps}
 use Rattle.ledger_spec.specs.Maps.{ForHash, hash_cmp, get_in, set_in}
 use Rattle.ledger_spec.specs.Acquiring.{Acquiring, after_verdict}
 use Rattle.acquire_core.specs.Replies.{found_verdict}
@@ -19,10 +20,13 @@ invariant_of-self-in_err-check g c = (
 )
 
 -- the lent acquisition was given back as it was
-pub returns-in_err-check-clause-err : goal.returns-in_err-check-clause-err
-returns-in_err-check-clause-err g c =
-    on_err c.from_residual.result (same_desk _ _ c.self.view_is _ ((c.get_mut.follows.holds c.check.new.self).0
-    ∙ set_same _ _ _ (sym c.in-Some.ensures.value ∙ ap Some (sym c.in_err-check.ensures.err))))
+pub returns-in_err-check-clause-memory : goal.returns-in_err-check-clause-memory
+returns-in_err-check-clause-memory g c = record {
+  err = on_err c.from_residual.result (same_desk _ _ c.self.view_is _ ((c.get_mut.follows.holds c.check.new.self).0
+      ∙ set_same _ _ _ (sym c.in-Some.ensures.value ∙ ap Some (sym c.in_err-check.ensures.err))));
+  told = search (rules, common_steps);
+  stays = search (rules, common_steps);
+}
 
 -- a check changes at most the turns and what was asked
 pub invariant_of-self-2 : goal.invariant_of-self-2

@@ -1,5 +1,6 @@
 -- the acquisition that is lent is open, and stays so whatever it is charged
-use Rattle.std.proofs.Common.{◌≡◌, ◌∙◌, [], Some, Contains, refl, sym, ap, subst}
+use Rattle.std.proofs.Common.{◌≡◌, ◌∙◌, [], Some, Contains, refl, sym, ap, subst, rules}
+use Rattle.std.proofs.lemmas.Grind.{common_steps}
 use Rattle.online_rotate.specs.Rotators.{Turning}
 use Rattle.ledger_spec.specs.Maps.{ForHash, hash_cmp, get_in, set_in}
 use Rattle.ledger_spec.specs.Acquiring.{Acquiring}
@@ -60,73 +61,70 @@ invariant_of-self-2 g c =
           (each t (found_key wanted t a (sym c.in-Some.ensures.value)))) (c.self.invariant.1.walks told)),
     )
 
--- what the acquisition answers over the store is what the machine's row answers over the state
-pub returns-clause-does : goal.returns-clause-does
-returns-clause-does g c told actor =
-    let half = g.H.NodeHash.half in
-    let s : State = c.args.self.now.state in
-    let t = c.args.target.now in
-    let st : Store = c.self.inside.store in
-    let st' : Store = c.take_node-taken.new.store in
-    let a : Acquiring = c.in-Some.acquire.now in
-    let a' : Acquiring = c.take_node-taken.new.acquire in
-    let asks : Command = command.Node c.args.peer t c.args.kind c.args.id.now c.args.blob.now in
-    let after : State = record (over st' s) { wanted = set_in hash_cmp s.wanted t a' } in
-    let is : IsOver st s = rw (← c.self.view_is) (record { nodes = refl; born = refl; epoch = refl }) in
-    let at : get_in hash_cmp s.wanted t ≡ Some a = rw (← c.self.view_is) (sym c.in-Some.ensures.value) in
-    let own : a.target ≡ t = (found_open t c.self.inside.wanted.entries a c.self.invariant.0 (sym c.in-Some.ensures.value)).own in
-    let all : AreStored half (forms_in st) = filed_over half st s is (c.requires.may.filed told) in
-    let answers = same_blob half st st' a c.args.peer c.args.kind c.args.id.now c.take_node-taken.result c.args.blob.now _ c.bytes.ensures
-    (c.take_node-taken.ensures.answer told all) in
-    let does : Does half s actor asks (node_answer c.take_node-taken.result) [] after =
-    does_node half st st' s t c.args.peer a a' is at own c.args.kind c.args.id.now c.args.blob.now c.known_half.ensures
-    c.requires.may.in_range.2 actor c.take_node-taken.result c.take_node-taken.ensures.after answers in
-    let same = walked_state st' _ c.self.inside.views.entries c.self.inside.book c.self.inside.rotator c.take_node-taken.new.rotator
-    c.take_node-taken.ensures.rotator
-    ∙ taken_desk t _ _ c.self.view_is _ st' a' (c.get_mut.follows.holds c.take_node-taken.new.acquire).0 in
-    rw c.node_answer.ensures
-    (subst (λ (x : State). Does half s actor asks (node_answer c.take_node-taken.result) [] x) (sym same) does)
-
--- a refusal leaves it as it was
-pub returns-clause-refused : goal.returns-clause-refused
-returns-clause-refused g c is =
-    let s : State = c.args.self.now.state in
-    let t = c.args.target.now in
-    let st' : Store = c.take_node-taken.new.store in
-    let a : Acquiring = c.in-Some.acquire.now in
-    let a' : Acquiring = c.take_node-taken.new.acquire in
-    let at : get_in hash_cmp s.wanted t ≡ Some a = rw (← c.self.view_is) (sym c.in-Some.ensures.value) in
-    let epoch : st'.epoch ≡ s.epoch = rw (← c.self.view_is) c.take_node-taken.ensures.later.past.0 in
-    let same = walked_state st' _ c.self.inside.views.entries c.self.inside.book c.self.inside.rotator c.take_node-taken.new.rotator
-    c.take_node-taken.ensures.rotator
-    ∙ taken_desk t _ _ c.self.view_is _ st' a' (c.get_mut.follows.holds c.take_node-taken.new.acquire).0 in
-    subst (λ (x : State). KeepsRest s x) (sym same)
-    (node_rest st' s t c.args.peer a a' c.take_node-taken.result at c.take_node-taken.ensures.after epoch (rw c.node_answer.ensures at is))
-
--- the walk alone has gone on
-pub returns-clause-told : goal.returns-clause-told
-returns-clause-told g c =
-    ap (λ (x : Turning). x.shaded) c.take_node-taken.ensures.rotator ∙ ap (λ (d : Desk). d.state.shaded) c.self.view_is
-
--- nothing is listed, and what is written is new
-pub returns-clause-stays : goal.returns-clause-stays
-returns-clause-stays g c =
-    let half = g.H.NodeHash.half in
-    let t = c.args.target.now in
-    let wanted : ForHash Acquiring = c.self.inside.wanted.entries in
-    let a : Acquiring = c.in-Some.acquire.now in
-    rw (← c.self.view_is) (record {
-      later = c.take_node-taken.ensures.later.faults;
-      listed = refl;
-      epoch = c.take_node-taken.ensures.later.past.0;
-      slices = ap (λ (x : Turning). x.slices) c.take_node-taken.ensures.rotator;
-      copies = λ told. stored_backs half c.self.inside.store c.take_node-taken.new.store (
-          let st : Store = c.self.inside.store in
-          let is : IsOver st c.args.self.now.state = rw (← c.self.view_is) (record { nodes = refl; born = refl; epoch = refl }) in
-          answers_forms half (replies.node_given half (forms_in st) a.target a.peers c.args.peer c.args.kind c.args.id.now c.args.blob.now)
-          (replies.node_stored half (forms_in st) a.target a.peers c.args.peer c.args.kind c.args.id.now c.args.blob.now) st
-          c.take_node-taken.result c.take_node-taken.new.store
-          (same_blob half st c.take_node-taken.new.store a c.args.peer c.args.kind c.args.id.now c.take_node-taken.result c.args.blob.now _
-          c.bytes.ensures (c.take_node-taken.ensures.answer told (filed_over half st c.args.self.now.state is (c.requires.may.filed told))))
-          );
-    })
+pub returns : goal.returns
+returns g c = record {
+  -- what the acquisition answers over the store is what the machine's row answers over the state
+  does = λ told actor.
+      let half = g.H.NodeHash.half in
+      let s : State = c.args.self.now.state in
+      let t = c.args.target.now in
+      let st : Store = c.self.inside.store in
+      let st' : Store = c.take_node-taken.new.store in
+      let a : Acquiring = c.in-Some.acquire.now in
+      let a' : Acquiring = c.take_node-taken.new.acquire in
+      let asks : Command = command.Node c.args.peer t c.args.kind c.args.id.now c.args.blob.now in
+      let after : State = record (over st' s) { wanted = set_in hash_cmp s.wanted t a' } in
+      let is : IsOver st s = rw (← c.self.view_is) (record { nodes = refl; born = refl; epoch = refl }) in
+      let at : get_in hash_cmp s.wanted t ≡ Some a = rw (← c.self.view_is) (sym c.in-Some.ensures.value) in
+      let own : a.target ≡ t = (found_open t c.self.inside.wanted.entries a c.self.invariant.0 (sym c.in-Some.ensures.value)).own in
+      let all : AreStored half (forms_in st) = filed_over half st s is (c.requires.may.filed told) in
+      let answers = same_blob half st st' a c.args.peer c.args.kind c.args.id.now c.take_node-taken.result c.args.blob.now _ c.bytes.ensures
+      (c.take_node-taken.ensures.answer told all) in
+      let does : Does half s actor asks (node_answer c.take_node-taken.result) [] after =
+      does_node half st st' s t c.args.peer a a' is at own c.args.kind c.args.id.now c.args.blob.now c.known_half.ensures
+      c.requires.may.in_range.2 actor c.take_node-taken.result c.take_node-taken.ensures.after answers in
+      let same = walked_state st' _ c.self.inside.views.entries c.self.inside.book c.self.inside.rotator c.take_node-taken.new.rotator
+      c.take_node-taken.ensures.rotator
+      ∙ taken_desk t _ _ c.self.view_is _ st' a' (c.get_mut.follows.holds c.take_node-taken.new.acquire).0 in
+      rw c.node_answer.ensures
+      (subst (λ (x : State). Does half s actor asks (node_answer c.take_node-taken.result) [] x) (sym same) does);
+  -- a refusal leaves it as it was
+  refused = λ is.
+      let s : State = c.args.self.now.state in
+      let t = c.args.target.now in
+      let st' : Store = c.take_node-taken.new.store in
+      let a : Acquiring = c.in-Some.acquire.now in
+      let a' : Acquiring = c.take_node-taken.new.acquire in
+      let at : get_in hash_cmp s.wanted t ≡ Some a = rw (← c.self.view_is) (sym c.in-Some.ensures.value) in
+      let epoch : st'.epoch ≡ s.epoch = rw (← c.self.view_is) c.take_node-taken.ensures.later.past.0 in
+      let same = walked_state st' _ c.self.inside.views.entries c.self.inside.book c.self.inside.rotator c.take_node-taken.new.rotator
+      c.take_node-taken.ensures.rotator
+      ∙ taken_desk t _ _ c.self.view_is _ st' a' (c.get_mut.follows.holds c.take_node-taken.new.acquire).0 in
+      subst (λ (x : State). KeepsRest s x) (sym same)
+      (node_rest st' s t c.args.peer a a' c.take_node-taken.result at c.take_node-taken.ensures.after epoch (rw c.node_answer.ensures at is));
+  -- nothing is listed, and what is written is new
+  stays =
+      let half = g.H.NodeHash.half in
+      let t = c.args.target.now in
+      let wanted : ForHash Acquiring = c.self.inside.wanted.entries in
+      let a : Acquiring = c.in-Some.acquire.now in
+      rw (← c.self.view_is) (record {
+        later = c.take_node-taken.ensures.later.faults;
+        listed = refl;
+        epoch = c.take_node-taken.ensures.later.past.0;
+        slices = ap (λ (x : Turning). x.slices) c.take_node-taken.ensures.rotator;
+        copies = λ told. stored_backs half c.self.inside.store c.take_node-taken.new.store (
+            let st : Store = c.self.inside.store in
+            let is : IsOver st c.args.self.now.state = rw (← c.self.view_is) (record { nodes = refl; born = refl; epoch = refl }) in
+            answers_forms half (replies.node_given half (forms_in st) a.target a.peers c.args.peer c.args.kind c.args.id.now c.args.blob.now)
+            (replies.node_stored half (forms_in st) a.target a.peers c.args.peer c.args.kind c.args.id.now c.args.blob.now) st
+            c.take_node-taken.result c.take_node-taken.new.store
+            (same_blob half st c.take_node-taken.new.store a c.args.peer c.args.kind c.args.id.now c.take_node-taken.result c.args.blob.now _
+            c.bytes.ensures (c.take_node-taken.ensures.answer told (filed_over half st c.args.self.now.state is (c.requires.may.filed told))))
+            );
+      });
+  -- the walk alone has gone on
+  told =
+      ap (λ (x : Turning). x.shaded) c.take_node-taken.ensures.rotator ∙ ap (λ (d : Desk). d.state.shaded) c.self.view_is;
+  fault = search (rules, common_steps);
+}

@@ -20,14 +20,16 @@ new-filed-requires-clause-filed g c κs within =
 
 pub returns : goal.returns
 returns g c = record {
-  hash = search rules;
-  exact = λ told.
-      let is : IsOver c.self.inside.store c.args.self.now.state =
-      rw (← c.self.view_is) (record { nodes = refl; born = refl; epoch = refl }) in
-      let given : Gives g.H.NodeHash.half (finite.get (own_nodes g.H.NodeHash.half (nodes_of c.self.inside.store)) c.args.h.now)
-      c.fetched.result = rw (← c.new-filed.ensures.same) (c.fetched.ensures.exact told) in
-      subst (λ (n : Lookup). Gives g.H.NodeHash.half (n c.args.h.now) c.fetched.result)
-      (gives_all g.H.NodeHash.half c.self.inside.store c.args.self.now.state is (c.requires told)) given;
+  node = record {
+    hash = c.fetched.ensures.node.hash;
+    exact = λ told.
+        let is : IsOver c.self.inside.store c.args.self.now.state =
+        rw (← c.self.view_is) (record { nodes = refl; born = refl; epoch = refl }) in
+        let given : Gives g.H.NodeHash.half (finite.get (own_nodes g.H.NodeHash.half (nodes_of c.self.inside.store)) c.args.h.now)
+        c.fetched.result = rw (← c.new-filed.ensures.same) (c.fetched.ensures.node.exact told) in
+        subst (λ (n : Lookup). Gives g.H.NodeHash.half (n c.args.h.now) c.fetched.result)
+        (gives_all g.H.NodeHash.half c.self.inside.store c.args.self.now.state is (c.requires told)) given;
+  };
   reads = search rules;
   fault = search rules;
 }

@@ -1,5 +1,6 @@
 -- the acquisition that is lent is open, and stays so with one peer more
-use Rattle.std.proofs.Common.{Some, sym, ◌∙◌, ap, subst}
+use Rattle.std.proofs.Common.{Some, sym, ◌∙◌, ap, subst, rules}
+use Rattle.std.proofs.lemmas.Grind.{common_steps}
 use Rattle.store_core.specs.Wanting.{IsOpen, AreOpen}
 use Rattle.store_core.proofs.States.{set_same, same_desk, on_err}
 use Rattle.store_core.proofs.Opens.{set_open, found_open, joined_open}
@@ -15,10 +16,13 @@ invariant_of-self-in_err-reply g c = (
 )
 
 -- the lent acquisition was given back as it was
-pub returns-in_err-reply-clause-err : goal.returns-in_err-reply-clause-err
-returns-in_err-reply-clause-err g c =
-    on_err c.from_residual.result (same_desk _ _ c.self.view_is _ ((c.get_mut.follows.holds c.peer.new.self).0
-    ∙ set_same _ _ _ (sym c.in-Some.ensures.value ∙ ap Some (sym c.in_err-reply.ensures.err))))
+pub returns-in_err-reply-clause-memory : goal.returns-in_err-reply-clause-memory
+returns-in_err-reply-clause-memory g c = record {
+  err = on_err c.from_residual.result (same_desk _ _ c.self.view_is _ ((c.get_mut.follows.holds c.peer.new.self).0
+      ∙ set_same _ _ _ (sym c.in-Some.ensures.value ∙ ap Some (sym c.in_err-reply.ensures.err))));
+  told = search (rules, common_steps);
+  stays = search (rules, common_steps);
+}
 
 -- a peer more is no tick and changes no target
 pub invariant_of-self-2 : goal.invariant_of-self-2
