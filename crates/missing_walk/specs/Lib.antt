@@ -11,3 +11,7 @@ pub mod Begins
 pub mod Ends
 pub mod Passes
 pub mod Rests
+pub mod Leaving
+pub mod Sights
+pub mod Runs
+pub mod Answering

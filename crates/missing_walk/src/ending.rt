@@ -1,13 +1,15 @@
 //! The end of a search: what was found is answered, and where that is nothing the ledger's roots are marked as whole.
-ghost use Rattle.std.specs.Prelude.{◌≡◌, ◌≤◌, ◌&&◌, ◌==◌, not, true, None, Some, IfOk, OnOk, OnErr, is_some, length, map};
+ghost use Rattle.std.specs.Prelude.{◌≡◌, ◌≤◌, true, IfOk, OnOk, OnErr, length, map};
 ghost use Rattle.ledger_spec.specs.Bytes.{Half, Lookup};
 ghost use Rattle.full_below.specs.Marking.{AreMarked};
 ghost use Rattle.tree_cache.specs.declared.cache.TreeCache.{TreeCache as Cache};
-ghost use Rattle.missing_walk.specs.Sees.{Finds};
 ghost use Rattle.missing_walk.specs.Pending.{IsFull};
-ghost use Rattle.missing_walk.specs.Searching.{Kept, Going, SameSearch, place_of};
+ghost use Rattle.missing_walk.specs.Searching.{Going, SameSearch, place_of};
 ghost use Rattle.missing_walk.specs.Moves.{has_ended};
-ghost use Rattle.missing_walk.specs.Ends.{IsClean, AreRootsMarked, found_whole, MarksRoot, marks_of_roots, with_root};
+ghost use Rattle.missing_walk.specs.Ends.{found_whole, MarksRoot, marks_of_roots, with_root};
+ghost use Rattle.missing_walk.specs.Leaving.{SameRoom};
+ghost use Rattle.missing_walk.specs.Runs.{StaysWhole};
+ghost use Rattle.missing_walk.specs.Answering.{Concludes, KeepsGoing};
 
 use crate::Found;
 use crate::search::Search;
@@ -24,19 +26,10 @@ impl Search {
     pub(crate) fn finish(&mut self, alloc: Global, marks: &mut Marks) -> Result<Found, Memory>
         requires over { has_ended self.old ≡ true }
         requires few { length self.old.missing.items ≤ 256 }
-        ensures found { (half : Half) (nodes : Lookup) (cache : Cache) → Going half nodes self.old cache marks.old
-            → IfOk result (Finds half nodes self.old.target) }
-        ensures size { IfOk result (λ f. length f.missing ≤ 256) }
-        ensures header { IfOk result (λ f. f.header ≡ self.old.header) }
-        ensures roots { IfOk result (λ f. IsClean f → 2 ≤ marks.new.entries.cap → AreRootsMarked f.header marks.new) }
-        ensures kept { (half : Half) (nodes : Lookup) (cache : Cache) → Going half nodes self.old cache marks.old
-            → Kept half nodes self.new }
-        ensures marks { (half : Half) (nodes : Lookup) (cache : Cache) → Going half nodes self.old cache marks.old
-            → AreMarked (IsFull half nodes) marks.new }
-        ensures unbroken { self.new.broken ≡ None }
-        ensures same { SameSearch self.old self.new }
-        ensures generation { marks.new.generation ≡ marks.old.generation }
-        ensures room { marks.new.entries.cap ≡ marks.old.entries.cap }
+        ensures found { Concludes self.old marks.old marks.new result }
+        ensures going { KeepsGoing self.old self.new marks.old marks.new }
+        ensures stays { StaysWhole self.old self.new }
+        ensures room { SameRoom marks.old marks.new }
     {
         let found = self.conclude(alloc, marks);
         self.broken = None;
@@ -47,18 +40,10 @@ impl Search {
     fn conclude(&mut self, alloc: Global, marks: &mut Marks) -> Result<Found, Memory>
         requires over { has_ended self.old ≡ true }
         requires few { length self.old.missing.items ≤ 256 }
-        ensures found { (half : Half) (nodes : Lookup) (cache : Cache) → Going half nodes self.old cache marks.old
-            → IfOk result (Finds half nodes self.old.target) }
-        ensures size { IfOk result (λ f. length f.missing ≤ 256) }
-        ensures header { IfOk result (λ f. f.header ≡ self.old.header) }
-        ensures roots { IfOk result (λ f. IsClean f → 2 ≤ marks.new.entries.cap → AreRootsMarked f.header marks.new) }
-        ensures kept { (half : Half) (nodes : Lookup) (cache : Cache) → Going half nodes self.old cache marks.old
-            → Kept half nodes self.new }
-        ensures marks { (half : Half) (nodes : Lookup) (cache : Cache) → Going half nodes self.old cache marks.old
-            → AreMarked (IsFull half nodes) marks.new }
+        ensures found { Concludes self.old marks.old marks.new result }
+        ensures going { KeepsGoing self.old self.new marks.old marks.new }
         ensures same { SameSearch self.old self.new }
-        ensures generation { marks.new.generation ≡ marks.old.generation }
-        ensures room { marks.new.entries.cap ≡ marks.old.entries.cap }
+        ensures room { SameRoom marks.old marks.new }
     {
         settle(&mut self.opened, self.stack.len(), marks);
         self.mark_whole(marks)?;
@@ -71,8 +56,7 @@ impl Search {
         ensures marks { (half : Half) (nodes : Lookup) (cache : Cache) → Going half nodes self.now cache marks.old
             → has_ended self.now ≡ true
             → AreMarked (IsFull half nodes) marks.new }
-        ensures generation { marks.new.generation ≡ marks.old.generation }
-        ensures room { marks.new.entries.cap ≡ marks.old.entries.cap }
+        ensures room { SameRoom marks.old marks.new }
     {
         if !self.is_whole() {
             return Ok(());
@@ -91,8 +75,7 @@ impl Search {
     fn mark_roots(&self, marks: &mut Marks) -> Result<(), Memory>
         ensures ok { OnOk result (marks.new ≡ marks_of_roots self.now.header marks.old) }
         ensures err { OnErr result (MarksRoot self.now.header marks.old marks.new) }
-        ensures generation { marks.new.generation ≡ marks.old.generation }
-        ensures room { marks.new.entries.cap ≡ marks.old.entries.cap }
+        ensures room { SameRoom marks.old marks.new }
     {
         let Some(header) = &self.header else {
             return Ok(());
@@ -120,8 +103,7 @@ impl Search {
 fn mark_root(marks: &mut Marks, kind: Kind, hash: &Hash32) -> Result<(), Memory>
     ensures ok { OnOk result (marks.new ≡ with_root kind hash.now marks.old) }
     ensures err { OnErr result (marks.new ≡ marks.old) }
-    ensures generation { marks.new.generation ≡ marks.old.generation }
-    ensures room { marks.new.entries.cap ≡ marks.old.entries.cap }
+    ensures room { SameRoom marks.old marks.new }
 {
     if hash.is_zero() {
         return Ok(());

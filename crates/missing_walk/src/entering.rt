@@ -1,16 +1,13 @@
 //! The beginning of a search, at the ledger's header: the roots that it names are the first places to look at.
-ghost use Rattle.std.specs.Prelude.{◌≡◌, ◌+◌, ◌≤◌, true, None, Some, IfOk, IfErr, IfSome, OnOk, OnErr, is_some, length};
-ghost use Rattle.run_io.specs.Bytes.{Rose};
-ghost use Rattle.ledger_spec.specs.Bytes.{Lookup};
+ghost use Rattle.std.specs.Prelude.{◌≡◌, ◌+◌, None, IfOk, OnOk, OnErr};
 ghost use Rattle.ledger_spec.specs.Findings.{lacks, breaks};
-ghost use Rattle.rotating_store.specs.Reading.{WasRead};
-ghost use Rattle.missing_walk.specs.Sees.{Finds, shown, nothing_seen, noted};
+ghost use Rattle.missing_walk.specs.Sees.{shown, nothing_seen, noted};
 ghost use Rattle.missing_walk.specs.Founds.{IsFound};
-ghost use Rattle.missing_walk.specs.Views.{Tells};
 ghost use Rattle.missing_walk.specs.Ends.{IsClean};
 ghost use Rattle.missing_walk.specs.Stacks.{Pushes};
-ghost use Rattle.missing_walk.specs.Searching.{Kept};
 ghost use Rattle.missing_walk.specs.Begins.{Begins, root_place};
+ghost use Rattle.missing_walk.specs.Leaving.{Asks};
+ghost use Rattle.missing_walk.specs.Answering.{StaysUnbroken, FindsNoHeader, Enters};
 
 use crate::Found;
 use crate::search::Search;
@@ -31,21 +28,10 @@ impl Search {
         alloc: Global,
         store: &mut RotStore<Sh>,
     ) -> Result<Option<Found>, BackFault>
-        ensures found { (nodes : Lookup) → Tells Sh.B.tells H.half store.old nodes
-            → IfOk result (λ o. IfSome o (Finds H.half nodes self.old.target)) }
-        ensures known { IfOk result (λ o. IfSome o IsFound) }
-        ensures stays { is_some self.old.header ≡ true → self.new ≡ self.old }
-        ensures unbroken { self.old.broken ≡ None → self.new.broken ≡ None }
-        ensures unclean { IfOk result (λ o. IfSome o (λ f. IsClean f → ⊥)) }
-        ensures kept { (nodes : Lookup) → Tells Sh.B.tells H.half store.old nodes
-            → (is_some self.old.header ≡ true → Kept H.half nodes self.old) → is_some self.new.header ≡ true → Kept H.half nodes self.new }
-        ensures entered { IfOk result (λ o. o ≡ None → is_some self.new.header ≡ true) }
-        ensures begun { self.old.header ≡ None → IfOk result (λ o. o ≡ None → IfSome self.new.header (λ h. Begins h self.old self.new)) }
-        ensures target { self.new.target ≡ self.old.target }
-        ensures generation { self.new.generation ≡ self.old.generation }
-        ensures read { WasRead Sh.B.tells H.half store.old store.new }
-        ensures gets { store.new.gets ≤ store.old.gets + 2 }
-        ensures fault { IfErr result (λ e. e ≡ BackFault.Fault → Rose store.old.faults store.new.faults) }
+        ensures answers { FindsNoHeader Sh.B.tells H.half store.old self.old result }
+        ensures enters { Enters Sh.B.tells H.half store.old self.old self.new result }
+        ensures stays { StaysUnbroken self.old self.new }
+        ensures asks { Asks Sh.B.tells H.half BackFault.Fault (store.old.gets + 2) store.old store.new result }
     {
         if self.header.is_some() {
             return Ok(None);

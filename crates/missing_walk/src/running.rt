@@ -1,16 +1,16 @@
 //! The places of a search, one after the other: each is taken from the top of the stack and looked at, and the search goes on by what is
 //! seen there.
-ghost use Rattle.std.specs.Prelude.{◌≡◌, ◌+◌, ◌*◌, ◌<◌, ◌≤◌, ◌++◌, ◌∷◌, [], false, None, IfOk, IfErr, OnOk, IsOk, OnErr, ℕ, List, length};
+ghost use Rattle.std.specs.Prelude.{◌≡◌, ◌+◌, ◌*◌, ◌<◌, ◌≤◌, ◌++◌, ◌∷◌, [], false, None, IfOk, OnOk, IsOk, ℕ, List, length};
 ghost use Rattle.std.specs.Prelude.{vec_len};
-ghost use Rattle.run_io.specs.Bytes.{Rose};
 ghost use Rattle.ledger_spec.specs.Bytes.{Half, Lookup};
-ghost use Rattle.rotating_store.specs.Reading.{WasRead};
 ghost use Rattle.missing_walk.specs.Pending.{Pending, pending_of};
 ghost use Rattle.missing_walk.specs.Views.{Tells, Views, HasLevels};
-ghost use Rattle.missing_walk.specs.Searching.{Kept, Going, SameSearch, place_of as place_at};
+ghost use Rattle.missing_walk.specs.Searching.{Kept, Going, place_of as place_at};
 ghost use Rattle.missing_walk.specs.Passes.{IsNothing, IsIdle, Skips, PassesOne, PassesSome, AnswersTrue, StaysPut};
 ghost use Rattle.missing_walk.specs.Moves.{has_ended, Heeds};
-ghost use Rattle.missing_walk.specs.Rests.{weight, stored_weight, most_from, most_again, left_in, Weighs, Lighter};
+ghost use Rattle.missing_walk.specs.Rests.{left_in, Weighs, Lighter};
+ghost use Rattle.missing_walk.specs.Leaving.{LeavesUsed};
+ghost use Rattle.missing_walk.specs.Runs.{Lightens, NotesOne, RunsOn, StaysWhole};
 
 use crate::search::{MOST_MISSING, Search};
 use crate::sight::View;
@@ -33,8 +33,7 @@ impl Search {
         ensures loads { (f g : Pending → ℕ) → ((p : Pending) → f p ≤ g p + 1)
             → OnOk result (left_in f g self.new ≤ left_in f g self.old + length self.old.missing.items) }
         ensures none { OnOk result (self.new.missing.items ≡ []) }
-        ensures whole { self.new.broken ≡ None }
-        ensures same { SameSearch self.old self.new }
+        ensures stays { StaysWhole self.old self.new }
     {
         self.broken = None;
         if self.missing.is_empty() {
@@ -58,20 +57,11 @@ impl Search {
             → Going H.half nodes self.new cache.new marks.new }
         ensures passes { IsIdle self.old marks.old → length self.old.stack.items ≤ more
             → AnswersTrue result × (store.new.gets ≡ store.old.gets) }
-        ensures rests { (nodes : Lookup) → Tells Sh.B.tells H.half store.old nodes → Going H.half nodes self.old cache.old marks.old
-            → IfOk result (λ b. b ≡ false
-            → Lighter (weight H.half nodes) (stored_weight H.half nodes) (first + more) self.old self.new) }
-        ensures bounds { IfOk result (λ b. b ≡ false → Lighter most_from most_again (first + more) self.old self.new) }
-        ensures unbroken { self.old.broken ≡ None → OnErr result (self.new.broken ≡ None) }
-        ensures over { IfOk result (λ b. b ≡ has_ended self.new) }
-        ensures same { SameSearch self.old self.new }
-        ensures few { length self.old.missing.items ≤ 256 → length self.new.missing.items ≤ 256 }
-        ensures cache { cache.new.generation ≡ cache.old.generation }
-        ensures marks { marks.new.generation ≡ marks.old.generation }
-        ensures room { marks.new.entries.cap ≡ marks.old.entries.cap }
-        ensures read { WasRead Sh.B.tells H.half store.old store.new }
-        ensures gets { store.new.gets ≤ store.old.gets + 2 * (first + more) }
-        ensures fault { IfErr result (λ e. e ≡ BackFault.Fault → Rose store.old.faults store.new.faults) }
+        ensures lighter { Lightens Sh.B.tells H.half store.old (first + more) self.old self.new cache.old marks.old
+            (λ P. IfOk result (λ b. b ≡ false → P)) }
+        ensures runs { RunsOn self.old self.new result }
+        ensures leaves { LeavesUsed Sh.B.tells H.half BackFault.Fault (store.old.gets + 2 * (first + more))
+            store.old store.new cache.old cache.new marks.old marks.new result }
     {
         let over = self.run::<H, Sh>(alloc, store, cache, marks, first)?;
         if over {
@@ -100,19 +90,11 @@ impl Search {
             → Going H.half nodes self.new cache.new marks.new }
         ensures passes { IsIdle self.old marks.old → IsOk result × PassesSome self.old self.new marks.new store.old.gets store.new.gets }
         ensures all { IsIdle self.old marks.old → length self.old.stack.items ≤ most → AnswersTrue result }
-        ensures rests { (nodes : Lookup) → Tells Sh.B.tells H.half store.old nodes → Going H.half nodes self.old cache.old marks.old
-            → IfOk result (λ b. b ≡ false → Lighter (weight H.half nodes) (stored_weight H.half nodes) most self.old self.new) }
-        ensures bounds { IfOk result (λ b. b ≡ false → Lighter most_from most_again most self.old self.new) }
-        ensures unbroken { self.old.broken ≡ None → OnErr result (self.new.broken ≡ None) }
-        ensures over { IfOk result (λ b. b ≡ has_ended self.new) }
-        ensures same { SameSearch self.old self.new }
-        ensures few { length self.old.missing.items ≤ 256 → length self.new.missing.items ≤ 256 }
-        ensures cache { cache.new.generation ≡ cache.old.generation }
-        ensures marks { marks.new.generation ≡ marks.old.generation }
-        ensures room { marks.new.entries.cap ≡ marks.old.entries.cap }
-        ensures read { WasRead Sh.B.tells H.half store.old store.new }
-        ensures gets { store.new.gets ≤ store.old.gets + 2 * most }
-        ensures fault { IfErr result (λ e. e ≡ BackFault.Fault → Rose store.old.faults store.new.faults) }
+        ensures lighter { Lightens Sh.B.tells H.half store.old most self.old self.new cache.old marks.old
+            (λ P. IfOk result (λ b. b ≡ false → P)) }
+        ensures runs { RunsOn self.old self.new result }
+        ensures leaves { LeavesUsed Sh.B.tells H.half BackFault.Fault (store.old.gets + 2 * most)
+            store.old store.new cache.old cache.new marks.old marks.new result }
     {
         for _ in 0..most {
             if self.is_over() {
@@ -136,18 +118,10 @@ impl Search {
             → IsOk result × PassesOne self.old self.new marks.new × (store.new.gets ≡ store.old.gets) }
         ensures going { (nodes : Lookup) → Tells Sh.B.tells H.half store.old nodes → Going H.half nodes self.old cache.old marks.old
             → Going H.half nodes self.new cache.new marks.new }
-        ensures rests { (nodes : Lookup) → Tells Sh.B.tells H.half store.old nodes → Going H.half nodes self.old cache.old marks.old
-            → OnOk result (Lighter (weight H.half nodes) (stored_weight H.half nodes) 1 self.old self.new) }
-        ensures bounds { OnOk result (Lighter most_from most_again 1 self.old self.new) }
-        ensures unbroken { OnErr result (self.new.broken ≡ None) }
-        ensures same { SameSearch self.old self.new }
-        ensures few { length self.new.missing.items ≤ length self.old.missing.items + 1 }
-        ensures cache { cache.new.generation ≡ cache.old.generation }
-        ensures marks { marks.new.generation ≡ marks.old.generation }
-        ensures room { marks.new.entries.cap ≡ marks.old.entries.cap }
-        ensures read { WasRead Sh.B.tells H.half store.old store.new }
-        ensures gets { store.new.gets ≤ store.old.gets + 2 }
-        ensures fault { IfErr result (λ e. e ≡ BackFault.Fault → Rose store.old.faults store.new.faults) }
+        ensures lighter { Lightens Sh.B.tells H.half store.old 1 self.old self.new cache.old marks.old (λ P. OnOk result P) }
+        ensures notes { NotesOne None self.old self.new result }
+        ensures leaves { LeavesUsed Sh.B.tells H.half BackFault.Fault (store.old.gets + 2)
+            store.old store.new cache.old cache.new marks.old marks.new result }
     {
         settle(&mut self.opened, self.stack.len(), marks);
         let Some(top) = self.stack.last() else {
@@ -170,9 +144,7 @@ impl Search {
             → Views half nodes (pending_of top) view → Heeds half nodes self.old self.new }
         ensures lighter { (f g : Pending → ℕ) (rest : List Todo) (top : Todo) → self.old.stack.items ≡ rest ++ top ∷ []
             → Weighs f g (pending_of top) view → OnOk result (Lighter f g 1 self.old self.new) }
-        ensures unbroken { OnErr result (self.new.broken ≡ self.old.broken) }
-        ensures same { SameSearch self.old self.new }
-        ensures few { length self.new.missing.items ≤ length self.old.missing.items + 1 }
+        ensures notes { NotesOne self.old.broken self.old self.new result }
     {
         match view {
             View::Missing => {

@@ -1,12 +1,11 @@
 //! What is seen at one place: the node of the form that is held there, judged by the rules of shape.
-ghost use Rattle.std.specs.Prelude.{◌≡◌, ◌+◌, ◌≤◌, [], if◌then◌else◌, length, None, Some};
+ghost use Rattle.std.specs.Prelude.{◌≡◌, ◌+◌, [], if◌then◌else◌, length, None, Some};
 ghost use Rattle.std.specs.Option.{option_map};
-ghost use Rattle.std.specs.Prelude.{IsTrue, IfOk, IfErr};
+ghost use Rattle.std.specs.Prelude.{IfOk, IfErr};
 ghost use Rattle.std.specs.FinMap as map;
-ghost use Rattle.run_io.specs.Bytes.{Rose};
 ghost use Rattle.ledger_spec.specs.Own.{own_forms};
 ghost use Rattle.rotating_store.specs.Stores.{nodes_of};
-ghost use Rattle.rotating_store.specs.Reading.{WasRead, IsReadable};
+ghost use Rattle.rotating_store.specs.Reading.{IsReadable};
 ghost use Rattle.ledger_spec.specs.Bytes.{is_nonzero};
 ghost use Rattle.ledger_spec.specs.Forms.{leaf, leaf_of};
 ghost use Rattle.ledger_spec.specs.Rules.{fault_of};
@@ -15,6 +14,7 @@ ghost use Rattle.shamap_node.specs.Nodes.{held, held_leaf, hashes_above};
 ghost use Rattle.shamap_node.specs.declared.Node.TheVariants as nodes;
 ghost use Rattle.shamap_node.specs.Heads.{without_data};
 ghost use Rattle.missing_walk.specs.Views.{ShowsAs, HasLevels, is_inner_node};
+ghost use Rattle.missing_walk.specs.Leaving.{Asks};
 
 use half_hash::{Blob, Hash32, NodeHash};
 use ledger_header::Header;
@@ -49,9 +49,7 @@ pub(crate) fn look<H: NodeHash, Sh: Shelf>(
     ensures sight { IsReadable Sh.B.tells H.half store.old → IfOk result (λ v. ShowsAs v (sight_of H.half
         (λ n. fault_of n (hashes_above parent.entry) kind id.now) (own_forms H.half (map.get (nodes_of store.old)) hash.now))) }
     ensures levels { IfOk result (HasLevels (length id.now)) }
-    ensures read { WasRead Sh.B.tells H.half store.old store.new }
-    ensures few { store.new.gets ≤ store.old.gets + 2 }
-    ensures fault { IfErr result (λ e. e ≡ BackFault.Fault → Rose store.old.faults store.new.faults) }
+    ensures asks { Asks Sh.B.tells H.half BackFault.Fault (store.old.gets + 2) store.old store.new result }
 {
     match own_form::<H, Sh>(alloc, store, hash)? {
         Some(form) => Ok(judge::<H>(alloc, form.bytes(), kind, parent, id)?),

@@ -1,19 +1,14 @@
 //! What a search sees at a place: what is marked or cached is not asked of the store.
-ghost use Rattle.std.specs.Prelude.{◌≡◌, ◌+◌, ◌≤◌, true, false, None, Some, IfOk, IfErr, OnOk, OnErr, length};
-ghost use Rattle.run_io.specs.Bytes.{Rose};
-ghost use Rattle.ledger_spec.specs.Bytes.{Lookup, is_zero};
-ghost use Rattle.ledger_spec.specs.Findings.{seen_as, sound as sound_node};
-ghost use Rattle.ledger_spec.specs.Rules.{fault_of};
-ghost use Rattle.shamap_node.specs.Nodes.{held, hashes_above};
-ghost use Rattle.rotating_store.specs.Reading.{WasRead};
+ghost use Rattle.std.specs.Prelude.{◌≡◌, ◌+◌, IfOk, IfErr, OnOk, OnErr, length};
+ghost use Rattle.ledger_spec.specs.Bytes.{Lookup};
+ghost use Rattle.shamap_node.specs.Nodes.{hashes_above};
 ghost use Rattle.tree_laws.specs.Walks.{at_place};
-ghost use Rattle.full_below.specs.Marking.{AreMarked, is_marked};
-ghost use Rattle.missing_walk.specs.Passes.{SeesNothing, StillMarked};
-ghost use Rattle.tree_cache.specs.Caching.{AreCached, shown as shown_node, cached as cached_in, after_get};
-ghost use Rattle.missing_walk.specs.Pending.{above, branches_in, pending_of, IsFull, IsCachedTrue};
-ghost use Rattle.missing_walk.specs.Views.{Tells, Views, ShowsAs, KeepsMarks, KeepsCache, HasLevels, MayPut, is_inner_node};
-ghost use Rattle.missing_walk.specs.Rests.{weight, stored_weight, Weighs};
+ghost use Rattle.tree_cache.specs.Caching.{shown as shown_node, cached as cached_in, after_get};
+ghost use Rattle.missing_walk.specs.Pending.{above, branches_in};
+ghost use Rattle.missing_walk.specs.Views.{Tells, ShowsAs, KeepsMarks, HasLevels, MayPut};
 ghost use Rattle.shamap_node.specs.declared.Node.TheVariants as nodes;
+ghost use Rattle.missing_walk.specs.Leaving.{Asks, KeepsCached};
+ghost use Rattle.missing_walk.specs.Sights.{SeesAt, PassesMarked};
 
 use crate::sight::{View, judge_node, look};
 use crate::todo::Todo;
@@ -34,23 +29,11 @@ pub(crate) fn see<H: NodeHash, Sh: Shelf>(
     marks: &mut Marks,
     todo: &Todo,
 ) -> Result<View, BackFault>
-    ensures view { (nodes : Lookup) → Tells Sh.B.tells H.half store.old nodes → AreMarked (IsFull H.half nodes) marks.old
-        → AreCached (IsCachedTrue H.half nodes) cache.old → IfOk result (Views H.half nodes (pending_of todo.now)) }
-    ensures weighs { (nodes : Lookup) → Tells Sh.B.tells H.half store.old nodes → AreMarked (IsFull H.half nodes) marks.old
-        → AreCached (IsCachedTrue H.half nodes) cache.old → is_zero todo.now.at.hash ≡ false
-        → IfOk result (Weighs (weight H.half nodes) (stored_weight H.half nodes) (pending_of todo.now)) }
-    ensures levels { IfOk result (HasLevels (length todo.now.at.id)) }
-    ensures short { length todo.now.at.id ≤ 64 }
-    ensures cache { (nodes : Lookup) → Tells Sh.B.tells H.half store.old nodes
-        → KeepsCache (IsCachedTrue H.half nodes) cache.old cache.new }
+    ensures seen { SeesAt Sh.B.tells H.half store.old cache.old marks.old todo.now result }
+    ensures cached { KeepsCached Sh.B.tells H.half store.old cache.old cache.new }
     ensures marks { KeepsMarks marks.old marks.new }
-    ensures generation { cache.new.generation ≡ cache.old.generation }
-    ensures passes { is_marked marks.old todo.now.at ≡ true → SeesNothing result }
-    ensures still { is_marked marks.old todo.now.at ≡ true → StillMarked marks.old marks.new }
-    ensures idle { is_marked marks.old todo.now.at ≡ true → store.new.gets ≡ store.old.gets }
-    ensures read { WasRead Sh.B.tells H.half store.old store.new }
-    ensures few { store.new.gets ≤ store.old.gets + 2 }
-    ensures fault { IfErr result (λ e. e ≡ BackFault.Fault → Rose store.old.faults store.new.faults) }
+    ensures passes { PassesMarked store.old store.new marks.old marks.new todo.now result }
+    ensures asks { Asks Sh.B.tells H.half BackFault.Fault (store.old.gets + 2) store.old store.new result }
 {
     todo.at.id.known();
     // no place without a hash is put on the stack
@@ -109,12 +92,8 @@ fn fetch<H: NodeHash, Sh: Shelf>(
     ensures shows { (nodes : Lookup) → Tells Sh.B.tells H.half store.old nodes → IfOk result (λ v. ShowsAs v
         (at_place H.half nodes todo.now.at.kind (above todo.now.parent) todo.now.at.id todo.now.at.hash)) }
     ensures levels { IfOk result (HasLevels (length todo.now.at.id)) }
-    ensures cache { (nodes : Lookup) → Tells Sh.B.tells H.half store.old nodes
-        → KeepsCache (IsCachedTrue H.half nodes) cache.old cache.new }
-    ensures generation { cache.new.generation ≡ cache.old.generation }
-    ensures read { WasRead Sh.B.tells H.half store.old store.new }
-    ensures few { store.new.gets ≤ store.old.gets + 2 }
-    ensures fault { IfErr result (λ e. e ≡ BackFault.Fault → Rose store.old.faults store.new.faults) }
+    ensures cached { KeepsCached Sh.B.tells H.half store.old cache.old cache.new }
+    ensures asks { Asks Sh.B.tells H.half BackFault.Fault (store.old.gets + 2) store.old store.new result }
 {
     let parent = inner_above(&todo.parent);
     match look::<H, Sh>(

@@ -21,8 +21,8 @@ returns-in_err-found-clause-keeps g c nodes t all =
     let now = tells_after g.Sh.B.Backend.tells half c.args.store.now c.loop-search.store nodes c.loop-search.invariant.read t in
     true_beside half nodes c.args.self.now
     (record { cache = c.slice.new.cache; marks = c.slice.new.marks; hunts = c.loop-search.self.hunts }) c.slice.new.self all
-    (c.slice.ensures.rule nodes now (c.loop-search.invariant.rule nodes t all))
-    (c.slice.ensures.marks ∙ c.loop-search.invariant.generation) c.loop-search.invariant.hunts
+    (c.slice.ensures.keeps.rule nodes now (c.loop-search.invariant.rule nodes t all))
+    (c.slice.ensures.leaves.marks ∙ c.loop-search.invariant.generation) c.loop-search.invariant.hunts
 
 pub returns-in-Done-clause-keeps : goal.returns-in-Done-clause-keeps
 returns-in-Done-clause-keeps g c nodes t all =
@@ -30,8 +30,8 @@ returns-in-Done-clause-keeps g c nodes t all =
     let now = tells_after g.Sh.B.Backend.tells half c.args.store.now c.loop-search.store nodes c.loop-search.invariant.read t in
     true_beside half nodes c.args.self.now
     (record { cache = c.slice.new.cache; marks = c.slice.new.marks; hunts = c.loop-search.self.hunts }) c.slice.new.self all
-    (c.slice.ensures.rule nodes now (c.loop-search.invariant.rule nodes t all))
-    (c.slice.ensures.marks ∙ c.loop-search.invariant.generation) c.loop-search.invariant.hunts
+    (c.slice.ensures.keeps.rule nodes now (c.loop-search.invariant.rule nodes t all))
+    (c.slice.ensures.leaves.marks ∙ c.loop-search.invariant.generation) c.loop-search.invariant.hunts
 
 -- what the last slice found
 pub returns-in-Done-clause-found : goal.returns-in-Done-clause-found
@@ -40,23 +40,23 @@ returns-in-Done-clause-found g c nodes t all =
     let now = tells_after g.Sh.B.Backend.tells half c.args.store.now c.loop-search.store nodes c.loop-search.invariant.read t in
     subst (λ (h : Hash). Finds half nodes h c.in-Done.found) c.loop-search.invariant.target
     (subst (λ (s : Slice). OnDone s (Finds half nodes c.loop-search.search.target)) c.in-Done.is
-    (c.in_ok-found.ensures.done nodes now (c.loop-search.invariant.rule nodes t all)))
+    (c.in_ok-found.ensures.answers.done nodes now (c.loop-search.invariant.rule nodes t all)))
 
 -- and the roots that it marked are those of the stored header
 pub returns-in-Done-clause-roots : goal.returns-in-Done-clause-roots
 returns-in-Done-clause-roots g c nodes t all clean =
     let finds = returns-in-Done-clause-found g c nodes t all in
     let marked = subst (λ (s : Slice). OnDone s (λ f. IsClean f → 2 ≤ c.slice.new.marks.entries.cap
-    → AreRootsMarked f.header c.slice.new.marks)) c.in-Done.is c.in_ok-found.ensures.roots in
+    → AreRootsMarked f.header c.slice.new.marks)) c.in-Done.is c.in_ok-found.ensures.answers.roots in
     roots_marked nodes c.args.search.target c.slice.new.marks c.in-Done.found.header finds.header
-    (marked clean (omega (arith, c.slice.ensures.room, c.loop-search.invariant.paired.room)))
+    (marked clean (omega (arith, c.slice.ensures.leaves.room, c.loop-search.invariant.paired.room)))
 
 pub loop-search-preserved : goal.loop-search-preserved
 loop-search-preserved g c =
     let half = g.H.NodeHash.half in
     let k = c.loop-search.invariant in
     record {
-      rule = λ nodes t all. c.slice.ensures.rule nodes
+      rule = λ nodes t all. c.slice.ensures.keeps.rule nodes
           (tells_after g.Sh.B.Backend.tells half c.args.store.now c.loop-search.store nodes k.read t) (k.rule nodes t all);
       first = λ nodes t marked.
           let same = k.first nodes t marked in
@@ -67,16 +67,16 @@ loop-search-preserved g c =
           (tells_after g.Sh.B.Backend.tells half c.args.store.now c.loop-search.store nodes k.read t) new still (omega arith) in
           absurd (subst IsDone c.in-More.is ends.0);
       present = present_on c.loop-search.search.generation c.slice.new.self.generation c.loop-search.self.marks.generation
-          c.slice.new.marks.generation k.present c.slice.ensures.generation c.slice.ensures.marks;
-      target = c.slice.ensures.target ∙ k.target;
+          c.slice.new.marks.generation k.present c.slice.ensures.keeps.generation c.slice.ensures.leaves.marks;
+      target = c.slice.ensures.keeps.target ∙ k.target;
       few = few_left c.slice.new.self
-          (subst (λ (s : Slice). OnMore s (has_ended c.slice.new.self ≡ false)) c.in-More.is c.in_ok-found.ensures.more);
+          (subst (λ (s : Slice). OnMore s (has_ended c.slice.new.self ≡ false)) c.in-More.is c.in_ok-found.ensures.answers.more);
       paired = record {
-        one = c.slice.ensures.cache ∙ k.paired.one ∙ sym c.slice.ensures.marks;
-        room = c.slice.ensures.room ∙ k.paired.room;
+        one = c.slice.ensures.leaves.cache ∙ k.paired.one ∙ sym c.slice.ensures.leaves.marks;
+        room = c.slice.ensures.leaves.room ∙ k.paired.room;
         slots = k.paired.slots;
       };
       hunts = k.hunts;
-      generation = c.slice.ensures.marks ∙ k.generation;
-      read = read_then _ _ _ _ _ k.read c.slice.ensures.read;
+      generation = c.slice.ensures.leaves.marks ∙ k.generation;
+      read = read_then _ _ _ _ _ k.read c.slice.ensures.leaves.read;
     }

@@ -26,7 +26,7 @@ returns-in_err-found-clause-keeps g c nodes t all =
     true_beside half nodes c.take_up.new.self
     (record { cache = c.slice.new.cache; marks = c.slice.new.marks; hunts = c.take_up.new.self.hunts }) c.slice.new.self
     (true_forgot half nodes c.args.actor c.args.self.now c.take_up.new.self c.take_up.ensures.forgets all)
-    (c.slice.ensures.rule nodes t begun) c.slice.ensures.marks refl in
+    (c.slice.ensures.keeps.rule nodes t begun) c.slice.ensures.leaves.marks refl in
     left
 
 pub returns-in-Done-clause-keeps : goal.returns-in-Done-clause-keeps
@@ -39,7 +39,7 @@ returns-in-Done-clause-keeps g c nodes t all =
     true_beside half nodes c.take_up.new.self
     (record { cache = c.slice.new.cache; marks = c.slice.new.marks; hunts = c.take_up.new.self.hunts }) c.slice.new.self
     (true_forgot half nodes c.args.actor c.args.self.now c.take_up.new.self c.take_up.ensures.forgets all)
-    (c.slice.ensures.rule nodes t begun) c.slice.ensures.marks refl in
+    (c.slice.ensures.keeps.rule nodes t begun) c.slice.ensures.leaves.marks refl in
     left
 
 -- what the last slice found
@@ -54,7 +54,7 @@ returns-in-Done-clause-found g c nodes t all =
     (c.in_ok-hunt.hunt.of ∙ taken_target (hunt_of c.args.self.now.hunts.items c.args.actor) c.args.target.now c.in_ok-hunt.hunt
     c.in_ok-hunt.ensures.taken)
     (subst (λ (s : Slice). OnDone s (Finds half nodes c.in_ok-hunt.hunt.search.target)) c.in-Done.is
-    (c.in_ok-found.ensures.done nodes t begun)) in
+    (c.in_ok-found.ensures.answers.done nodes t begun)) in
     finds
 
 -- and the roots that it marked are those of the stored header
@@ -69,13 +69,13 @@ returns-in-Done-clause-roots g c nodes t all clean =
     (c.in_ok-hunt.hunt.of ∙ taken_target (hunt_of c.args.self.now.hunts.items c.args.actor) c.args.target.now c.in_ok-hunt.hunt
     c.in_ok-hunt.ensures.taken)
     (subst (λ (s : Slice). OnDone s (Finds half nodes c.in_ok-hunt.hunt.search.target)) c.in-Done.is
-    (c.in_ok-found.ensures.done nodes t begun)) in
+    (c.in_ok-found.ensures.answers.done nodes t begun)) in
     let marked = subst (λ (s : Slice). OnDone s (λ f. IsClean f → 2 ≤ c.slice.new.marks.entries.cap
-    → AreRootsMarked f.header c.slice.new.marks)) c.in-Done.is c.in_ok-found.ensures.roots in
+    → AreRootsMarked f.header c.slice.new.marks)) c.in-Done.is c.in_ok-found.ensures.answers.roots in
     roots_marked nodes c.args.target.now c.slice.new.marks c.in-Done.found.header finds.header
     (marked clean (omega (
       arith,
-      c.slice.ensures.room,
+      c.slice.ensures.leaves.room,
       ap (λ (m : Marks). m.entries.cap) c.take_up.ensures.forgets.marks,
       c.requires.paired.room,
     )))
@@ -91,10 +91,10 @@ returns-in-More-clause-keeps g c nodes t all =
     true_beside half nodes c.take_up.new.self
     (record { cache = c.slice.new.cache; marks = c.slice.new.marks; hunts = c.take_up.new.self.hunts }) c.slice.new.self
     (true_forgot half nodes c.args.actor c.args.self.now c.take_up.new.self c.take_up.ensures.forgets all)
-    (c.slice.ensures.rule nodes t begun) c.slice.ensures.marks refl in
+    (c.slice.ensures.keeps.rule nodes t begun) c.slice.ensures.leaves.marks refl in
     true_set half nodes c.args.actor _
     (record { cache = c.slice.new.cache; marks = c.slice.new.marks; hunts = c.take_up.new.self.hunts }) c.keep.new.self c.keep.ensures.hunts c.keep.ensures.marks c.keep.ensures.cache
-    (c.slice.ensures.rule nodes t begun) left
+    (c.slice.ensures.keeps.rule nodes t begun) left
 
 pub returns-in-More-clause-more : goal.returns-in-More-clause-more
 returns-in-More-clause-more g c nodes t all none =
@@ -108,10 +108,10 @@ returns-in-More-clause-more g c nodes t all none =
     c.take_up.ensures.forgets c.keep.ensures.hunts)
     refl (omega arith)
     (ap (λ (m : Marks). stale_in c.in_ok-hunt.hunt.search.generation m.generation) (sym c.take_up.ensures.forgets.marks)
-    ∙ subst (IsStale c.in_ok-hunt.hunt.search.generation c.take_up.new.self.marks.generation) c.in-More.is c.in_ok-found.ensures.stale)
+    ∙ subst (IsStale c.in_ok-hunt.hunt.search.generation c.take_up.new.self.marks.generation) c.in-More.is c.in_ok-found.ensures.keeps.stale)
     refl
     (subst (λ (s : Slice). OnMore s (rests.GoesOn half nodes 256 c.in_ok-hunt.hunt.search c.slice.new.self)) c.in-More.is
-    (c.in_ok-found.ensures.rest nodes t begun))
+    (c.in_ok-found.ensures.answers.rest nodes t begun))
 
 pub returns-in-More-clause-others : goal.returns-in-More-clause-others
 returns-in-More-clause-others g c =
@@ -157,8 +157,8 @@ returns-in_err-look-in-Stale-clause-keeps g c nodes t all =
     true_beside half nodes c.take_up.new.self
     (record { cache = c.slice.new.cache; marks = c.slice.new.marks; hunts = c.take_up.new.self.hunts }) c.slice.new.self
     (true_forgot half nodes c.args.actor c.args.self.now c.take_up.new.self c.take_up.ensures.forgets all)
-    (c.slice.ensures.rule nodes t begun) c.slice.ensures.marks refl in
-    let now = tells_after g.Sh.B.Backend.tells half c.args.store.now c.slice.new.store nodes c.slice.ensures.read t in
+    (c.slice.ensures.keeps.rule nodes t begun) c.slice.ensures.leaves.marks refl in
+    let now = tells_after g.Sh.B.Backend.tells half c.args.store.now c.slice.new.store nodes c.slice.ensures.leaves.read t in
     c.look-then-hunt-ge-MOST_STALES-2.ensures.keeps nodes now left
 
 pub returns-then-hunt-ge-MOST_STALES-2-clause-found : goal.returns-then-hunt-ge-MOST_STALES-2-clause-found
@@ -171,8 +171,8 @@ returns-then-hunt-ge-MOST_STALES-2-clause-found g c nodes t all =
     true_beside half nodes c.take_up.new.self
     (record { cache = c.slice.new.cache; marks = c.slice.new.marks; hunts = c.take_up.new.self.hunts }) c.slice.new.self
     (true_forgot half nodes c.args.actor c.args.self.now c.take_up.new.self c.take_up.ensures.forgets all)
-    (c.slice.ensures.rule nodes t begun) c.slice.ensures.marks refl in
-    let now = tells_after g.Sh.B.Backend.tells half c.args.store.now c.slice.new.store nodes c.slice.ensures.read t in
+    (c.slice.ensures.keeps.rule nodes t begun) c.slice.ensures.leaves.marks refl in
+    let now = tells_after g.Sh.B.Backend.tells half c.args.store.now c.slice.new.store nodes c.slice.ensures.leaves.read t in
     c.in_ok-look-in-Stale.ensures.found nodes now left
 
 pub returns-then-hunt-ge-MOST_STALES-2-clause-keeps : goal.returns-then-hunt-ge-MOST_STALES-2-clause-keeps
@@ -185,8 +185,8 @@ returns-then-hunt-ge-MOST_STALES-2-clause-keeps g c nodes t all =
     true_beside half nodes c.take_up.new.self
     (record { cache = c.slice.new.cache; marks = c.slice.new.marks; hunts = c.take_up.new.self.hunts }) c.slice.new.self
     (true_forgot half nodes c.args.actor c.args.self.now c.take_up.new.self c.take_up.ensures.forgets all)
-    (c.slice.ensures.rule nodes t begun) c.slice.ensures.marks refl in
-    let now = tells_after g.Sh.B.Backend.tells half c.args.store.now c.slice.new.store nodes c.slice.ensures.read t in
+    (c.slice.ensures.keeps.rule nodes t begun) c.slice.ensures.leaves.marks refl in
+    let now = tells_after g.Sh.B.Backend.tells half c.args.store.now c.slice.new.store nodes c.slice.ensures.leaves.read t in
     c.look-then-hunt-ge-MOST_STALES-2.ensures.keeps nodes now left
 
 pub returns-then-hunt-ge-MOST_STALES-2-clause-roots : goal.returns-then-hunt-ge-MOST_STALES-2-clause-roots
@@ -199,8 +199,8 @@ returns-then-hunt-ge-MOST_STALES-2-clause-roots g c nodes t all =
     true_beside half nodes c.take_up.new.self
     (record { cache = c.slice.new.cache; marks = c.slice.new.marks; hunts = c.take_up.new.self.hunts }) c.slice.new.self
     (true_forgot half nodes c.args.actor c.args.self.now c.take_up.new.self c.take_up.ensures.forgets all)
-    (c.slice.ensures.rule nodes t begun) c.slice.ensures.marks refl in
-    let now = tells_after g.Sh.B.Backend.tells half c.args.store.now c.slice.new.store nodes c.slice.ensures.read t in
+    (c.slice.ensures.keeps.rule nodes t begun) c.slice.ensures.leaves.marks refl in
+    let now = tells_after g.Sh.B.Backend.tells half c.args.store.now c.slice.new.store nodes c.slice.ensures.leaves.read t in
     c.in_ok-look-in-Stale.ensures.roots nodes now left
 
 -- and one that begins anew is kept
@@ -214,10 +214,10 @@ returns-else-hunt-ge-MOST_STALES-2-clause-keeps g c nodes t all =
     true_beside half nodes c.take_up.new.self
     (record { cache = c.slice.new.cache; marks = c.slice.new.marks; hunts = c.take_up.new.self.hunts }) c.slice.new.self
     (true_forgot half nodes c.args.actor c.args.self.now c.take_up.new.self c.take_up.ensures.forgets all)
-    (c.slice.ensures.rule nodes t begun) c.slice.ensures.marks refl in
+    (c.slice.ensures.keeps.rule nodes t begun) c.slice.ensures.leaves.marks refl in
     true_set half nodes c.args.actor _
     (record { cache = c.slice.new.cache; marks = c.slice.new.marks; hunts = c.take_up.new.self.hunts }) c.keep-in-Stale.new.self c.keep-in-Stale.ensures.hunts
-    c.keep-in-Stale.ensures.marks c.keep-in-Stale.ensures.cache (c.slice.ensures.rule nodes t begun) left
+    c.keep-in-Stale.ensures.marks c.keep-in-Stale.ensures.cache (c.slice.ensures.keeps.rule nodes t begun) left
 
 pub returns-else-hunt-ge-MOST_STALES-2-clause-more : goal.returns-else-hunt-ge-MOST_STALES-2-clause-more
 returns-else-hunt-ge-MOST_STALES-2-clause-more g c nodes t all none =
@@ -229,7 +229,7 @@ returns-else-hunt-ge-MOST_STALES-2-clause-more g c nodes t all none =
     refl (omega arith) c.in-Stale.seen
     (ap (λ (m : Marks). stale_in c.in_ok-hunt.hunt.search.generation m.generation) (sym c.take_up.ensures.forgets.marks)
     ∙ (subst (IsStale c.in_ok-hunt.hunt.search.generation c.take_up.new.self.marks.generation) c.in-Stale.is
-    c.in_ok-found.ensures.stale).0)
+    c.in_ok-found.ensures.keeps.stale).0)
     refl
 
 pub returns-else-hunt-ge-MOST_STALES-2-clause-others : goal.returns-else-hunt-ge-MOST_STALES-2-clause-others
