@@ -1,6 +1,6 @@
 -- What a change does to a list of nodes and to what a link stands for.
 use Rattle.std.specs.Prelude.{◌≡◌, ◌≢◌, ℕ, suc, ◌<◌, ◌≤◌, Bool, true, false, ◌⊎◌, IsTrue, IsSome, IfSome, MatchOption, Option, None, Some}
-use Rattle.std.specs.Prelude.{IfOk, OnErr, Result}
+use Rattle.std.specs.Prelude.{◌-◌, IfErr, IfOk, OnErr, OnOk, Result}
 use Rattle.std.specs.Prelude.{List, [], ◌∷◌, ◌++◌, length}
 use Rattle.std.specs.List.{flat_map, slice_index_or}
 use Rattle.nib_path.specs.Paths.{lies_under}
@@ -16,11 +16,40 @@ use Rattle.cow_map.specs.declared.link.Only.{Only}
 use Rattle.cow_map.specs.declared.link.Only.TheVariants as only
 use Rattle.cow_map.specs.Bodies.{Body, CowTree, IsBelow}
 use Rattle.cow_map.specs.Trees.{Found, none, one, fork, lacks, breaks, found_at, StandsAt, StandsFor}
-use Rattle.cow_map.specs.Ways.{stop_here}
+use Rattle.cow_map.specs.Ways.{Stop, Goes, IsFailure, stop_here, stop_left}
+use Rattle.cow_map.specs.Unloaded.{KeepsReach}
 
 -- at most so many nodes are new, and those that were there are as they were
 abbrev pub GrowsBy : ℕ → List Body → List Body → Type 0
 GrowsBy most before after = (more : List Body) × (after ≡ before ++ more) × (length more ≤ most)
+
+-- at most so many nodes are new, and those that were there are as they were; what is answered leads to a node of the list or to none
+pub record MakesNodes {X E : Type 0} (most : ℕ) (LeadsWithin : ℕ → X → Type 0) (before after : List Body) (result : Result X E)
+    : Type 0 where
+  pub grows : GrowsBy most before after
+  pub below : IfOk result (LeadsWithin (length after))
+
+-- the link leads to a node of the list or to none, and its place lies on the way to the key
+pub record IsOnWay (nodes : List Body) (path : List ℕ) (link : Link) (key : Hash) : Type 0 where
+  pub below : IsBelow (length nodes) link
+  pub under : IsTrue (lies_under path key)
+
+-- both keys lie under the place
+pub record AreUnder (path : List ℕ) (old_key key : Hash) : Type 0 where
+  pub old_under : IsTrue (lies_under path old_key)
+  pub under : IsTrue (lies_under path key)
+
+-- they are two branches of an inner node at the place
+pub record AreTwoBranches (path : List ℕ) (a b : ℕ) : Type 0 where
+  pub inner : length path < 64
+  pub old_branch : a < 16
+  pub branch : b < 16
+  pub differ : a ≢ b
+
+-- an inner node with these links may stand at the place, which isn't at the bottom
+pub record MayStand (nodes : List Body) (path : List ℕ) (links : List Link) : Type 0 where
+  pub inner : length path < 64
+  pub below : (b : ℕ) → IsBelow (length nodes) (slice_index_or links b Empty)
 
 -- all that the smaller source holds is held by the other
 abbrev pub IsSub : Lookup → Lookup → Type 0
@@ -95,6 +124,32 @@ Leaves there lone path key (one own bytes) left =
 Leaves there lone path key (fork links) left = IfSome left (λ l. (0 < length path → l ≢ Empty) × (stop_here path (there l) ≡ None))
 Leaves there lone path key (lacks h) left = ⊥
 Leaves there lone path key (breaks fault) left = ⊥
+
+-- the removal below a place: what the link there stood for has nothing at the key, or the next link stands for it without the key; and what
+-- the link leaves in its place
+pub record TakesKey (tells : Bool) (half : Half) (stored : Lookup) (kind : Kind) (before after : List Body) (lone : Bool) (path : List ℕ)
+    (link : Link) (key : Hash) (result : Result (Option Link) MapFault) : Type 0 where
+  pub removes : IsTrue tells → IfOk result (Removes half stored kind before after (64 - length path) path link key)
+  pub leaves : IsTrue tells → IfOk result
+      (let there = found_at half stored kind in Leaves (there after path) lone path key (there before path link))
+
+-- what stands in the place of an inner node with these links: what they hold between them, and something sound; a look at the only one that
+-- is left goes all the way, or what stops it is named; and nothing stands there only where no link leads anywhere
+pub record StandsIn (tells : Bool) (half : Half) (stored : Lookup) (kind : Kind) (before after : List Body) (path : List ℕ)
+    (links : List Link) (result : Result Link MapFault) : Type 0 where
+  pub stands : IsTrue tells → IfOk result (Settles half stored kind before after (63 - length path) path links)
+  pub way : IsTrue tells → Goes (stop_left (found_at half stored kind before) path links) result
+  pub sound : IsTrue tells → IfOk result (λ link. stop_here path (found_at half stored kind after path link) ≡ None)
+  pub some : IfOk result (λ link. link ≡ Empty → (c : ℕ) → slice_index_or links c Empty ≡ Empty)
+
+-- an edit over a source that tells what it holds. Where the old map stood for something, what the new one leaves to the source the old one
+-- did, or it is reached from that. What the source lacks, or what breaks a rule of shape, is named exactly where it is what stops the edit
+-- on its way. Where the map stands for something, only a failure of the source or want of memory comes.
+pub record EditsMap {X : Type 0} (tells : Bool) (half : Half) (stored : Lookup) (old new : CowTree) (stop : Option Stop)
+    (result : Result X MapFault) : Type 0 where
+  pub reach : IsTrue tells → OnOk result (KeepsReach half stored old new)
+  pub way : IsTrue tells → Goes stop result
+  pub free : IsTrue tells → (items : Items) → StandsFor half stored old items → IfErr result IsFailure
 
 -- whatever finite map the old map stood for, over the source or a smaller one, the new map stands for it with the item set; so it needs
 -- nothing of the source that the old one didn't

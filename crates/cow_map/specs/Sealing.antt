@@ -2,17 +2,19 @@
 use Rattle.std.specs.Prelude.{◌≡◌, ℕ, ◌<◌, take, List, [], ◌∷◌, ◌++◌, map, Option, None, Some, Result, Ok, Err}
 use Rattle.std.specs.List.{All, find, flat_map, slice_index_or}
 use Rattle.ledger_spec.specs.declared.Kind.{Kind}
-use Rattle.ledger_spec.specs.Bytes.{Bytes, Hash, Half, Lookup, is_zero}
-use Rattle.ledger_spec.specs.Tree.{Entry}
+use Rattle.ledger_spec.specs.Bytes.{Bytes, Hash, Half, Items, Lookup, is_zero}
+use Rattle.ledger_spec.specs.Commits.{AreOwn}
+use Rattle.ledger_spec.specs.Tree.{Entry, root_of, forms_of}
 use Rattle.ledger_spec.specs.Forms.{inner_prefix}
 use Rattle.cow_map.specs.declared.fault.MapFault.{MapFault}
 use Rattle.cow_map.specs.declared.fault.MapFault.TheVariants as causes
 use Rattle.cow_map.specs.declared.link.Link.{Link}
 use Rattle.cow_map.specs.declared.link.Link.TheVariants.{Empty}
 use Rattle.cow_map.specs.declared.seal.FormOf.{FormOf}
+use Rattle.cow_map.specs.declared.seal.Sealed.{Sealed}
 use Rattle.cow_map.specs.Bodies.{Body, CowTree}
-use Rattle.cow_map.specs.Trees.{StandsAt}
-use Rattle.cow_map.specs.Seals.{hash_at, made_by, made_below}
+use Rattle.cow_map.specs.Trees.{StandsAt, StandsFor}
+use Rattle.cow_map.specs.Seals.{hash_at, made_by, made_below, Picks}
 
 -- a form with its hash
 abbrev pub named : Half → Bytes → FormOf
@@ -84,6 +86,17 @@ pub record SealsFront (half : Half) (kind : Kind) (nodes : List Body) (links : L
 -- the forms of the nodes that a map's top reaches and that were made here
 abbrev pub made_of_map : Half → CowTree → List Bytes
 made_of_map half m = made_at half m.kind m.nodes 64 m.top
+
+-- what a seal tells of a map. Where the map stands for a finite map over forms under their own hashes, the root is that map's. The forms
+-- are those that the nodes of the list make which the top reaches; in the order of all forms of that map, these are at least those that
+-- the source lacks; and each is given with its own hash, whatever the map stands for.
+pub record IsSealOf (half : Half) (m : CowTree) (s : Sealed) : Type 0 where
+  pub root : (stored : Lookup) (items : Items) → AreOwn half stored → StandsFor half stored m items → s.root ≡ root_of half m.kind items
+  pub forms : (stored : Lookup) (items : Items) → StandsFor half stored m items
+      → s.forms.items ≡ map (named half) (made_of_map half m)
+  pub tree : (stored : Lookup) (items : Items) → AreOwn half stored → StandsFor half stored m items
+      → Picks half stored (made_of_map half m) (forms_of half m.kind items)
+  pub named : AreNamed half s.forms.items
 
 -- the fault names the first form whose hash is zero, and an answer says that there is none
 abbrev pub NamesZero : {X : Type 0} → Option Bytes → Result X MapFault → Type 0

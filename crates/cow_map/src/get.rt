@@ -1,12 +1,10 @@
 //! `get`: down from the top link to the leaf of a key, and its data.
 ghost use Rattle.std.specs.Prelude.{◌≡◌, ◌-◌, ◌∷◌, [], length, IsTrue, IfOk, IfErr};
 ghost use Rattle.std.specs.FinMap as map;
-ghost use Rattle.nib_path.specs.Paths.{lies_under};
 ghost use Rattle.ledger_spec.specs.Maps.{hash_cmp, get_in};
 ghost use Rattle.path_proof.specs.Sources.{LeavesSource};
-ghost use Rattle.cow_map.specs.Bodies.{IsBelow};
 ghost use Rattle.cow_map.specs.Ways.{stop_at, Goes, IsSourceFault, stop_of, IsFailure};
-ghost use Rattle.cow_map.specs.Edits.{Gets};
+ghost use Rattle.cow_map.specs.Edits.{Gets, IsOnWay};
 ghost use Rattle.ledger_spec.specs.Bytes.{Items};
 ghost use Rattle.cow_map.specs.Trees.{StandsFor};
 
@@ -65,8 +63,7 @@ fn get_at<H: NodeHash, S: NodeSource<H>>(
     link: &Link,
     key: &Hash32,
 ) -> Result<Option<Blob>, MapFault>
-    requires below { IsBelow (length arena.now) link.now }
-    requires under { IsTrue (lies_under id.now key.now) }
+    requires { IsOnWay arena.now id.now link.now key.now }
     ensures gets { IsTrue S.tells → IfOk result
         (Gets H.half (map.get (S.stored source.old)) kind arena.now (64 - length id.now) id.now link.now key.now) }
     ensures way { IsTrue S.tells →

@@ -1,18 +1,17 @@
 //! `put`: the nodes on the way to a key are made anew. Where another leaf stands on the way, inner nodes are put above both down to where
 //! their keys part.
-ghost use Rattle.std.specs.Prelude.{◌≢◌, ◌≤◌, ◌<◌, ◌-◌, ◌∷◌, ◌++◌, [], List, length, IsTrue, IfOk, ◌≡◌, IfErr, OnErr, OnOk};
+ghost use Rattle.std.specs.Prelude.{◌≢◌, ◌≤◌, ◌<◌, ◌-◌, ◌∷◌, ◌++◌, [], List, length, IsTrue, IfOk, ◌≡◌, OnErr, OnOk};
 ghost use Rattle.std.specs.FinMap as map;
 ghost use Rattle.nib_path.specs.Paths.{lies_under};
 ghost use Rattle.ledger_spec.specs.declared.Kind.{Kind as KindOf};
-ghost use Rattle.ledger_spec.specs.Bytes.{Bytes, Hash, Half, Lookup, Items};
+ghost use Rattle.ledger_spec.specs.Bytes.{Bytes, Hash, Half, Lookup};
 ghost use Rattle.ledger_spec.specs.Maps.{hash_cmp, insert_in};
 ghost use Rattle.ledger_spec.specs.Tree.{Entry};
 ghost use Rattle.path_proof.specs.Sources.{LeavesSource};
 ghost use Rattle.cow_map.specs.Bodies.{IsBelow};
-ghost use Rattle.cow_map.specs.Trees.{fewest, StandsAt, StandsFor};
-ghost use Rattle.cow_map.specs.Ways.{stop_at, Goes, IsSourceFault, stop_of, IsFailure};
-ghost use Rattle.cow_map.specs.Edits.{GrowsBy, Sets, LeadsTo, MapGrowsBy, SetsItem};
-ghost use Rattle.cow_map.specs.Unloaded.{KeepsReach};
+ghost use Rattle.cow_map.specs.Trees.{fewest, StandsAt};
+ghost use Rattle.cow_map.specs.Ways.{stop_at, Goes, IsSourceFault, stop_of};
+ghost use Rattle.cow_map.specs.Edits.{AreTwoBranches, AreUnder, EditsMap, IsOnWay, LeadsTo, MakesNodes, MapGrowsBy, Sets, SetsItem};
 
 use crate::arena::Arena;
 use crate::look::{Seen, look};
@@ -38,18 +37,12 @@ impl CowMap {
         ensures stands { IsTrue S.tells →
             OnOk result (SetsItem H.half (map.get (S.stored source.old)) self.old self.new item.key item.value) }
 
-        // where the old map stood for something, what the new one leaves to the source the old one did, or it is reached from that
-        ensures reach { IsTrue S.tells → OnOk result (KeepsReach H.half (map.get (S.stored source.old)) self.old self.new) }
-
         // at most 65 nodes are new, and those that were there are as they were
         ensures grows { MapGrowsBy 65 self.old self.new }
 
-        // what the source lacks, or what breaks a rule of shape, is named exactly where it is the first such on the way
-        ensures way { IsTrue S.tells → Goes (stop_of H.half (map.get (S.stored source.old)) self.old item.key) result }
-
-        // where the map stands for something, only a failure of the source or want of memory comes
-        ensures free { IsTrue S.tells → (items : Items) →
-            StandsFor H.half (map.get (S.stored source.old)) self.old items → IfErr result IsFailure }
+        // it needs nothing of the source that wasn't needed before, and what stops it is the first such on the way
+        ensures edits { let stored = map.get (S.stored source.old) in
+            EditsMap S.tells H.half stored self.old self.new (stop_of H.half stored self.old item.key) result }
         ensures err { OnErr result (self.new ≡ self.old) }
         ensures source { LeavesSource S.tells S.stored S.rest S.faults IsSourceFault source.old source.new result }
     {
@@ -91,10 +84,8 @@ fn put_at<H: NodeHash, S: NodeSource<H>>(
     link: &Link,
     item: Item,
 ) -> Result<Link, MapFault>
-    requires below { IsBelow (length arena.old) link.now }
-    requires under { IsTrue (lies_under id.now item.key) }
-    ensures grows { GrowsBy (65 - length id.now) arena.old arena.new }
-    ensures below { IfOk result (IsBelow (length arena.new)) }
+    requires { IsOnWay arena.old id.now link.now item.key }
+    ensures made { MakesNodes (65 - length id.now) IsBelow arena.old arena.new result }
     ensures sets { IsTrue S.tells → IfOk result (λ next.
         let left = 64 - length id.now in
         Sets H.half (map.get (S.stored source.old)) kind arena.old arena.new left id.now link.now next item.key item.value) }
@@ -128,8 +119,7 @@ fn put_at<H: NodeHash, S: NodeSource<H>>(
 // A leaf of the item, at a place where nothing stands; the root is an inner node above it.
 fn plant(alloc: Global, arena: &mut Arena, id: &NodeId, item: Item) -> Result<Link, Memory>
     requires { IsTrue (lies_under id.now item.key) }
-    ensures grows { GrowsBy (65 - length id.now) arena.old arena.new }
-    ensures below { IfOk result (IsBelow (length arena.new)) }
+    ensures made { MakesNodes (65 - length id.now) IsBelow arena.old arena.new result }
     ensures stands { IfOk result (λ next. (half : Half) (stored : Lookup) (kind : KindOf) →
         StandsAt half stored kind arena.new (64 - length id.now) id.now next ((item.key, item.value) ∷ [])) }
 {
@@ -152,11 +142,9 @@ fn beside(
     item: Item,
 ) -> Result<Link, Memory>
     requires below { IsBelow (length arena.old) old.now }
-    requires old_under { IsTrue (lies_under id.now old_key.now) }
-    requires under { IsTrue (lies_under id.now item.key) }
+    requires keys { AreUnder id.now old_key.now item.key }
     requires placed { 0 < length id.now }
-    ensures grows { GrowsBy (65 - length id.now) arena.old arena.new }
-    ensures below { IfOk result (IsBelow (length arena.new)) }
+    ensures made { MakesNodes (65 - length id.now) IsBelow arena.old arena.new result }
     ensures stands { IfOk result (λ next. (half : Half) (stored : Lookup) (kind : KindOf) (bytes : Bytes) →
         LeadsTo half stored kind arena.old old.now old_key.now bytes →
         let items = insert_in hash_cmp ((old_key.now, bytes) ∷ []) item.key item.value in
@@ -180,11 +168,9 @@ fn split(
     item: Item,
 ) -> Result<Link, Memory>
     requires below { IsBelow (length arena.old) old.now }
-    requires old_under { IsTrue (lies_under id.now old_key.now) }
-    requires under { IsTrue (lies_under id.now item.key) }
+    requires keys { AreUnder id.now old_key.now item.key }
     requires differ { old_key.now ≢ item.key }
-    ensures grows { GrowsBy (65 - length id.now) arena.old arena.new }
-    ensures below { IfOk result (IsBelow (length arena.new)) }
+    ensures made { MakesNodes (65 - length id.now) IsBelow arena.old arena.new result }
     ensures stands { IfOk result (λ next. (half : Half) (stored : Lookup) (kind : KindOf) (bytes : Bytes) →
         LeadsTo half stored kind arena.old old.now old_key.now bytes →
         let items = insert_in hash_cmp ((old_key.now, bytes) ∷ []) item.key item.value in
@@ -205,8 +191,7 @@ fn above(alloc: Global, arena: &mut Arena, id: &NodeId, b: u8, next: &Link) -> R
     requires below { IsBelow (length arena.old) next.now }
     requires inner { length id.now < 64 }
     requires branch { b < 16 }
-    ensures grows { GrowsBy 1 arena.old arena.new }
-    ensures below { IfOk result (IsBelow (length arena.new)) }
+    ensures made { MakesNodes 1 IsBelow arena.old arena.new result }
     ensures stands { IfOk result (λ link. (half : Half) (stored : Lookup) (kind : KindOf) (items : List Entry) →
         fewest id.now ≤ length items →
         StandsAt half stored kind arena.old (64 - length (id.now ++ b ∷ [])) (id.now ++ b ∷ []) next.now items →
@@ -228,13 +213,9 @@ fn fork(
     item: Item,
 ) -> Result<Link, Memory>
     requires below { IsBelow (length arena.old) old.now }
-    requires inner { length id.now < 64 }
-    requires old_branch { a < 16 }
-    requires branch { b < 16 }
-    requires differ { a ≢ b }
+    requires branches { AreTwoBranches id.now a b }
     requires under { IsTrue (lies_under (id.now ++ b ∷ []) item.key) }
-    ensures grows { GrowsBy 2 arena.old arena.new }
-    ensures below { IfOk result (IsBelow (length arena.new)) }
+    ensures made { MakesNodes 2 IsBelow arena.old arena.new result }
     ensures stands { IfOk result (λ next. (half : Half) (stored : Lookup) (kind : KindOf) (key : Hash) (bytes : Bytes) →
         item.key ≢ key → IsTrue (lies_under (id.now ++ a ∷ []) key) → LeadsTo half stored kind arena.old old.now key bytes →
         let items = insert_in hash_cmp ((key, bytes) ∷ []) item.key item.value in

@@ -1,19 +1,16 @@
 //! `remove`: the nodes on the way to a key are made anew without its leaf. An inner node that is left with one leaf alone gives way to it,
 //! and one that is left with nothing goes.
-ghost use Rattle.std.specs.Prelude.{◌≡◌, ◌≢◌, ◌<◌, ◌-◌, ℕ, length, IsTrue, IfOk, None, MatchOption, IfErr, OnOk};
+ghost use Rattle.std.specs.Prelude.{◌≡◌, ◌≢◌, ◌<◌, ◌-◌, ℕ, length, IsTrue, IfOk, MatchOption};
 ghost use Rattle.std.specs.List.{slice_index_or};
 ghost use Rattle.std.specs.FinMap as map;
-ghost use Rattle.nib_path.specs.Paths.{lies_under};
 ghost use Rattle.path_proof.specs.Sources.{LeavesSource};
 ghost use Rattle.cow_map.specs.declared.link.Link.TheVariants.{Empty as empty_link};
 ghost use Rattle.cow_map.specs.Bodies.{IsBelow};
-ghost use Rattle.cow_map.specs.Edits.{Counts, GrowsBy, Removes, Leaves, Settles, IsBelowIf, IsLeaf, MapGrowsBy, RemovesKey};
-ghost use Rattle.cow_map.specs.Edits.{StaysUnlessThere};
+ghost use Rattle.cow_map.specs.Edits.{Counts, EditsMap, IsBelowIf, IsLeaf, IsOnWay, MakesNodes, MapGrowsBy, MayStand, RemovesKey};
+ghost use Rattle.cow_map.specs.Edits.{StandsIn, StaysUnlessThere, TakesKey};
 ghost use Rattle.cow_map.specs.declared.link.Only.TheVariants as only;
-ghost use Rattle.cow_map.specs.Trees.{found_at, StandsFor};
-ghost use Rattle.cow_map.specs.Ways.{removal_stop_at, stop_here, stop_left, Goes, IsSourceFault, removal_stop_of, IsFailure};
-ghost use Rattle.ledger_spec.specs.Bytes.{Items};
-ghost use Rattle.cow_map.specs.Unloaded.{KeepsReach};
+ghost use Rattle.cow_map.specs.Trees.{found_at};
+ghost use Rattle.cow_map.specs.Ways.{removal_stop_at, stop_here, Goes, IsSourceFault, removal_stop_of};
 
 use crate::arena::Arena;
 use crate::link::Only;
@@ -38,19 +35,13 @@ impl CowMap {
         // what the map stood for over what the source holds, it stands for without the key
         ensures stands { IsTrue S.tells → IfOk result (RemovesKey H.half (map.get (S.stored source.old)) self.old self.new key.now) }
 
-        // where the old map stood for something, what the new one leaves to the source the old one did, or it is reached from that
-        ensures reach { IsTrue S.tells → OnOk result (KeepsReach H.half (map.get (S.stored source.old)) self.old self.new) }
-
         // at most 64 nodes are new, and those that were there are as they were
         ensures grows { MapGrowsBy 64 self.old self.new }
 
-        // what the source lacks, or what breaks a rule of shape, is named exactly where it is the first such on the way, or else
-        // stands beside the key's leaf as the only other branch of an inner node below the root
-        ensures way { IsTrue S.tells → Goes (removal_stop_of H.half (map.get (S.stored source.old)) self.old key.now) result }
-
-        // where the map stands for something, only a failure of the source or want of memory comes
-        ensures free { IsTrue S.tells → (items : Items) →
-            StandsFor H.half (map.get (S.stored source.old)) self.old items → IfErr result IsFailure }
+        // it needs nothing of the source that wasn't needed before, and what stops it is the first such on the way, or else stands
+        // beside the key's leaf as the only other branch of an inner node below the root
+        ensures edits { let stored = map.get (S.stored source.old) in
+            EditsMap S.tells H.half stored self.old self.new (removal_stop_of H.half stored self.old key.now) result }
 
         // a map without the key stays as it is, its nodes too
         ensures stays { StaysUnlessThere self.old self.new result }
@@ -98,18 +89,13 @@ fn remove_at<H: NodeHash, S: NodeSource<H>>(
     link: &Link,
     key: &Hash32,
 ) -> Result<Option<Link>, MapFault>
-    requires below { IsBelow (length arena.old) link.now }
-    requires under { IsTrue (lies_under id.now key.now) }
-    ensures grows { GrowsBy (64 - length id.now) arena.old arena.new }
-    ensures below { IfOk result (IsBelowIf (length arena.new)) }
-    ensures removes { IsTrue S.tells → IfOk result
-        (Removes H.half (map.get (S.stored source.old)) kind arena.old arena.new (64 - length id.now) id.now link.now key.now) }
+    requires { IsOnWay arena.old id.now link.now key.now }
+    ensures made { MakesNodes (64 - length id.now) IsBelowIf arena.old arena.new result }
+    ensures takes { let stored = map.get (S.stored source.old) in
+        TakesKey S.tells H.half stored kind arena.old arena.new lone id.now link.now key.now result }
     ensures way { IsTrue S.tells →
         let left = 64 - length id.now in
         Goes (removal_stop_at H.half (map.get (S.stored source.old)) kind arena.old left lone id.now link.now key.now) result }
-    ensures leaves { IsTrue S.tells → IfOk result
-        (let there = found_at H.half (map.get (S.stored source.old)) kind in
-        Leaves (there arena.new id.now) lone id.now key.now (there arena.old id.now link.now)) }
     ensures source { LeavesSource S.tells S.stored S.rest S.faults IsSourceFault source.old source.new result }
 {
     id.known();
@@ -165,14 +151,9 @@ pub(crate) fn settle<H: NodeHash, S: NodeSource<H>>(
 ) -> Result<Link, MapFault>
     requires inner { length id.now < 64 }
     requires below { (b : ℕ) → IsBelow (length arena.old) (slice_index_or links b empty_link) }
-    ensures grows { GrowsBy 1 arena.old arena.new }
-    ensures below { IfOk result (IsBelow (length arena.new)) }
-    ensures stands { IsTrue S.tells → IfOk result
-        (Settles H.half (map.get (S.stored source.old)) kind arena.old arena.new (63 - length id.now) id.now links) }
-    ensures way { IsTrue S.tells → Goes (stop_left (found_at H.half (map.get (S.stored source.old)) kind arena.old) id.now links) result }
-    ensures sound { IsTrue S.tells → IfOk result (λ link.
-        stop_here id.now (found_at H.half (map.get (S.stored source.old)) kind arena.new id.now link) ≡ None) }
-    ensures some { IfOk result (λ link. link ≡ empty_link → (c : ℕ) → slice_index_or links c empty_link ≡ empty_link) }
+    ensures made { MakesNodes 1 IsBelow arena.old arena.new result }
+    ensures stands { let stored = map.get (S.stored source.old) in
+        StandsIn S.tells H.half stored kind arena.old arena.new id.now links result }
     ensures source { LeavesSource S.tells S.stored S.rest S.faults IsSourceFault source.old source.new result }
 {
     arena.known();
@@ -194,17 +175,11 @@ fn one_left<H: NodeHash, S: NodeSource<H>>(
     links: Links,
     b: u8,
 ) -> Result<Link, MapFault>
-    requires inner { length id.now < 64 }
-    requires below { (b : ℕ) → IsBelow (length arena.old) (slice_index_or links b empty_link) }
+    requires node { MayStand arena.old id.now links }
     requires only { Counts links (only.One b) }
-    ensures grows { GrowsBy 1 arena.old arena.new }
-    ensures below { IfOk result (IsBelow (length arena.new)) }
-    ensures stands { IsTrue S.tells → IfOk result
-        (Settles H.half (map.get (S.stored source.old)) kind arena.old arena.new (63 - length id.now) id.now links) }
-    ensures way { IsTrue S.tells → Goes (stop_left (found_at H.half (map.get (S.stored source.old)) kind arena.old) id.now links) result }
-    ensures sound { IsTrue S.tells → IfOk result (λ link.
-        stop_here id.now (found_at H.half (map.get (S.stored source.old)) kind arena.new id.now link) ≡ None) }
-    ensures some { IfOk result (λ link. link ≡ empty_link → (c : ℕ) → slice_index_or links c empty_link ≡ empty_link) }
+    ensures made { MakesNodes 1 IsBelow arena.old arena.new result }
+    ensures stands { let stored = map.get (S.stored source.old) in
+        StandsIn S.tells H.half stored kind arena.old arena.new id.now links result }
     ensures source { LeavesSource S.tells S.stored S.rest S.faults IsSourceFault source.old source.new result }
 {
     arena.known();

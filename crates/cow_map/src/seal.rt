@@ -1,13 +1,10 @@
 //! Sealing: a map's root hash, and the forms of those of its own nodes that the top reaches, each with its hash.
-ghost use Rattle.std.specs.Prelude.{◌≡◌, ◌<◌, length, IfErr, IfOk, Some, map as list_map};
+ghost use Rattle.std.specs.Prelude.{◌≡◌, ◌<◌, length, IfErr, IfOk, Some};
 ghost use Rattle.std.specs.List.{slice_get};
 ghost use Rattle.cow_map.specs.Bodies.{inner as inner_body, IsBelow};
-ghost use Rattle.cow_map.specs.Sealing.{Seals, SealsForm, Adds, AreNamed, IsSealFault, named, first_zero, made_of_map, NamesZero};
+ghost use Rattle.cow_map.specs.Sealing.{Seals, SealsForm, Adds, AreNamed, IsSealFault, IsSealOf, first_zero, made_of_map, NamesZero};
 ghost use Rattle.ledger_spec.specs.Bytes.{Items, Lookup};
-ghost use Rattle.ledger_spec.specs.Commits.{AreOwn};
 ghost use Rattle.cow_map.specs.Trees.{StandsFor};
-ghost use Rattle.ledger_spec.specs.Tree.{root_of, forms_of};
-ghost use Rattle.cow_map.specs.Seals.{Picks};
 
 use crate::arena::Arena;
 use crate::map::CowMap;
@@ -35,21 +32,7 @@ impl CowMap {
     /// The root hash, and the forms of the nodes that this map has made and that its top reaches, each
     /// once, branches rising and kids before their parent.
     pub fn seal<H: NodeHash>(&self, alloc: Global) -> Result<Sealed, MapFault>
-        // where the map stands for a finite map over forms under their own hashes, the root is that map's
-        ensures root { IfOk result (λ s. (stored : Lookup) (items : Items) → AreOwn H.half stored →
-            StandsFor H.half stored self.now items → s.root ≡ root_of H.half self.now.kind items) }
-
-        // the forms are those that the nodes of the list make which the top reaches
-        ensures forms { IfOk result (λ s. (stored : Lookup) (items : Items) →
-            StandsFor H.half stored self.now items → s.forms.items ≡ list_map (named H.half) (made_of_map H.half self.now)) }
-
-        // in the order of all forms of that map, these are at least those that the source lacks
-        ensures tree { IfOk result (λ s. (stored : Lookup) (items : Items) → AreOwn H.half stored →
-            StandsFor H.half stored self.now items →
-            Picks H.half stored (made_of_map H.half self.now) (forms_of H.half self.now.kind items)) }
-
-        // each is given with its own hash, whatever the map stands for
-        ensures named { IfOk result (λ s. AreNamed H.half s.forms.items) }
+        ensures seals { IfOk result (IsSealOf H.half self.now) }
 
         // a form that is made here and has the zero hash is named, the first in that order
         ensures zero { (stored : Lookup) (items : Items) → StandsFor H.half stored self.now items →

@@ -1,10 +1,9 @@
 //! The nodes of a map whose items are given in the order of their keys. Each node is made once: a list of items in order has those below a
 //! place side by side, so that they are taken from its end, branch by branch from the last one on.
-ghost use Rattle.std.specs.Prelude.{◌≡◌, ◌<◌, ◌-◌, ◌++◌, ◌∷◌, [], ℕ, length, take, IsTrue, IfOk};
+ghost use Rattle.std.specs.Prelude.{◌≡◌, ◌<◌, ◌-◌, ◌++◌, ◌∷◌, [], ℕ, length, take, IsTrue};
 ghost use Rattle.ledger_spec.specs.Maps.{hash_cmp, IsMap};
-ghost use Rattle.cow_map.specs.Bodies.{IsBelow};
 ghost use Rattle.cow_map.specs.Gathered.{entries_of};
-ghost use Rattle.cow_map.specs.Taking.{ends_under as end_lies_under, EndUnder, Grows, Gathers};
+ghost use Rattle.cow_map.specs.Taking.{ends_under as end_lies_under, EndUnder, TakesEnd};
 ghost use Rattle.cow_map.specs.Trees.{fewest};
 
 use crate::arena::Arena;
@@ -27,9 +26,7 @@ pub(crate) fn inner_of(
     requires inner { length id.now < 64 }
     requires rising { IsMap hash_cmp (entries_of rest.old.items) }
     requires enough { EndUnder (fewest id.now) id.now rest.old.items }
-    ensures grows { IfOk result (λ _. Grows arena.old arena.new) }
-    ensures below { IfOk result (IsBelow (length arena.new)) }
-    ensures gathers { IfOk result (Gathers id.now rest.old.items rest.new.items arena.new) }
+    ensures { TakesEnd id.now rest.old.items rest.new.items arena.old arena.new result }
 {
     let mut links = Links::none(alloc)?;
     let mut b = 16;
@@ -55,9 +52,7 @@ fn link_of(
 ) -> Result<Link, Memory>
     requires placed { 0 < length id.now }
     requires rising { IsMap hash_cmp (entries_of rest.old.items) }
-    ensures grows { IfOk result (λ _. Grows arena.old arena.new) }
-    ensures below { IfOk result (IsBelow (length arena.new)) }
-    ensures gathers { IfOk result (Gathers id.now rest.old.items rest.new.items arena.new) }
+    ensures { TakesEnd id.now rest.old.items rest.new.items arena.old arena.new result }
 {
     if !ends_under(rest, id) {
         return Ok(Link::Empty);

@@ -9,4 +9,4 @@ pub returns-in-Ok-clause-stands : goal.returns-in-Ok-clause-stands
 returns-in-Ok-clause-stands c =
     subst (λ p. SettlesAt sha512_half nothing_held c.args.kind c.args.nodes.now c.settle.new.arena (63 - length p) p c.args.links
     c.in-Ok.top) c.root-root.ensures
-    (c.in-Ok.ensures.stands refl nothing_held (nothing_sub _))
+    (c.in-Ok.ensures.stands.stands refl nothing_held (nothing_sub _))

@@ -19,5 +19,5 @@ returns-clause-stands t c =
 pub returns-then-a-b-clause-stands : goal.returns-then-a-b-clause-stands
 returns-then-a-b-clause-stands t c =
     ok_map c.fork.result _ _ c.fork.ensures.stands (λ link done half stored kind bytes leads.
-    done half stored kind c.args.old_key.now bytes (λ same. c.requires.differ (sym same)) (c.toward-a.ensures.under c.requires.old_under)
-    leads)
+    done half stored kind c.args.old_key.now bytes (λ same. c.requires.differ (sym same))
+    (c.toward-a.ensures.under c.requires.keys.old_under) leads)

@@ -13,4 +13,4 @@ returns-then-equals-clause-stands c =
     subst (λ (es : List Entry). StandsAt half stored kind c.push_leaf.new.self (64 - length c.args.id.now) c.args.id.now link es)
     (sym (same_entry c.args.item.key c.args.old_key.now bytes c.args.item.value (c.if-equals.ensures ∙ c.key.ensures)))
     (leaf_done half stored kind c.args.arena.now c.push_leaf.new.self (64 - length c.args.id.now) c.args.id.now link c.args.item.key
-    c.args.item.value ok.0 ok.1 c.args.item.valid c.requires.placed c.requires.under))
+    c.args.item.value ok.0 ok.1 c.args.item.valid c.requires.placed c.requires.keys.under))

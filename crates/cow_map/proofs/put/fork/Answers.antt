@@ -35,5 +35,6 @@ returns-clause-stands c =
     (c.with-links.ensures
     ∙ ap (λ ls. slice_set ls c.args.b c.in_ok-leaf.leaf)
     (c.with.ensures ∙ ap (λ ls. slice_set ls c.args.a c.args.old.now) c.in_ok-none.ensures))
-    c.known.ensures c.requires.below c.requires.inner c.requires.old_branch c.requires.branch c.requires.differ under c.requires.under
+    c.known.ensures c.requires.below c.requires.branches.inner c.requires.branches.old_branch c.requires.branches.branch
+    c.requires.branches.differ under c.requires.under
     apart leads c.args.item.valid)

@@ -1,4 +1,4 @@
-use Rattle.std.proofs.Common.{◌≡◌, ◌∙◌, ap, sym, subst, ◌-◌, length, Option, Err}
+use Rattle.std.proofs.Common.{◌≡◌, ◌∙◌, ap, sym, subst, ◌-◌, length, Option, Err, rules}
 use Rattle.std.specs.FinMap as map
 use Rattle.std.proofs.lemmas.Result.{err_from_is_err_and}
 use Rattle.cow_map.specs.declared.link.Link.{Link}
@@ -13,73 +13,111 @@ use Rattle.cow_map.proofs.Putting.{lone_none, lone_one, lone_fork, changed_below
 use Rattle.cow_map.proofs.Removing.{none_removes, leaf_removes, fork_absent, fork_removes, grows_both}
 use Rattle.cow_map.proofs.remove.+remove_at.Goals as goal
 
-pub returns-in-Nothing-clause-removes : goal.returns-in-Nothing-clause-removes
-returns-in-Nothing-clause-removes g t c tells =
-    let shown = rw c.in-Nothing.is at (c.in_ok-look.ensures.seen tells) in
-    none_removes g.H.NodeHash.half (map.get (g.S.NodeSource.stored c.args.source.now)) c.args.kind c.args.arena.now c.args.id.now
-    c.args.link.now c.args.key.now (64 - length c.args.id.now) (lone_none c.args.lone c.args.id.now _ shown)
+pub returns-in-Nothing-clause-takes : goal.returns-in-Nothing-clause-takes
+returns-in-Nothing-clause-takes g t c = record {
+  removes = λ tells.
+      let shown = rw c.in-Nothing.is at (c.in_ok-look.ensures.seen tells) in
+      none_removes g.H.NodeHash.half (map.get (g.S.NodeSource.stored c.args.source.now)) c.args.kind c.args.arena.now c.args.id.now
+      c.args.link.now c.args.key.now (64 - length c.args.id.now) (lone_none c.args.lone c.args.id.now _ shown);
+  leaves = λ tells.
+      nothing_leaves _ c.args.lone c.args.id.now c.args.key.now _
+      (lone_none c.args.lone c.args.id.now _ (rw c.in-Nothing.is at (c.in_ok-look.ensures.seen tells)));
+}
 
--- the leaf is the only entry, so with its key nothing is left, and any other key isn't there
-pub returns-in-Leaf-clause-removes : goal.returns-in-Leaf-clause-removes
-returns-in-Leaf-clause-removes g t c tells =
-    let shown = rw c.in-Leaf.is at (c.in_ok-look.ensures.seen tells) in
-    leaf_removes g.H.NodeHash.half (map.get (g.S.NodeSource.stored c.args.source.now)) c.args.kind c.args.arena.now c.args.id.now
-    c.args.link.now c.args.key.now (64 - length c.args.id.now) c.in-Leaf.own c.in-Leaf.field-1 c.if_same.result
-    (lone_one c.args.lone c.args.id.now _ _ _ shown) c.if_same.ensures
+pub returns-in-Leaf-clause-takes : goal.returns-in-Leaf-clause-takes
+returns-in-Leaf-clause-takes g t c = record {
+  -- the leaf is the only entry, so with its key nothing is left, and any other key isn't there
+  removes = λ tells.
+      let shown = rw c.in-Leaf.is at (c.in_ok-look.ensures.seen tells) in
+      leaf_removes g.H.NodeHash.half (map.get (g.S.NodeSource.stored c.args.source.now)) c.args.kind c.args.arena.now c.args.id.now
+      c.args.link.now c.args.key.now (64 - length c.args.id.now) c.in-Leaf.own c.in-Leaf.field-1 c.if_same.result
+      (lone_one c.args.lone c.args.id.now _ _ _ shown) c.if_same.ensures;
+  leaves = λ tells.
+      leaf_leaves _ c.args.lone c.args.id.now c.args.key.now _ c.in-Leaf.own c.in-Leaf.field-1 c.if_same.result
+      (rw c.in-Leaf.is at (c.in_ok-look.ensures.seen tells)) c.if_same.ensures;
+}
 
--- the key could stand below its nibble's branch alone, and it isn't there
-pub returns-in-None-clause-removes : goal.returns-in-None-clause-removes
-returns-in-None-clause-removes g t c tells =
-    let shown = rw c.in-Inner.is at (c.in_ok-look.ensures.seen tells) in
-    let placed = rw c.in-Inner.is at c.in_ok-look.ensures.placed in
-    fork_absent g.H.NodeHash.half (map.get (g.S.NodeSource.stored c.args.source.now)) c.args.kind c.args.arena.now c.args.id.now
-    c.args.link.now c.args.key.now (map.get (g.S.NodeSource.stored c.look.new.source)) c.remove_at.new.arena c.below-place.result
-    c.get.result
-    c.in-Inner.links c.toward-b.result (ap (λ h. map.get h) (c.look.ensures.source.same tells))
-    (lone_fork c.args.lone c.args.id.now _ _ shown) placed.0 c.toward-b.ensures.small (c.toward-b.ensures.under c.requires.under)
-    c.below-place.ensures c.get.ensures
-    (subst (Removes g.H.NodeHash.half (map.get (g.S.NodeSource.stored c.look.new.source)) c.args.kind c.args.arena.now
-    c.remove_at.new.arena (64 - length c.below-place.result) c.below-place.result c.get.result c.args.key.now) c.in-None.is
-    (c.in_ok-next-in-Inner.ensures.removes tells)) c.args.arena.now
+pub returns-in-None-clause-takes : goal.returns-in-None-clause-takes
+returns-in-None-clause-takes g t c = record {
+  -- the key could stand below its nibble's branch alone, and it isn't there
+  removes = λ tells.
+      let shown = rw c.in-Inner.is at (c.in_ok-look.ensures.seen tells) in
+      let placed = rw c.in-Inner.is at c.in_ok-look.ensures.placed in
+      fork_absent g.H.NodeHash.half (map.get (g.S.NodeSource.stored c.args.source.now)) c.args.kind c.args.arena.now c.args.id.now
+      c.args.link.now c.args.key.now (map.get (g.S.NodeSource.stored c.look.new.source)) c.remove_at.new.arena c.below-place.result
+      c.get.result
+      c.in-Inner.links c.toward-b.result (ap (λ h. map.get h) (c.look.ensures.source.same tells))
+      (lone_fork c.args.lone c.args.id.now _ _ shown) placed.0 c.toward-b.ensures.small (c.toward-b.ensures.under c.requires.under)
+      c.below-place.ensures c.get.ensures
+      (subst (Removes g.H.NodeHash.half (map.get (g.S.NodeSource.stored c.look.new.source)) c.args.kind c.args.arena.now
+      c.remove_at.new.arena (64 - length c.below-place.result) c.below-place.result c.get.result c.args.key.now) c.in-None.is
+      (c.in_ok-next-in-Inner.ensures.takes.removes tells)) c.args.arena.now;
+  leaves = search rules;
+}
 
 -- the links that stay name nodes that were there before, and the new one none beyond those that the call below has made
 pub settle-requires-clause-below : goal.settle-requires-clause-below
 settle-requires-clause-below g t c κs within =
     let placed = rw c.in-Inner.is at c.in_ok-look.ensures.placed in
-    changed_below c.args.arena.now c.remove_at.new.arena c.in_ok-next-in-Inner.ensures.grows.0 c.in-Inner.links c.with-links.result
-    c.toward-b.result c.in-Some.next c.in_ok-next-in-Inner.ensures.grows.1 placed.2
-    (subst (IsBelowIf (length c.remove_at.new.arena)) c.in-Some.is c.in_ok-next-in-Inner.ensures.below) c.with-links.ensures
+    changed_below c.args.arena.now c.remove_at.new.arena c.in_ok-next-in-Inner.ensures.made.grows.0 c.in-Inner.links c.with-links.result
+    c.toward-b.result c.in-Some.next c.in_ok-next-in-Inner.ensures.made.grows.1 placed.2
+    (subst (IsBelowIf (length c.remove_at.new.arena)) c.in-Some.is c.in_ok-next-in-Inner.ensures.made.below) c.with-links.ensures
 
-pub returns-in_err-left-in-Some-clause-grows : goal.returns-in_err-left-in-Some-clause-grows
-returns-in_err-left-in-Some-clause-grows g t c =
-    let placed = rw c.in-Inner.is at c.in_ok-look.ensures.placed in
-    grows_both c.args.arena.now c.remove_at.new.arena c.settle.new.arena c.args.id.now c.below-place.result c.toward-b.result placed.0
-    c.below-place.ensures c.in_ok-next-in-Inner.ensures.grows c.settle.ensures.grows
+pub returns-in_err-left-in-Some-clause-made : goal.returns-in_err-left-in-Some-clause-made
+returns-in_err-left-in-Some-clause-made g t c = record {
+  grows =
+      let placed = rw c.in-Inner.is at c.in_ok-look.ensures.placed in
+      grows_both c.args.arena.now c.remove_at.new.arena c.settle.new.arena c.args.id.now c.below-place.result c.toward-b.result placed.0
+      c.below-place.ensures c.in_ok-next-in-Inner.ensures.made.grows c.settle.ensures.made.grows;
+  below = search rules;
+}
 
-pub returns-clause-grows : goal.returns-clause-grows
-returns-clause-grows g t c =
-    let placed = rw c.in-Inner.is at c.in_ok-look.ensures.placed in
-    grows_both c.args.arena.now c.remove_at.new.arena c.settle.new.arena c.args.id.now c.below-place.result c.toward-b.result placed.0
-    c.below-place.ensures c.in_ok-next-in-Inner.ensures.grows c.settle.ensures.grows
+pub returns-clause-made : goal.returns-clause-made
+returns-clause-made g t c = record {
+  grows =
+      let placed = rw c.in-Inner.is at c.in_ok-look.ensures.placed in
+      grows_both c.args.arena.now c.remove_at.new.arena c.settle.new.arena c.args.id.now c.below-place.result c.toward-b.result placed.0
+      c.below-place.ensures c.in_ok-next-in-Inner.ensures.made.grows c.settle.ensures.made.grows;
+  below = search rules;
+}
 
--- the key goes from the entries of its branch, and what all branches then hold settles in the node's place
-pub returns-clause-removes : goal.returns-clause-removes
-returns-clause-removes g t c tells =
-    let shown = rw c.in-Inner.is at (c.in_ok-look.ensures.seen tells) in
-    let placed = rw c.in-Inner.is at c.in_ok-look.ensures.placed in
-    fork_removes g.H.NodeHash.half (map.get (g.S.NodeSource.stored c.args.source.now)) c.args.kind c.args.arena.now c.args.id.now
-    c.args.link.now c.args.key.now (map.get (g.S.NodeSource.stored c.look.new.source))
-    (map.get (g.S.NodeSource.stored c.remove_at.new.source))
-    c.remove_at.new.arena c.settle.new.arena c.in_ok-next-in-Inner.ensures.grows.0 c.below-place.result c.get.result c.in-Some.next
-    c.in_ok-left-in-Some.left c.in-Inner.links c.with-links.result c.toward-b.result
-    (ap (λ h. map.get h) (c.look.ensures.source.same tells))
-    (ap (λ h. map.get h) (c.remove_at.ensures.source.same tells ∙ c.look.ensures.source.same tells))
-    c.in_ok-next-in-Inner.ensures.grows.1 c.known-2.ensures c.requires.below (lone_fork c.args.lone c.args.id.now _ _ shown) placed.0
-    c.toward-b.ensures.small (c.toward-b.ensures.under c.requires.under) c.below-place.ensures c.get.ensures c.with-links.ensures
-    (subst (Removes g.H.NodeHash.half (map.get (g.S.NodeSource.stored c.look.new.source)) c.args.kind c.args.arena.now
-    c.remove_at.new.arena (64 - length c.below-place.result) c.below-place.result c.get.result c.args.key.now) c.in-Some.is
-    (c.in_ok-next-in-Inner.ensures.removes tells))
-    (c.in_ok-left-in-Some.ensures.stands tells)
+pub returns-clause-takes : goal.returns-clause-takes
+returns-clause-takes g t c = record {
+  -- the key goes from the entries of its branch, and what all branches then hold settles in the node's place
+  removes = λ tells.
+      let shown = rw c.in-Inner.is at (c.in_ok-look.ensures.seen tells) in
+      let placed = rw c.in-Inner.is at c.in_ok-look.ensures.placed in
+      fork_removes g.H.NodeHash.half (map.get (g.S.NodeSource.stored c.args.source.now)) c.args.kind c.args.arena.now c.args.id.now
+      c.args.link.now c.args.key.now (map.get (g.S.NodeSource.stored c.look.new.source))
+      (map.get (g.S.NodeSource.stored c.remove_at.new.source))
+      c.remove_at.new.arena c.settle.new.arena c.in_ok-next-in-Inner.ensures.made.grows.0 c.below-place.result c.get.result c.in-Some.next
+      c.in_ok-left-in-Some.left c.in-Inner.links c.with-links.result c.toward-b.result
+      (ap (λ h. map.get h) (c.look.ensures.source.same tells))
+      (ap (λ h. map.get h) (c.remove_at.ensures.source.same tells ∙ c.look.ensures.source.same tells))
+      c.in_ok-next-in-Inner.ensures.made.grows.1 c.known-2.ensures c.requires.below (lone_fork c.args.lone c.args.id.now _ _ shown) placed.0
+      c.toward-b.ensures.small (c.toward-b.ensures.under c.requires.under) c.below-place.ensures c.get.ensures c.with-links.ensures
+      (subst (Removes g.H.NodeHash.half (map.get (g.S.NodeSource.stored c.look.new.source)) c.args.kind c.args.arena.now
+      c.remove_at.new.arena (64 - length c.below-place.result) c.below-place.result c.get.result c.args.key.now) c.in-Some.is
+      (c.in_ok-next-in-Inner.ensures.takes.removes tells))
+      (c.in_ok-left-in-Some.ensures.stands.stands tells);
+  -- the key's leaf was not alone below the root, so something is left of the inner node, and settling leaves it sound
+  leaves = λ tells.
+      let shown = rw c.in-Inner.is at (c.in_ok-look.ensures.seen tells) in
+      let placed = rw c.in-Inner.is at c.in_ok-look.ensures.placed in
+      let leaves = rw c.in-Some.is at (c.in_ok-next-in-Inner.ensures.takes.leaves tells) in
+      let same : map.get (g.S.NodeSource.stored c.remove_at.new.source) ≡ map.get (g.S.NodeSource.stored c.args.source.now) =
+      ap (λ h. map.get h) (c.remove_at.ensures.source.same tells ∙ c.look.ensures.source.same tells) in
+      fork_leaves _ c.args.lone c.args.id.now c.args.key.now _ c.in-Inner.links c.in_ok-left-in-Some.left
+      (lone_fork c.args.lone c.args.id.now _ _ shown)
+      (some_left g.H.NodeHash.half (map.get (g.S.NodeSource.stored c.look.new.source)) c.args.kind _ c.args.arena.now c.args.id.now
+      c.below-place.result c.get.result c.in-Some.next c.in_ok-left-in-Some.left c.args.key.now c.is_only.result c.toward-b.result
+      c.in-Inner.links
+      c.with-links.result placed.1 c.toward-b.ensures.small c.below-place.ensures c.get.ensures c.is_only.ensures c.with-links.ensures
+      leaves c.in_ok-left-in-Some.ensures.stands.some)
+      (ap (λ st. stop_here c.args.id.now
+      (found_at g.H.NodeHash.half st c.args.kind c.settle.new.arena c.args.id.now c.in_ok-left-in-Some.left)) (sym same)
+      ∙ c.in_ok-left-in-Some.ensures.stands.sound tells);
+}
 
 -- where a look stops one
 pub returns-in_err-look-clause-way : goal.returns-in_err-look-clause-way
@@ -93,21 +131,11 @@ returns-in-Nothing-clause-way g t c tells =
     (64 - length c.args.id.now) c.args.lone c.args.id.now c.args.link.now c.args.key.now
     (rw c.in-Nothing.is at (c.in_ok-look.ensures.seen tells))
 
-pub returns-in-Nothing-clause-leaves : goal.returns-in-Nothing-clause-leaves
-returns-in-Nothing-clause-leaves g t c tells =
-    nothing_leaves _ c.args.lone c.args.id.now c.args.key.now _
-    (lone_none c.args.lone c.args.id.now _ (rw c.in-Nothing.is at (c.in_ok-look.ensures.seen tells)))
-
 pub returns-in-Leaf-clause-way : goal.returns-in-Leaf-clause-way
 returns-in-Leaf-clause-way g t c tells =
     removal_one g.H.NodeHash.half (map.get (g.S.NodeSource.stored c.args.source.now)) c.args.kind c.args.arena.now
     (64 - length c.args.id.now) c.args.lone c.args.id.now c.args.link.now c.args.key.now c.in-Leaf.own c.in-Leaf.field-1
     (rw c.in-Leaf.is at (c.in_ok-look.ensures.seen tells))
-
-pub returns-in-Leaf-clause-leaves : goal.returns-in-Leaf-clause-leaves
-returns-in-Leaf-clause-leaves g t c tells =
-    leaf_leaves _ c.args.lone c.args.id.now c.args.key.now _ c.in-Leaf.own c.in-Leaf.field-1 c.if_same.result
-    (rw c.in-Leaf.is at (c.in_ok-look.ensures.seen tells)) c.if_same.ensures
 
 -- where the call below is stopped
 pub returns-in_err-next-in-Inner-clause-way : goal.returns-in_err-next-in-Inner-clause-way
@@ -140,13 +168,13 @@ returns-in-None-clause-way g t c tells =
     step
     ∙ passed_below g.H.NodeHash.half (map.get (g.S.NodeSource.stored c.look.new.source)) c.args.kind _ c.args.arena.now c.args.id.now
     c.below-place.result c.get.result c.args.key.now c.is_only.result c.toward-b.result c.in-Inner.links
-    (c.in_ok-next-in-Inner.ensures.way tells) (rw c.in-None.is at (c.in_ok-next-in-Inner.ensures.leaves tells))
+    (c.in_ok-next-in-Inner.ensures.way tells) (rw c.in-None.is at (c.in_ok-next-in-Inner.ensures.takes.leaves tells))
 
 -- where the key went below, and one looks at what is left alone
 pub returns-in_err-left-in-Some-clause-way : goal.returns-in_err-left-in-Some-clause-way
 returns-in_err-left-in-Some-clause-way g t c tells =
     let p = err_from_is_err_and c.from_residual-in_err-left-in-Some.result c.from_residual-in_err-left-in-Some.ensures.1 in
-    let leaves = rw c.in-Some.is at (c.in_ok-next-in-Inner.ensures.leaves tells) in
+    let leaves = rw c.in-Some.is at (c.in_ok-next-in-Inner.ensures.takes.leaves tells) in
     let shown = rw c.in-Inner.is at (c.in_ok-look.ensures.seen tells) in
     let placed = rw c.in-Inner.is at c.in_ok-look.ensures.placed in
     let step =
@@ -157,18 +185,19 @@ returns-in_err-left-in-Some-clause-way g t c tells =
     (lone_fork c.args.lone c.args.id.now _ _ shown) c.below-place.ensures c.get.ensures c.is_only.ensures in
     let left =
     left_below g.H.NodeHash.half (map.get (g.S.NodeSource.stored c.look.new.source)) c.args.kind
-    (map.get (g.S.NodeSource.stored c.remove_at.new.source)) c.args.arena.now c.remove_at.new.arena c.in_ok-next-in-Inner.ensures.grows.0
-    c.args.id.now c.below-place.result c.get.result c.in-Some.next c.args.key.now c.is_only.result c.toward-b.result c.in-Inner.links
+    (map.get (g.S.NodeSource.stored c.remove_at.new.source)) c.args.arena.now c.remove_at.new.arena
+    c.in_ok-next-in-Inner.ensures.made.grows.0 c.args.id.now c.below-place.result c.get.result c.in-Some.next c.args.key.now
+    c.is_only.result c.toward-b.result c.in-Inner.links
     c.with-links.result (ap (λ h. map.get h) (c.remove_at.ensures.source.same tells))
-    c.in_ok-next-in-Inner.ensures.grows.1 placed.1 c.toward-b.ensures.small placed.2 c.below-place.ensures c.with-links.ensures
+    c.in_ok-next-in-Inner.ensures.made.grows.1 placed.1 c.toward-b.ensures.small placed.2 c.below-place.ensures c.with-links.ensures
     (c.in_ok-next-in-Inner.ensures.way tells) leaves in
     rw (p.1, p.2) (goes_same (Option Link) (Err c.in_err-left-in-Some.field-0.0) _ _ (step ∙ left)
-    (c.in_err-left-in-Some.ensures.way tells))
+    (c.in_err-left-in-Some.ensures.stands.way tells))
 
 -- nothing stopped the call below, and nothing the look at what is left beside the leaf
 pub returns-clause-way : goal.returns-clause-way
 returns-clause-way g t c tells =
-    let leaves = rw c.in-Some.is at (c.in_ok-next-in-Inner.ensures.leaves tells) in
+    let leaves = rw c.in-Some.is at (c.in_ok-next-in-Inner.ensures.takes.leaves tells) in
     let shown = rw c.in-Inner.is at (c.in_ok-look.ensures.seen tells) in
     let placed = rw c.in-Inner.is at c.in_ok-look.ensures.placed in
     let step =
@@ -179,28 +208,10 @@ returns-clause-way g t c tells =
     (lone_fork c.args.lone c.args.id.now _ _ shown) c.below-place.ensures c.get.ensures c.is_only.ensures in
     let left =
     left_below g.H.NodeHash.half (map.get (g.S.NodeSource.stored c.look.new.source)) c.args.kind
-    (map.get (g.S.NodeSource.stored c.remove_at.new.source)) c.args.arena.now c.remove_at.new.arena c.in_ok-next-in-Inner.ensures.grows.0
-    c.args.id.now c.below-place.result c.get.result c.in-Some.next c.args.key.now c.is_only.result c.toward-b.result c.in-Inner.links
+    (map.get (g.S.NodeSource.stored c.remove_at.new.source)) c.args.arena.now c.remove_at.new.arena
+    c.in_ok-next-in-Inner.ensures.made.grows.0 c.args.id.now c.below-place.result c.get.result c.in-Some.next c.args.key.now
+    c.is_only.result c.toward-b.result c.in-Inner.links
     c.with-links.result (ap (λ h. map.get h) (c.remove_at.ensures.source.same tells))
-    c.in_ok-next-in-Inner.ensures.grows.1 placed.1 c.toward-b.ensures.small placed.2 c.below-place.ensures c.with-links.ensures
+    c.in_ok-next-in-Inner.ensures.made.grows.1 placed.1 c.toward-b.ensures.small placed.2 c.below-place.ensures c.with-links.ensures
     (c.in_ok-next-in-Inner.ensures.way tells) leaves in
-    step ∙ left ∙ c.in_ok-left-in-Some.ensures.way tells
-
--- the key's leaf was not alone below the root, so something is left of the inner node, and settling leaves it sound
-pub returns-clause-leaves : goal.returns-clause-leaves
-returns-clause-leaves g t c tells =
-    let shown = rw c.in-Inner.is at (c.in_ok-look.ensures.seen tells) in
-    let placed = rw c.in-Inner.is at c.in_ok-look.ensures.placed in
-    let leaves = rw c.in-Some.is at (c.in_ok-next-in-Inner.ensures.leaves tells) in
-    let same : map.get (g.S.NodeSource.stored c.remove_at.new.source) ≡ map.get (g.S.NodeSource.stored c.args.source.now) =
-    ap (λ h. map.get h) (c.remove_at.ensures.source.same tells ∙ c.look.ensures.source.same tells) in
-    fork_leaves _ c.args.lone c.args.id.now c.args.key.now _ c.in-Inner.links c.in_ok-left-in-Some.left
-    (lone_fork c.args.lone c.args.id.now _ _ shown)
-    (some_left g.H.NodeHash.half (map.get (g.S.NodeSource.stored c.look.new.source)) c.args.kind _ c.args.arena.now c.args.id.now
-    c.below-place.result c.get.result c.in-Some.next c.in_ok-left-in-Some.left c.args.key.now c.is_only.result c.toward-b.result
-    c.in-Inner.links
-    c.with-links.result placed.1 c.toward-b.ensures.small c.below-place.ensures c.get.ensures c.is_only.ensures c.with-links.ensures
-    leaves c.in_ok-left-in-Some.ensures.some)
-    (ap (λ st. stop_here c.args.id.now
-    (found_at g.H.NodeHash.half st c.args.kind c.settle.new.arena c.args.id.now c.in_ok-left-in-Some.left)) (sym same)
-    ∙ c.in_ok-left-in-Some.ensures.sound tells)
+    step ∙ left ∙ c.in_ok-left-in-Some.ensures.stands.way tells
