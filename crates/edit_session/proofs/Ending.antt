@@ -71,10 +71,10 @@ names_front X Y z w (causes.Shape place rule) zero = zero
 names_behind : {X : Type 0} (z w : Option Bytes) (r : Result X MapFault) → z ≡ None → NamesZero w r → NamesZero (option_or z w) r
 names_behind z w r none zero = subst (λ o. NamesZero (option_or o w) r) (sym none) zero
 
--- two facts of a success make a third
-pub if_two : {X F : Type 0} (r : Result X F) (P Q R : X → Type 0) → IfOk r P → IfOk r Q → ((x : X) → P x → Q x → R x) → IfOk r R
-if_two (Ok x) P Q R p q f = f x p q
-if_two (Err e) P Q R p q f = tt
+-- a fact of a success, weakened
+pub ok_map : {X F : Type 0} (r : Result X F) (P Q : X → Type 0) → IfOk r P → ((x : X) → P x → Q x) → IfOk r Q
+ok_map (Ok x) P Q p f = f x p
+ok_map (Err e) P Q p f = tt
 
 -- the draft as the fields of a session, and as callers see it
 module _ (half : Half) (size : IsSized half) (law : MadeAreOfTree) (stored : Lookup) (own : AreOwn half stored) (d now : Draft)

@@ -11,7 +11,8 @@ use Rattle.cow_map.specs.declared.fault.MapFault.{MapFault}
 use Rattle.cow_map.specs.Bodies.{CowTree}
 use Rattle.cow_map.specs.Trees.{StandsFor}
 use Rattle.cow_map.specs.Seals.{Picks}
-use Rattle.cow_map.specs.Sealing.{named, first_zero, made_of_map, NamesZero}
+use Rattle.cow_map.specs.Sealing.{AreNamed, named, first_zero, made_of_map, NamesZero}
+use Rattle.cow_map.specs.declared.seal.FormOf.{FormOf}
 use Rattle.edit_session.specs.declared.close.Fields.{Fields}
 use Rattle.edit_session.specs.declared.close.Closed.{Closed}
 use Rattle.edit_session.specs.Drafts.{Draft}
@@ -50,14 +51,22 @@ header_form header = header_prefix ++ header_bytes (fields header)
 abbrev pub closing_forms : Half → Items → Items → Header → List Bytes
 closing_forms half accounts txs header = forms_of half State accounts ++ forms_of half Tx txs ++ header_form header ∷ []
 
+-- the ledger with this header: its hash is the header's, and the header's form stands behind those of its two maps, each under its own hash
+pub record EndsWith (half : Half) (h : Header) (accounts txs : List FormOf) (c : Closed) : Type 0 where
+  pub header : c.header ≡ h
+  pub hash : c.hash ≡ half (header_form h)
+  pub forms : c.forms.items ≡ accounts ++ txs ++ named half (header_form h) ∷ []
+  pub named : AreNamed half c.forms.items
+
 -- those of them that the draft has made
 abbrev pub new_forms : Half → Draft → Header → List Bytes
 new_forms half d header = made_of_map half d.state ++ made_of_map half d.txs ++ header_form header ∷ []
 
--- the header follows the parent's, and the hash is the header's
+-- the header follows the parent's, the hash is the header's, and each form is given with its own hash, whatever maps the draft has
 pub record Follows (half : Half) (d : Draft) (given : Fields) (c : Closed) : Type 0 where
   pub header : c.header ≡ header_after d given c.header.state_root c.header.tx_root
   pub hash : c.hash ≡ half (header_form c.header)
+  pub named : AreNamed half c.forms.items
 
 -- the ledger has these two maps; its forms that the draft has made are given under their hashes, in their order, and the source holds the
 -- others; the state root isn't zero, where the source holds nothing under the zero hash

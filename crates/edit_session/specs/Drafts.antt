@@ -6,7 +6,7 @@ use Rattle.ledger_spec.specs.Bytes.{Hash, Half, Lookup, Items}
 use Rattle.ledger_spec.specs.Reach.{Reach}
 use Rattle.ledger_header.specs.declared.Header.{Header}
 use Rattle.cow_map.specs.Bodies.{CowTree}
-use Rattle.cow_map.specs.Trees.{StandsFor}
+use Rattle.cow_map.specs.Trees.{link_to, StandsFor}
 use Rattle.cow_map.specs.Unloaded.{unloaded, LeavesWhole}
 
 -- the ledger that is edited, its header, and the trees of the next ledger's account state and transactions
@@ -26,6 +26,13 @@ pub record Keeps (d : Draft) : Type 0 where
   pub state : d.state.kind ≡ State
   pub txs : d.txs.kind ≡ Tx
   pub alone : (items : Items) × StandsAlone d.txs items
+
+-- the draft of a session on the ledger with this hash and header: its account state is the parent's, and it has no transactions
+pub record IsOpened (ledger : Hash) (header : Header) (d : Draft) : Type 0 where
+  pub base : d.base ≡ ledger
+  pub parent : d.parent ≡ header
+  pub state : d.state ≡ record { kind = State; nodes = []; top = link_to header.state_root }
+  pub txs : StandsAlone d.txs []
 
 -- these are the account state and the transactions of the draft, over what a source holds
 pub record Edits (half : Half) (stored : Lookup) (d : Draft) (accounts txs : Items) : Type 0 where

@@ -1,7 +1,7 @@
 //! What a session closes into: the next ledger's header, its hash, and the forms that its maps have made.
-ghost use Rattle.std.specs.Prelude.{◌≡◌, ◌++◌, ◌∷◌, [], IfErr, IfOk};
-ghost use Rattle.edit_session.specs.Closing.{header_form};
-ghost use Rattle.cow_map.specs.Sealing.{AreNamed, named, first_zero, IsSealFault, NamesZero};
+ghost use Rattle.std.specs.Prelude.{◌∷◌, [], IfErr, IfOk};
+ghost use Rattle.edit_session.specs.Closing.{header_form, EndsWith};
+ghost use Rattle.cow_map.specs.Sealing.{AreNamed, first_zero, IsSealFault, NamesZero};
 
 use cow_map::{FormOf, MapFault};
 use half_hash::{Blob, Hash32, NodeHash};
@@ -38,10 +38,7 @@ pub(crate) fn closed_with<H: NodeHash>(
     mut txs: Vec<FormOf>,
 ) -> Result<Closed, MapFault>
     requires named { AreNamed H.half forms.items × AreNamed H.half txs.items }
-    ensures named { IfOk result (λ c. AreNamed H.half c.forms.items) }
-    ensures header { IfOk result (λ c. c.header ≡ header) }
-    ensures hash { IfOk result (λ c. c.hash ≡ H.half (header_form header)) }
-    ensures forms { IfOk result (λ c. c.forms.items ≡ forms.items ++ txs.items ++ named H.half (header_form header) ∷ []) }
+    ensures ends { IfOk result (EndsWith H.half header forms.items txs.items) }
     ensures zero { NamesZero (first_zero H.half (header_form header ∷ [])) result }
     ensures cause { IfErr result IsSealFault }
 {

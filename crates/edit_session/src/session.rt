@@ -1,17 +1,17 @@
 //! A session, from its opening to its close: the header of the ledger that it edits, and two maps.
 ghost use Rattle.std.specs.Prelude.{◌≡◌, ◌≢◌, ◌<◌, ◌+◌, [], IsTrue, IfErr, IfOk, OnErr, OnOk, MatchBool};
 ghost use Rattle.std.specs.FinMap as map;
-ghost use Rattle.ledger_spec.specs.declared.Kind.TheVariants.{State as accounts_kind, Tx as txs_kind};
+ghost use Rattle.ledger_spec.specs.declared.Kind.TheVariants.{State as accounts_kind};
 ghost use Rattle.ledger_spec.specs.Bytes.{Half, Items, Lookup};
 ghost use Rattle.ledger_spec.specs.Commits.{AreOwn, IsWholeMap};
 ghost use Rattle.ledger_spec.specs.Findings.{items_of};
 ghost use Rattle.path_proof.specs.Sources.{LeavesSource};
 ghost use Rattle.cow_map.specs.declared.fault.MapFault.TheVariants as causes;
 ghost use Rattle.cow_map.specs.Laws.{IsSized};
-ghost use Rattle.cow_map.specs.Sealing.{AreNamed, IsSealFault};
-ghost use Rattle.cow_map.specs.Trees.{link_to, StandsFor};
+ghost use Rattle.cow_map.specs.Sealing.{IsSealFault};
+ghost use Rattle.cow_map.specs.Trees.{StandsFor};
 ghost use Rattle.cow_map.specs.Ways.{stop_of, removal_stop_of, IsSourceFault};
-ghost use Rattle.edit_session.specs.Drafts.{StandsAlone, Keeps, Edits, LeavesToParent};
+ghost use Rattle.edit_session.specs.Drafts.{IsOpened, Keeps, Edits, LeavesToParent};
 ghost use Rattle.edit_session.specs.Changes.{ChangesState, ChangesTxs, SetsAccount, RemovesAccount, SetsTx, GoesBy};
 ghost use Rattle.edit_session.specs.Closing.{IsOccupied, header_after, Follows, Closes, NamesFirst};
 
@@ -53,10 +53,7 @@ impl Session {
     /// A session on the ledger with this hash and header: its account state, and no transactions. It takes no memory.
     pub fn open(alloc: Global, base: Hash32, parent: Header) -> Session
         requires { parent.seq < 4294967295 }
-        ensures base { result.base ≡ base }
-        ensures parent { result.parent ≡ parent }
-        ensures state { result.state ≡ record { kind = accounts_kind; nodes = []; top = link_to parent.state_root } }
-        ensures txs { StandsAlone result.txs [] }
+        ensures opened { IsOpened base parent result }
 
         // where the ledger's account state is whole, the session has it, and leaves it to the source
         ensures maps { (half : Half) (stored : Lookup) → IsSized half → IsWholeMap half stored accounts_kind parent.state_root →
@@ -157,10 +154,8 @@ impl Session {
     /// The next ledger: its header and hash, and the forms to store. The session stays as it is.
     pub fn close<H: NodeHash>(&self, alloc: Global, fields: &Fields) -> Result<Closed, MapFault>
         requires { IsOccupied self.now.state }
+        // whatever maps the session has, the header follows the parent's, and each form is given with its own hash
         ensures follows { IfOk result (Follows H.half self.now fields.now) }
-
-        // each form is given with its own hash, whatever maps the session has
-        ensures named { IfOk result (λ c. AreNamed H.half c.forms.items) }
 
         // where the session has maps over forms under their own hashes, the ledger has these
         ensures closes { IfOk result (λ c. (stored : Lookup) (accounts txs : Items) → AreOwn H.half stored →

@@ -15,9 +15,9 @@ use Rattle.path_proof.proofs.shared.PathLaws.{nodes_are}
 use Rattle.path_proof.specs.Paths.{held_nodes}
 use Rattle.path_proof.specs.declared.answer.ReadFault.{ReadFault}
 use Rattle.map_cursor.specs.declared.paging.Page.{Page}
-use Rattle.map_cursor.specs.Shown.{Shown, items_in}
+use Rattle.map_cursor.specs.Shown.{HasFurther, Shown, items_in}
 use Rattle.path_proof.specs.Sources.{AreHeld}
-use Rattle.map_cursor.specs.Visits.{AreOfMaps, Visited, Refused}
+use Rattle.map_cursor.specs.Visits.{AreOfMaps, TellsPage, Visited, Refused}
 
 pub is_page : (half : Half) (kind : Kind) (root after : Hash) (tells : Bool) (nodes : Lookup) (n : ℕ) (s t : Shown) → s.items ≡ []
     → s.used ≡ [] → Visited half tells nodes (page_from half kind after 64 None [] root) n s t
@@ -69,6 +69,21 @@ pub own_page : (half : Half) (kind : Kind) (root after : Hash) (n : ℕ) (tells 
 own_page half kind root after n tells nodes (Ok p) is_key is held =
     λ told. page_of_store half nodes kind root after is_key n (held_nodes p.used.items) (items_in p.leaves.items) (held told) is
 own_page half kind root after n tells nodes (Err _) is_key is held = tt
+
+-- what a page tells, of what its reading promises
+pub tells_page : (half : Half) → Sized half → (kind : Kind) (root after : Hash) (n : ℕ) (tells : Bool) (nodes : Lookup)
+    (result : Result Page ReadFault) → IsKey after
+    → IfOk result (λ p. IsPageOf half kind root after n (held_nodes p.used.items) (items_in p.leaves.items))
+    → IfOk result (HasFurther after) → IfOk result (λ p. AreHeld half tells nodes (held_nodes p.used.items))
+    → IfOk result (TellsPage half kind root after n tells nodes)
+tells_page half sized kind root after n tells nodes (Ok p) is_key page leaves held = record {
+  page = page;
+  leaves = leaves;
+  held = held;
+  own = own_page half kind root after n tells nodes (Ok p) is_key page held;
+  maps = page_of_maps half sized kind root after n (Ok p) is_key page;
+}
+tells_page half sized kind root after n tells nodes (Err _) is_key page leaves held = tt
 
 pub refused_on : {X : Type 0} (half : Half) (kind : Kind) (root after : Hash) (tells : Bool) (nodes : Lookup) (n : ℕ) (s : Shown)
     (r : Result X ReadFault) (e : ReadFault) → IsErr r × IsErrAnd r (λ f. f ≡ e) → s.items ≡ []

@@ -1,12 +1,11 @@
 //! The call of this crate, `page`: the next items of a map behind a key.
-ghost use Rattle.std.specs.Prelude.{◌≡◌, IfErr, IfOk, IsTrue};
+ghost use Rattle.std.specs.Prelude.{IfErr, IfOk};
 ghost use Rattle.std.specs.FinMap as map;
-ghost use Rattle.ledger_spec.specs.Findings.{items_of};
-ghost use Rattle.ledger_spec.specs.Pages.{IsPageOf, after_key, heard_from};
+ghost use Rattle.ledger_spec.specs.Pages.{IsPageOf, heard_from};
 ghost use Rattle.path_proof.specs.Paths.{held_nodes};
 ghost use Rattle.path_proof.specs.Sources.{AreHeld, LeavesSource, RoseIf};
 ghost use Rattle.map_cursor.specs.Shown.{items_in, HasFurther};
-ghost use Rattle.map_cursor.specs.Visits.{AreOfMaps, Refused};
+ghost use Rattle.map_cursor.specs.Visits.{Refused, TellsPage};
 
 use crate::Page;
 use crate::visits::{Query, visit};
@@ -27,20 +26,7 @@ pub fn page<H: NodeHash, S: NodeSource<H>>(
     after: &Hash32,
     n: usize,
 ) -> Result<Page, ReadFault>
-    ensures page { IfOk result (λ p. IsPageOf H.half kind root.now after.now n (held_nodes p.used.items) (items_in p.leaves.items)) }
-
-    // the leaves are those of the nodes that are leaves behind the key
-    ensures leaves { IfOk result (HasFurther after.now) }
-
-    // what is used is held, where the source tells what it holds
-    ensures held { IfOk result (λ p. AreHeld H.half S.tells (map.get (S.stored source.old)) (held_nodes p.used.items)) }
-
-    // the items are then those of the source's own map
-    ensures own { IfOk result (λ p. IsTrue S.tells →
-        items_in p.leaves.items ≡ after_key after.now n (items_of H.half (map.get (S.stored source.old)) kind root.now)) }
-
-    // they are those of each map with this root, or the nodes show two with one hash
-    ensures maps { IfOk result (λ p. AreOfMaps H.half kind root.now after.now n (held_nodes p.used.items) (items_in p.leaves.items)) }
+    ensures tells { IfOk result (TellsPage H.half kind root.now after.now n S.tells (map.get (S.stored source.old))) }
     ensures cause { IfErr result
         (Refused H.half kind S.tells (map.get (S.stored source.old)) (heard_from H.half kind root.now after.now) n) }
     ensures source { LeavesSource S.tells S.stored S.rest S.faults (RoseIf ReadFault.Fault) source.old source.new result }

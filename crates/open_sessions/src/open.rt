@@ -9,9 +9,8 @@ ghost use Rattle.ledger_spec.specs.Maps.{numbered_cmp, get_in, has_in, insert_in
 ghost use Rattle.rotating_store.specs.Stores.{nodes_of};
 ghost use Rattle.rotating_store.specs.Sources.{AreFiled, LeavesAsked, own_nodes};
 ghost use Rattle.cow_map.specs.Ways.{stop_of, removal_stop_of, IsSourceFault};
-ghost use Rattle.edit_session.specs.Changes.{ChangesState, ChangesTxs, SetsAccount, RemovesAccount, SetsTx, GoesBy};
-ghost use Rattle.edit_session.specs.Drafts.{Draft};
-ghost use Rattle.open_sessions.specs.Changed.{Changed};
+ghost use Rattle.edit_session.specs.Changes.{ChangesState, ChangesTxs, SetsAccount, RemovesAccount, SetsTx};
+ghost use Rattle.open_sessions.specs.Changed.{Changed, GoesByOpen};
 
 use cow_map::MapFault;
 use edit_session::Session;
@@ -119,12 +118,8 @@ impl Open {
             self.old self.new id) }
 
         // what stops it is what stops the open session's map
-        ensures way { IsTrue Sh.B.tells → (d : Draft) → get_in numbered_cmp self.old id ≡ Some d
-            → let stored = finite.get (own_nodes H.half (nodes_of store.old)) in
-            GoesBy H.half stored d (stop_of H.half stored d.state item.now.key) result }
-
-        // where the session isn't open only memory is wanted
-        ensures shut { get_in numbered_cmp self.old id ≡ None → IfErr result (λ e. e ≡ MapFault.Memory) }
+        ensures goes { let stored = finite.get (own_nodes H.half (nodes_of store.old)) in
+            GoesByOpen Sh.B.tells H.half stored self.old id (λ d. stop_of H.half stored d.state item.now.key) result }
         ensures err { OnErr result (self.new ≡ self.old) }
         ensures store { LeavesAsked Sh.B.tells H.half IsSourceFault store.old store.new result }
     {
@@ -151,12 +146,8 @@ impl Open {
             self.old self.new id (is_some there)) }
 
         // what stops it is what stops the open session's map
-        ensures way { IsTrue Sh.B.tells → (d : Draft) → get_in numbered_cmp self.old id ≡ Some d
-            → let stored = finite.get (own_nodes H.half (nodes_of store.old)) in
-            GoesBy H.half stored d (removal_stop_of H.half stored d.state key.now) result }
-
-        // where the session isn't open only memory is wanted
-        ensures shut { get_in numbered_cmp self.old id ≡ None → IfErr result (λ e. e ≡ MapFault.Memory) }
+        ensures goes { let stored = finite.get (own_nodes H.half (nodes_of store.old)) in
+            GoesByOpen Sh.B.tells H.half stored self.old id (λ d. removal_stop_of H.half stored d.state key.now) result }
         ensures err { OnErr result (self.new ≡ self.old) }
         ensures store { LeavesAsked Sh.B.tells H.half IsSourceFault store.old store.new result }
     {

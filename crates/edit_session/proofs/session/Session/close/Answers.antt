@@ -2,7 +2,7 @@
 use Rattle.std.proofs.Common.{◌∙◌, ap, Err}
 use Rattle.std.proofs.lemmas.Result.{err_from_is_err_and}
 use Rattle.cow_map.specs.declared.seal.Sealed.{Sealed}
-use Rattle.edit_session.proofs.Ending.{state_ends, txs_end, header_ends, closed, if_two}
+use Rattle.edit_session.proofs.Ending.{state_ends, txs_end, header_ends, closed, ok_map}
 use Rattle.edit_session.proofs.session.Session.close.Goals as goal
 
 -- the account state's forms come before all others, so the first zero hash among them is the first of all
@@ -26,15 +26,15 @@ pub returns-clause-zero : goal.returns-clause-zero
 returns-clause-zero g c stored accounts txs own edits =
     header_ends g.H.NodeHash.half c.known_half.ensures.size c.the_forms_made_are_the_trees.ensures stored own _ _ c.self.view_is
     c.self.invariant.state c.self.invariant.txs c.args.fields.now accounts txs edits c.header-header.result _ _
-    c.header-header.ensures (c.in_ok-state.ensures.root stored) (c.in_ok-txs.ensures.root stored) c.closed_with.result
+    c.header-header.ensures (c.in_ok-state.ensures.seals.root stored) (c.in_ok-txs.ensures.seals.root stored) c.closed_with.result
     (c.in_ok-state.ensures.zero stored) (c.in_ok-txs.ensures.zero stored) c.closed_with.ensures.zero
 
 -- the two seals give both maps' roots and forms, and the header over these roots adds its own form at the end
 pub returns-clause-closes : goal.returns-clause-closes
 returns-clause-closes g c =
-    if_two c.closed_with.result _ _ _ c.closed_with.ensures.header c.closed_with.ensures.forms
-    (λ k header forms stored accounts txs own edits.
+    ok_map c.closed_with.result _ _ c.closed_with.ensures.ends (λ k ends stored accounts txs own edits.
     closed g.H.NodeHash.half c.known_half.ensures.size c.the_forms_made_are_the_trees.ensures stored own _ _ c.self.view_is
     c.self.invariant.state c.self.invariant.txs c.args.fields.now accounts txs edits c.header-header.result _ _
-    c.header-header.ensures (c.in_ok-state.ensures.root stored) (c.in_ok-txs.ensures.root stored) k _ _ c.requires
-    (c.in_ok-state.ensures.zero stored) header (c.in_ok-state.ensures.forms stored) (c.in_ok-txs.ensures.forms stored) forms)
+    c.header-header.ensures (c.in_ok-state.ensures.seals.root stored) (c.in_ok-txs.ensures.seals.root stored) k _ _ c.requires
+    (c.in_ok-state.ensures.zero stored) ends.header (c.in_ok-state.ensures.seals.forms stored)
+    (c.in_ok-txs.ensures.seals.forms stored) ends.forms)

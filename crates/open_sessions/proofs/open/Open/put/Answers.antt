@@ -18,27 +18,39 @@ returns-in_err-put-clause-err g c =
     ∙ set_same c.args.id c.self.inside.sessions.entries c.in-Some.session.now _ (sym c.in-Some.ensures.value) c.in_err-put.ensures.err
     ∙ c.self.view_is)
 
--- what stops the map of the session that was lent stops the call
-pub returns-in_err-put-clause-way : goal.returns-in_err-put-clause-way
-returns-in_err-put-clause-way g c told d is =
-    let half = g.H.NodeHash.half in
-    let stored : Lookup = finite.get (own_nodes half (nodes_of c.args.store.now)) in
-    let way : GoesBy {X = Unit {0}} half stored c.in-Some.session.now (stop_of half stored c.in-Some.session.now.state c.in_ok-item.item.key)
-    (Err c.in_err-put.field-0.0) = rw (← c.new-filed.ensures.same) (c.in_err-put.ensures.way told) in
-    stopped_by half stored (λ (x : Draft) key. stop_of half stored x.state key) c.in-Some.session.now d
-    (get_in numbered_cmp c.args.self.now c.args.id) c.args.item.now.key c.in_ok-item.item.key (rw (← c.self.view_is) c.in-Some.ensures.value)
-    is c.in_ok-item.ensures.same.0 _ _ c.in_err-put.field-0.0 c.from_residual-in_err-put.result c.from_residual-in_err-put.ensures.1
-    way
+pub returns-in_err-put-clause-goes : goal.returns-in_err-put-clause-goes
+returns-in_err-put-clause-goes g c = record {
+  -- what stops the map of the session that was lent stops the call
+  way = λ told d is.
+      let half = g.H.NodeHash.half in
+      let stored : Lookup = finite.get (own_nodes half (nodes_of c.args.store.now)) in
+      let way : GoesBy {X = Unit {0}} half stored c.in-Some.session.now
+      (stop_of half stored c.in-Some.session.now.state c.in_ok-item.item.key)
+      (Err c.in_err-put.field-0.0) = rw (← c.new-filed.ensures.same) (c.in_err-put.ensures.way told) in
+      stopped_by half stored (λ (x : Draft) key. stop_of half stored x.state key) c.in-Some.session.now d
+      (get_in numbered_cmp c.args.self.now c.args.id) c.args.item.now.key c.in_ok-item.item.key
+      (rw (← c.self.view_is) c.in-Some.ensures.value) is c.in_ok-item.ensures.same.0 _ _ c.in_err-put.field-0.0
+      c.from_residual-in_err-put.result c.from_residual-in_err-put.ensures.1
+      way;
+  -- a session that was lent is open
+  shut = λ none.
+      absurd (not_both (get_in numbered_cmp c.args.self.now c.args.id) c.in-Some.session.now none
+      (rw (← c.self.view_is) (sym c.in-Some.ensures.value)));
+}
 
-pub returns-clause-way : goal.returns-clause-way
-returns-clause-way g c told d is =
-    let half = g.H.NodeHash.half in
-    let stored : Lookup = finite.get (own_nodes half (nodes_of c.args.store.now)) in
-    let way : GoesBy {X = Unit {0}} half stored c.in-Some.session.now (stop_of half stored c.in-Some.session.now.state c.in_ok-item.item.key)
-    (Ok c.in_ok-put.field-0) = rw (← c.new-filed.ensures.same) (c.in_ok-put.ensures.way told) in
-    gone_by half stored (λ (x : Draft) key. stop_of half stored x.state key) c.in-Some.session.now d
-    (get_in numbered_cmp c.args.self.now c.args.id) c.args.item.now.key c.in_ok-item.item.key (rw (← c.self.view_is) c.in-Some.ensures.value)
-    is c.in_ok-item.ensures.same.0 _ _ c.in_ok-put.field-0 true way
+pub returns-clause-goes : goal.returns-clause-goes
+returns-clause-goes g c = record {
+  way = λ told d is.
+      let half = g.H.NodeHash.half in
+      let stored : Lookup = finite.get (own_nodes half (nodes_of c.args.store.now)) in
+      let way : GoesBy {X = Unit {0}} half stored c.in-Some.session.now
+      (stop_of half stored c.in-Some.session.now.state c.in_ok-item.item.key)
+      (Ok c.in_ok-put.field-0) = rw (← c.new-filed.ensures.same) (c.in_ok-put.ensures.way told) in
+      gone_by half stored (λ (x : Draft) key. stop_of half stored x.state key) c.in-Some.session.now d
+      (get_in numbered_cmp c.args.self.now c.args.id) c.args.item.now.key c.in_ok-item.item.key
+      (rw (← c.self.view_is) c.in-Some.ensures.value) is c.in_ok-item.ensures.same.0 _ _ c.in_ok-put.field-0 true way;
+  shut = λ none. tt;
+}
 
 -- the session's draft is the next one, over what the store holds
 pub returns-clause-changed : goal.returns-clause-changed
@@ -57,9 +69,3 @@ returns-clause-changed g c =
           ∙ ap (λ (m : ForActor Draft). set_in numbered_cmp m c.args.id c.put.new.self) c.self.view_is,
       (c.in_ok-put.ensures.rest, sets),
     )
-
--- a session that was lent is open
-pub returns-in_err-put-clause-shut : goal.returns-in_err-put-clause-shut
-returns-in_err-put-clause-shut g c none =
-    absurd (not_both (get_in numbered_cmp c.args.self.now c.args.id) c.in-Some.session.now none
-    (rw (← c.self.view_is) (sym c.in-Some.ensures.value)))

@@ -18,26 +18,35 @@ returns-in_err-there-clause-err g c =
     ∙ set_same c.args.id c.self.inside.sessions.entries c.in-Some.session.now _ (sym c.in-Some.ensures.value) c.in_err-there.ensures.err
     ∙ c.self.view_is)
 
--- what stops the map of the session that was lent stops the call
-pub returns-in_err-there-clause-way : goal.returns-in_err-there-clause-way
-returns-in_err-there-clause-way g c told d is =
-    let half = g.H.NodeHash.half in
-    let stored : Lookup = finite.get (own_nodes half (nodes_of c.args.store.now)) in
-    let way : GoesBy {X = Bool} half stored c.in-Some.session.now (removal_stop_of half stored c.in-Some.session.now.state c.args.key.now)
-    (Err c.in_err-there.field-0.0) = rw (← c.new-filed.ensures.same) (c.in_err-there.ensures.way told) in
-    stopped_by half stored (λ (x : Draft) key. removal_stop_of half stored x.state key) c.in-Some.session.now d
-    (get_in numbered_cmp c.args.self.now c.args.id) c.args.key.now c.args.key.now (rw (← c.self.view_is) c.in-Some.ensures.value)
-    is refl _ _ c.in_err-there.field-0.0 c.from_residual.result c.from_residual.ensures.1 way
+pub returns-in_err-there-clause-goes : goal.returns-in_err-there-clause-goes
+returns-in_err-there-clause-goes g c = record {
+  -- what stops the map of the session that was lent stops the call
+  way = λ told d is.
+      let half = g.H.NodeHash.half in
+      let stored : Lookup = finite.get (own_nodes half (nodes_of c.args.store.now)) in
+      let way : GoesBy {X = Bool} half stored c.in-Some.session.now (removal_stop_of half stored c.in-Some.session.now.state c.args.key.now)
+      (Err c.in_err-there.field-0.0) = rw (← c.new-filed.ensures.same) (c.in_err-there.ensures.way told) in
+      stopped_by half stored (λ (x : Draft) key. removal_stop_of half stored x.state key) c.in-Some.session.now d
+      (get_in numbered_cmp c.args.self.now c.args.id) c.args.key.now c.args.key.now (rw (← c.self.view_is) c.in-Some.ensures.value)
+      is refl _ _ c.in_err-there.field-0.0 c.from_residual.result c.from_residual.ensures.1 way;
+  -- a session that was lent is open
+  shut = λ none.
+      absurd (not_both (get_in numbered_cmp c.args.self.now c.args.id) c.in-Some.session.now none
+      (rw (← c.self.view_is) (sym c.in-Some.ensures.value)));
+}
 
-pub returns-clause-way : goal.returns-clause-way
-returns-clause-way g c told d is =
-    let half = g.H.NodeHash.half in
-    let stored : Lookup = finite.get (own_nodes half (nodes_of c.args.store.now)) in
-    let way : GoesBy {X = Bool} half stored c.in-Some.session.now (removal_stop_of half stored c.in-Some.session.now.state c.args.key.now)
-    (Ok c.in_ok-there.there) = rw (← c.new-filed.ensures.same) (c.in_ok-there.ensures.way told) in
-    gone_by half stored (λ (x : Draft) key. removal_stop_of half stored x.state key) c.in-Some.session.now d
-    (get_in numbered_cmp c.args.self.now c.args.id) c.args.key.now c.args.key.now (rw (← c.self.view_is) c.in-Some.ensures.value)
-    is refl _ _ c.in_ok-there.there (Some c.in_ok-there.there) way
+pub returns-clause-goes : goal.returns-clause-goes
+returns-clause-goes g c = record {
+  way = λ told d is.
+      let half = g.H.NodeHash.half in
+      let stored : Lookup = finite.get (own_nodes half (nodes_of c.args.store.now)) in
+      let way : GoesBy {X = Bool} half stored c.in-Some.session.now (removal_stop_of half stored c.in-Some.session.now.state c.args.key.now)
+      (Ok c.in_ok-there.there) = rw (← c.new-filed.ensures.same) (c.in_ok-there.ensures.way told) in
+      gone_by half stored (λ (x : Draft) key. removal_stop_of half stored x.state key) c.in-Some.session.now d
+      (get_in numbered_cmp c.args.self.now c.args.id) c.args.key.now c.args.key.now (rw (← c.self.view_is) c.in-Some.ensures.value)
+      is refl _ _ c.in_ok-there.there (Some c.in_ok-there.there) way;
+  shut = λ none. tt;
+}
 
 -- the session's draft is the next one, over what the store holds
 pub returns-clause-changed : goal.returns-clause-changed
@@ -54,9 +63,3 @@ returns-clause-changed g c =
           ∙ ap (λ (m : ForActor Draft). set_in numbered_cmp m c.args.id c.remove.new.self) c.self.view_is,
       (c.in_ok-there.ensures.rest, removes),
     )
-
--- a session that was lent is open
-pub returns-in_err-there-clause-shut : goal.returns-in_err-there-clause-shut
-returns-in_err-there-clause-shut g c none =
-    absurd (not_both (get_in numbered_cmp c.args.self.now c.args.id) c.in-Some.session.now none
-    (rw (← c.self.view_is) (sym c.in-Some.ensures.value)))

@@ -17,8 +17,9 @@ invariant_of-self-2 g c =
     ((subst (λ (x : Desk). IsTrue g.Sh.B.Backend.tells → IsFit half x.state c.args.target.now c.args.header)
     (sym c.self.view_is) c.requires) told) in
     start_keeps half g.Sh.B.Backend.tells s c.self.inside.sessions c.open.new.self c.args.id d c.in_ok-open.ensures.ok
-    (λ told. (started half s c.args.target.now c.args.header d (fit told) c.open-session.ensures.base c.open-session.ensures.parent
-    (c.open-session.ensures.maps half (form_in s) c.known_half.ensures.size (fit told).whole)).0) c.self.invariant
+    (λ told. (started half s c.args.target.now c.args.header d (fit told) c.open-session.ensures.opened.base
+    c.open-session.ensures.opened.parent (c.open-session.ensures.maps half (form_in s) c.known_half.ensures.size (fit told).whole)).0)
+    c.self.invariant
 
 pub returns-clause-after : goal.returns-clause-after
 returns-clause-after g c told =
@@ -30,5 +31,5 @@ returns-clause-after g c told =
     ((subst (λ (x : Desk). IsTrue g.Sh.B.Backend.tells → IsFit half x.state c.args.target.now c.args.header)
     (sym c.self.view_is) c.requires) told) in
     rw (← c.self.view_is) (start_after half g.Sh.B.Backend.tells s c.self.inside.sessions c.open.new.self c.args.id d c.args.target.now told
-    c.in_ok-open.ensures.ok (started half s c.args.target.now c.args.header d fit c.open-session.ensures.base c.open-session.ensures.parent
-    (c.open-session.ensures.maps half (form_in s) c.known_half.ensures.size fit.whole)).1)
+    c.in_ok-open.ensures.ok (started half s c.args.target.now c.args.header d fit c.open-session.ensures.opened.base
+    c.open-session.ensures.opened.parent (c.open-session.ensures.maps half (form_in s) c.known_half.ensures.size fit.whole)).1)

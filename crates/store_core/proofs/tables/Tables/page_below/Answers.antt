@@ -29,12 +29,12 @@ returns-clause-page g c told =
     let s : State = c.args.self.now.state in
     let is : IsOver c.self.inside.store s = rw (← c.self.view_is) (record { nodes = refl; born = refl; epoch = refl }) in
     let held : AreHeld g.H.NodeHash.half g.Sh.B.Backend.tells (finite.get (own_nodes g.H.NodeHash.half (nodes_of c.self.inside.store)))
-    (held_nodes c.in-Ok.page.used.items) = rw (← c.new-filed.ensures.same) c.in-Ok.ensures.held in
+    (held_nodes c.in-Ok.page.used.items) = rw (← c.new-filed.ensures.same) c.in-Ok.ensures.tells.held in
     let own : IsTrue g.Sh.B.Backend.tells → items_in c.in-Ok.page.leaves.items ≡ after_key c.args.after.now c.from-most.result
     (items_of g.H.NodeHash.half (finite.get (own_nodes g.H.NodeHash.half (nodes_of c.self.inside.store))) c.args.kind c.args.root.now) =
-    rw (← c.new-filed.ensures.same) c.in-Ok.ensures.own in
+    rw (← c.new-filed.ensures.same) c.in-Ok.ensures.tells.own in
     let paged = is_page g.H.NodeHash.half c.self.inside.store s c.args.kind c.args.after.now c.from-most.result c.args.root.now
     g.Sh.B.Backend.tells c.in-Ok.page.leaves (held_nodes c.in-Ok.page.used.items) told is (c.requires.filed told) c.requires.kind
-    held own c.in-Ok.ensures.page c.in-Ok.ensures.maps.law in
+    held own c.in-Ok.ensures.tells.page c.in-Ok.ensures.tells.maps.law in
     subst (λ n. IsPage g.H.NodeHash.half s c.args.kind c.args.after.now n c.args.root.now (says.Page (pages.Items c.in-Ok.page.leaves))
     (held_nodes c.in-Ok.page.used.items)) c.from-most.ensures paged
