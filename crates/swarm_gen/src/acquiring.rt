@@ -5,8 +5,8 @@ ghost use Rattle.std.specs.List.{range_with_len, All};
 ghost use Rattle.ledger_machine.specs.declared.commands.Command.TheVariants as command;
 ghost use Rattle.swarm_gen.specs.Plans.{IsPlan};
 ghost use Rattle.swarm_gen.specs.Script.{says, lie_of, lies_for, lines_for, lines_for_all, opening_of, acquired, acquirer as acquirer_of};
-ghost use Rattle.swarm_gen.specs.Adding.{Adds, ledger_from};
-ghost use Rattle.swarm_gen.specs.Serving.{IsOfLedger};
+ghost use Rattle.swarm_gen.specs.Adding.{Adds, AddsLines, ledger_from};
+ghost use Rattle.swarm_gen.specs.Serving.{IsOfLedger, MayAsk, MaySend};
 ghost use Rattle.ledger_spec.specs.Bytes.{is_nonzero};
 
 use crate::Plan;
@@ -44,9 +44,7 @@ impl Lines {
         n: usize,
         sent: &Sent,
     ) -> Result<(), Memory>
-        requires plan { IsPlan plan.now }
-        requires actor { actor < 64 }
-        requires target { IsTrue (is_nonzero target) }
+        requires asks { MayAsk plan.now actor target }
         requires sent { IsOfLedger sent.now }
         ensures { OnOk result (Adds self.old self.new (map (says actor) (lies_for plan.now target n sent.now))) }
     {
@@ -79,9 +77,7 @@ impl Lines {
         n: usize,
         sent: Sent,
     ) -> Result<(), Memory>
-        requires plan { IsPlan plan.now }
-        requires actor { actor < 64 }
-        requires target { IsTrue (is_nonzero target) }
+        requires asks { MayAsk plan.now actor target }
         requires sent { IsOfLedger sent }
         ensures { OnOk result (Adds self.old self.new (map (says actor) (lines_for plan.now target n sent))) }
     {
@@ -111,9 +107,7 @@ impl Lines {
         first: usize,
         nodes: Vec<Sent>,
     ) -> Result<(), Memory>
-        requires plan { IsPlan plan.now }
-        requires actor { actor < 64 }
-        requires target { IsTrue (is_nonzero target) }
+        requires asks { MayAsk plan.now actor target }
         requires sent { All IsOfLedger nodes.items }
         requires few { first + vec_len nodes < 2 ^ 64 }
         ensures { OnOk result (Adds self.old self.new (map (says actor) (lines_for_all plan.now target first nodes.items))) }
@@ -169,16 +163,10 @@ impl Lines {
         waits: u32,
     ) -> Result<u32, Memory>
         requires plan { IsPlan plan.now }
-        requires seq { 1 ≤ head.seq }
-        requires few { vec_len state_nodes + vec_len tx_nodes < 2 ^ 64 }
-        requires target { IsTrue (is_nonzero head.hash) }
-        requires state { All IsOfLedger state_nodes.items }
-        requires tx { All IsOfLedger tx_nodes.items }
+        requires ledger { MaySend head state_nodes tx_nodes }
         requires earlier { waits ≤ length self.old }
-        ensures number { IfOk result (λ n. n ≡ length self.old
-            + length (acquired plan.now (ledger_from head state_nodes.items tx_nodes.items) waits)) }
-        ensures lines { OnOk result (Adds self.old self.new
-            (acquired plan.now (ledger_from head state_nodes.items tx_nodes.items) waits)) }
+        ensures { let more = acquired plan.now (ledger_from head state_nodes.items tx_nodes.items) waits in
+            AddsLines self.old self.new more (length self.old + length more) result }
     {
         let target = head.hash;
         let actor = acquirer(plan, head.seq);

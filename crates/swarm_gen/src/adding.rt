@@ -1,9 +1,9 @@
 //! The lines of one ledger: its acquirer's, then the reader's, and then the rotator's where a rotation is due.
-ghost use Rattle.std.specs.Prelude.{◌≡◌, ◌+◌, ◌<◌, ◌≤◌, ◌^◌, vec_len, length, map, if◌then◌else◌, IfOk, IsTrue, OnOk};
+ghost use Rattle.std.specs.Prelude.{◌+◌, ◌≤◌, length, map, if◌then◌else◌, IsTrue, OnOk};
 ghost use Rattle.swarm_gen.specs.Plans.{IsPlan};
 ghost use Rattle.swarm_gen.specs.Script.{get_line, reader_lines, rotation_lines, ledger_lines, next_waits, is_turn};
-ghost use Rattle.swarm_gen.specs.Adding.{Adds, ledger_from};
-ghost use Rattle.swarm_gen.specs.Serving.{IsOfLedger};
+ghost use Rattle.swarm_gen.specs.Adding.{Adds, AddsLines, ledger_from};
+ghost use Rattle.swarm_gen.specs.Serving.{MaySend};
 ghost use Rattle.ledger_spec.specs.Bytes.{is_nonzero};
 ghost use Rattle.std.specs.List.{All};
 
@@ -61,9 +61,8 @@ impl Lines {
     fn add_rotation(&mut self, plan: &Plan, seq: u32, last: u32) -> Result<u32, Memory>
         requires plan { IsPlan plan.now }
         requires earlier { last ≤ length self.old }
-        ensures earlier { IfOk result (λ n. n ≤ length self.new) }
-        ensures number { IfOk result (λ n. n ≡ (if is_turn plan.now seq then length self.old + 1 else last)) }
-        ensures lines { OnOk result (Adds self.old self.new (rotation_lines plan.now seq last)) }
+        ensures { let next = (if is_turn plan.now seq then length self.old + 1 else last) in
+            AddsLines self.old self.new (rotation_lines plan.now seq last) next result }
     {
         if seq <= 1 || (seq - 1) % plan.interval != 0 {
             return Ok(last);
@@ -87,17 +86,11 @@ impl Lines {
     ) -> Result<u32, Memory>
         requires keys { All (λ k. IsTrue (is_nonzero k)) keys.now }
         requires plan { IsPlan plan.now }
-        requires seq { 1 ≤ head.seq }
-        requires few { vec_len state_nodes + vec_len tx_nodes < 2 ^ 64 }
-        requires target { IsTrue (is_nonzero head.hash) }
-        requires state { All IsOfLedger state_nodes.items }
-        requires tx { All IsOfLedger tx_nodes.items }
+        requires ledger { MaySend head state_nodes tx_nodes }
         requires earlier { waits ≤ length self.old }
-        ensures earlier { IfOk result (λ n. n ≤ length self.new) }
-        ensures waits { IfOk result (λ n. n ≡
-            next_waits plan.now keys.now (ledger_from head state_nodes.items tx_nodes.items) (length self.old) waits) }
-        ensures lines { OnOk result (Adds self.old self.new
-            (ledger_lines plan.now keys.now (ledger_from head state_nodes.items tx_nodes.items) (length self.old) waits)) }
+        ensures { let ledger = ledger_from head state_nodes.items tx_nodes.items in
+            AddsLines self.old self.new (ledger_lines plan.now keys.now ledger (length self.old) waits)
+            (next_waits plan.now keys.now ledger (length self.old) waits) result }
     {
         let target = head.hash;
         let seq = head.seq;

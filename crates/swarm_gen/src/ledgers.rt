@@ -1,12 +1,10 @@
 //! The script of a plan, ledger by ledger. One map of account state goes from ledger to ledger, and is asked for what changed.
-ghost use Rattle.std.specs.Prelude.{◌≡◌, ◌-◌, ◌≤◌, [], true, length, IfOk, IsTrue};
+ghost use Rattle.std.specs.Prelude.{◌≡◌, ◌≤◌, [], length, IfOk, IsTrue};
 ghost use Rattle.std.specs.List.{All};
-ghost use Rattle.ledger_spec.specs.declared.Kind.TheVariants.{State};
 ghost use Rattle.ledger_spec.specs.Bytes.{is_nonzero};
 ghost use Rattle.swarm_gen.specs.Plans.{IsPlan};
-ghost use Rattle.swarm_gen.specs.Ledgers.{state_of, are_nonzero, is_made, hash_of_ledger};
-ghost use Rattle.swarm_gen.specs.Swarm.{nodes_before, swarm};
-ghost use Rattle.swarm_gen.specs.Standing.{IsAdded, IsShown};
+ghost use Rattle.swarm_gen.specs.Swarm.{swarm};
+ghost use Rattle.swarm_gen.specs.Standing.{IsBehind, IsDue};
 ghost use Rattle.map_changes.specs.Tracking.{leaves_in, items_in, shown_in};
 ghost use Rattle.script_form.specs.Servable.{AreServable};
 
@@ -37,22 +35,11 @@ fn add_next<H: NodeHash>(
     behind: &mut Behind,
     seq: u32,
 ) -> Result<bool, Memory>
-    requires plan { IsPlan plan.now }
-    requires seq { (1 ≤ seq) × (seq ≤ 200) }
-    requires leaves { leaves_in state.old ≡ State }
-    requires items { items_in state.old ≡ state_of H.half plan.now seq }
-    requires shown { shown_in H.half state.old ≡ nodes_before H.half plan.now seq }
-    requires nonzero { are_nonzero H.half (nodes_before H.half plan.now seq) ≡ true }
-    requires parent { behind.old.parent ≡ hash_of_ledger H.half plan.now (seq - 1) }
+    requires due { IsDue H.half plan.now seq behind.old.parent (leaves_in state.old) (items_in state.old) (shown_in H.half state.old) }
     requires keys { All (λ k. IsTrue (is_nonzero k)) keys.now }
     requires earlier { behind.old.waits ≤ length lines.old }
-    ensures earlier { IfOk result (λ _. behind.new.waits ≤ length lines.new) }
-    ensures made { IfOk result (λ more. more ≡ is_made H.half plan.now seq) }
-    ensures lines { IfOk result (λ more.
-        IsAdded H.half plan.now keys.now seq more lines.old lines.new behind.old.waits behind.new.waits) }
-    ensures parent { IfOk result (λ more. more ≡ true → behind.new.parent ≡ hash_of_ledger H.half plan.now seq) }
-    ensures state { IfOk result (λ more. more ≡ true
-        → IsShown H.half plan.now seq (leaves_in state.new) (items_in state.new) (shown_in H.half state.new)) }
+    ensures { IfOk result (λ more. IsBehind H.half plan.now keys.now seq more lines.old lines.new behind.old behind.new
+        (leaves_in state.new) (items_in state.new) (shown_in H.half state.new)) }
 {
     let Some(next) = next_ledger::<H>(alloc, plan, state, behind.parent, seq)? else {
         return Ok(false);

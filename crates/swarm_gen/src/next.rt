@@ -1,13 +1,11 @@
 //! The next ledger, as it is sent: its header over the state's root and that of four transactions, and of both maps the nodes that are
 //! others than in the ledger before.
-ghost use Rattle.std.specs.Prelude.{◌&&◌, ◌≡◌, ◌-◌, ◌≤◌, [], true, false, map, IfOk, IfSome, IsTrue, OnOk, MatchOption};
+ghost use Rattle.std.specs.Prelude.{◌&&◌, ◌≡◌, [], true, false, map, IfOk, IfSome, OnOk, MatchOption};
 ghost use Rattle.std.specs.List.{list_all, All};
 ghost use Rattle.ledger_spec.specs.declared.Kind.TheVariants.{State, Tx};
 ghost use Rattle.ledger_spec.specs.Bytes.{is_nonzero};
-ghost use Rattle.swarm_gen.specs.Plans.{IsPlan};
-ghost use Rattle.swarm_gen.specs.Ledgers.{state_of, txs_of, state_nodes, are_nonzero, is_made, hash_of_ledger};
-ghost use Rattle.swarm_gen.specs.Swarm.{nodes_before, ledger_of};
-ghost use Rattle.swarm_gen.specs.Adding.{ledger_from};
+ghost use Rattle.swarm_gen.specs.Ledgers.{state_of, txs_of, state_nodes, are_nonzero, is_made};
+ghost use Rattle.swarm_gen.specs.Standing.{IsDue, IsNext, IsUnshown};
 ghost use Rattle.swarm_gen.specs.Changed.{IsChange};
 ghost use Rattle.swarm_gen.specs.Sending.{sent as sent_as, below};
 ghost use Rattle.map_changes.specs.Tracking.{leaves_in, items_in, shown_in};
@@ -128,9 +126,7 @@ fn take_all<H: NodeHash>(
     state: &mut TrackedMap<H>,
     seq: u32,
 ) -> Result<Option<Changes>, Memory>
-    requires leaves { leaves_in state.old ≡ State }
-    requires items { items_in state.old ≡ state_of H.half plan.now seq }
-    requires shown { shown_in H.half state.old ≡ nodes_before H.half plan.now seq }
+    requires { IsUnshown H.half plan.now seq (leaves_in state.old) (items_in state.old) (shown_in H.half state.old) }
     ensures made { IfOk result (λ changes. MatchOption changes (is_made H.half plan.now seq ≡ false)
         (λ c. IsChange H.half plan.now seq c.state_root c.tx_root c.state_nodes.items c.tx_nodes.items)) }
     ensures leaves { OnOk result (leaves_in state.new ≡ State) }
@@ -162,22 +158,12 @@ pub(crate) fn next_ledger<H: NodeHash>(
     parent: Hash32,
     seq: u32,
 ) -> Result<Option<Next>, Memory>
-    requires plan { IsPlan plan.now }
-    requires seq { (1 ≤ seq) × (seq ≤ 200) }
-    requires leaves { leaves_in state.old ≡ State }
-    requires items { items_in state.old ≡ state_of H.half plan.now seq }
-    requires shown { shown_in H.half state.old ≡ nodes_before H.half plan.now seq }
-    requires nonzero { are_nonzero H.half (nodes_before H.half plan.now seq) ≡ true }
-    requires parent { parent ≡ hash_of_ledger H.half plan.now (seq - 1) }
-    ensures made { IfOk result (λ next. MatchOption next (is_made H.half plan.now seq ≡ false)
-        (λ n. (is_made H.half plan.now seq ≡ true)
-        × (ledger_from n.head n.state_nodes.items n.tx_nodes.items ≡ ledger_of H.half plan.now seq))) }
+    requires { IsDue H.half plan.now seq parent (leaves_in state.old) (items_in state.old) (shown_in H.half state.old) }
+    ensures made { IfOk result (λ next. MatchOption next (is_made H.half plan.now seq ≡ false) (IsNext H.half plan.now seq)) }
     ensures leaves { OnOk result (leaves_in state.new ≡ State) }
     ensures items { OnOk result (items_in state.new ≡ state_of H.half plan.now seq) }
     ensures shown { IfOk result (λ next. IfSome next (λ _. (shown_in H.half state.new ≡ state_nodes H.half plan.now seq)
         × (are_nonzero H.half (state_nodes H.half plan.now seq) ≡ true))) }
-    ensures ranges { IfOk result (λ next. IfSome next (λ n. IsTrue (is_nonzero n.head.hash)
-        × All IsOfLedger n.state_nodes.items × All IsOfLedger n.tx_nodes.items)) }
 {
     let Some(changes) = take_all::<H>(alloc, plan, state, seq)? else {
         return Ok(None);

@@ -2,7 +2,6 @@
 //! and what each next ledger sets.
 ghost use Rattle.std.specs.Prelude.{◌==◌, ◌≡◌, ◌+◌, ◌-◌, ◌%◌, ◌≤◌, [], ◌∷◌, ◌++◌, if◌then◌else◌, length, IfOk, IsTrue, OnOk};
 ghost use Rattle.std.specs.List.{All};
-ghost use Rattle.ledger_spec.specs.declared.Kind.TheVariants.{State};
 ghost use Rattle.ledger_spec.specs.Bytes.{is_zero, is_nonzero};
 ghost use Rattle.ledger_spec.specs.Maps.{hash_cmp, insert_in};
 ghost use Rattle.ledger_spec.specs.Forms.{data_limit};
@@ -10,6 +9,7 @@ ghost use Rattle.cow_map.specs.Gathered.{entries_of};
 ghost use Rattle.swarm_gen.specs.Plans.{IsPlan};
 ghost use Rattle.swarm_gen.specs.Ledgers.{key as key_of, eight, owners_of, state_of};
 ghost use Rattle.swarm_gen.specs.Swarm.{read_keys as keys_read};
+ghost use Rattle.swarm_gen.specs.Standing.{IsUnshown, KeepsShown};
 ghost use Rattle.map_changes.specs.Tracking.{leaves_in, items_in, shown_in};
 
 use crate::Plan;
@@ -61,10 +61,9 @@ pub(crate) fn set_number<H: NodeHash>(
     key: Hash32,
     n: u64,
 ) -> Result<(), Memory>
-    ensures leaves { OnOk result (leaves_in map.new ≡ leaves_in map.old) }
+    ensures rest { OnOk result (KeepsShown H.half map.old map.new) }
     ensures items { OnOk result (items_in map.new
         ≡ (if is_zero key then items_in map.old else insert_in hash_cmp (items_in map.old) key (eight n))) }
-    ensures shown { OnOk result (shown_in H.half map.new ≡ shown_in H.half map.old) }
 {
     let data = Blob::from_slice(alloc, &n.to_be_bytes())?;
     match Item::new(key, data) {
@@ -109,8 +108,7 @@ pub(crate) fn first_state<H: NodeHash>(
     owners: &BTreeMap<Hash32, u32>,
 ) -> Result<TrackedMap<H>, Memory>
     requires { owners.now.entries ≡ owners_of H.half plan.now }
-    ensures { IfOk result (λ state. (leaves_in state ≡ State) × (items_in state ≡ state_of H.half plan.now 1)
-        × (shown_in H.half state ≡ [])) }
+    ensures { IfOk result (λ state. IsUnshown H.half plan.now 1 (leaves_in state) (items_in state) (shown_in H.half state)) }
 {
     let mut items = Vec::new(alloc);
     for (key, _) in owners {
@@ -143,9 +141,8 @@ pub(crate) fn advance<H: NodeHash>(
     requires owners { owners.now.entries ≡ owners_of H.half plan.now }
     requires seq { 2 ≤ seq }
     requires items { items_in state.old ≡ state_of H.half plan.now (seq - 1) }
-    ensures leaves { OnOk result (leaves_in state.new ≡ leaves_in state.old) }
+    ensures rest { OnOk result (KeepsShown H.half state.old state.new) }
     ensures items { OnOk result (items_in state.new ≡ state_of H.half plan.now seq) }
-    ensures shown { OnOk result (shown_in H.half state.new ≡ shown_in H.half state.old) }
 {
     for (key, item) in owners {
         set_where_due::<H>(alloc, state, *key, *item, seq)?;
@@ -161,11 +158,10 @@ fn set_where_due<H: NodeHash>(
     item: u32,
     seq: u32,
 ) -> Result<(), Memory>
-    ensures leaves { OnOk result (leaves_in state.new ≡ leaves_in state.old) }
+    ensures rest { OnOk result (KeepsShown H.half state.old state.new) }
     ensures items { OnOk result (items_in state.new ≡ (if (item + seq) % 97 == 0
         then (if is_zero key then items_in state.old else insert_in hash_cmp (items_in state.old) key (eight seq))
         else items_in state.old)) }
-    ensures shown { OnOk result (shown_in H.half state.new ≡ shown_in H.half state.old) }
 {
     if (u64::from(item) + u64::from(seq)) % CHANGED == 0 {
         set_number::<H>(alloc, state, key, u64::from(seq))?;

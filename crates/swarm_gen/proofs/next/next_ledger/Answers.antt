@@ -1,4 +1,4 @@
-use Rattle.std.proofs.Common.{◌++◌, ap, sym, ◌∙◌}
+use Rattle.std.proofs.Common.{◌++◌, ap, sym, ◌∙◌, rules}
 use Rattle.std.specs.Prelude.{◌&&◌}
 use Rattle.std.specs.List.{list_all}
 use Rattle.ledger_spec.specs.Bytes.{Bytes, is_nonzero}
@@ -56,15 +56,18 @@ returns-clause-made g c =
     } in
     let made = made_where half plan seq x.state_root x.tx_root x.state_nodes.items x.tx_nodes.items c.hash-hash.result known in
     let fine = c.is_fine.ensures ∙ (λ i. list_all (λ (p : PlacedNode). is_nonzero p.hash) (c.deref.ensures.value i)
-    && list_all (λ (p : PlacedNode). is_nonzero p.hash) (c.deref-2.ensures.value i) && is_nonzero c.hash-hash.result) in (
-      made ∙ sym fine ∙ c.if-not-is_fine.false,
-      ap (λ (h : Head). ledger_from h c.in_ok-next_of.field-0.state_nodes.items c.in_ok-next_of.field-0.tx_nodes.items)
+    && list_all (λ (p : PlacedNode). is_nonzero p.hash) (c.deref-2.ensures.value i) && is_nonzero c.hash-hash.result) in record {
+      made = made ∙ sym fine ∙ c.if-not-is_fine.false;
+      ledger = ap (λ (h : Head). ledger_from h c.in_ok-next_of.field-0.state_nodes.items c.in_ok-next_of.field-0.tx_nodes.items)
           c.in_ok-next_of.ensures.head
-          ∙ ledger_is half plan seq x.state_root x.tx_root x.state_nodes.items x.tx_nodes.items c.hash-hash.result c.in_ok-from_slice.field-0
-          c.in_ok-next_of.field-0.state_nodes.items c.in_ok-next_of.field-0.tx_nodes.items known
+          ∙ ledger_is half plan seq x.state_root x.tx_root x.state_nodes.items x.tx_nodes.items c.hash-hash.result
+          c.in_ok-from_slice.field-0 c.in_ok-next_of.field-0.state_nodes.items c.in_ok-next_of.field-0.tx_nodes.items known
           (c.in_ok-from_slice.ensures ∙ c.encode.ensures.bytes ∙ bytes ∙ header_at half plan seq c.args.parent c.requires.parent)
-          c.in_ok-next_of.ensures.state c.in_ok-next_of.ensures.tx,
-    )
+          c.in_ok-next_of.ensures.state c.in_ok-next_of.ensures.tx;
+      target = search rules;
+      state = c.in_ok-next_of.ensures.maps.0;
+      tx = c.in_ok-next_of.ensures.maps.1;
+    }
 
 -- the changes were taken, so all nodes of the state are shown, and in a ledger that is made none has the zero hash
 pub returns-clause-shown : goal.returns-clause-shown

@@ -17,13 +17,13 @@ returns-clause-made g c =
     let x = c.in_ok-txs.ensures in
     let n = c.in_ok-state_nodes.ensures in
     let m = c.in_ok-tx_nodes.ensures in record {
-      some_state = not_empty_as _ (state_of half plan seq) (n.items ∙ c.requires.items) s.0;
+      some_state = not_empty_as _ (state_of half plan seq) (n.items ∙ c.requires.is_state) s.0;
       some_tx = not_empty_as _ (txs_of half plan seq) (m.items ∙ x.1) t.0;
       state_root = root_as half _ State _ (state_of half plan seq) c.in-Some.state_root (n.kind ∙ c.requires.leaves)
-          (n.items ∙ c.requires.items) s.1;
+          (n.items ∙ c.requires.is_state) s.1;
       tx_root = root_as half _ Tx _ (txs_of half plan seq) c.in-Some-2.tx_root (m.kind ∙ x.0) (m.items ∙ x.1) t.1;
       state_changes = c.in_ok-state_nodes.ensures.nodes ∙ nodes_as half _ (nodes_before half plan seq) _ State _ (state_of half plan seq)
-          c.requires.shown c.requires.leaves c.requires.items;
+          c.requires.nodes c.requires.leaves c.requires.is_state;
       tx_changes = c.in_ok-tx_nodes.ensures.nodes ∙ nodes_as half _ [] _ Tx _ (txs_of half plan seq) x.2 x.0 x.1;
     }
 
@@ -31,4 +31,4 @@ returns-clause-made g c =
 pub returns-clause-shown : goal.returns-clause-shown
 returns-clause-shown g c =
     let half = g.H.NodeHash.half in
-    c.in_ok-state_nodes.ensures.shown ∙ (λ i. nodes_of half (c.requires.leaves i) (c.requires.items i))
+    c.in_ok-state_nodes.ensures.shown ∙ (λ i. nodes_of half (c.requires.leaves i) (c.requires.is_state i))

@@ -19,8 +19,8 @@ loop-m-preserved g c =
     let f : ℕ → Entry = λ n. (key half c.args.plan.now (4294967296 + 16 * c.args.seq + n), eight n) in
     let k = c.key-key.ensures ∙ ap (λ x. key half c.args.plan.now (4294967296 + 16 * x + m)) c.from.ensures in
     record {
-      leaves = s.leaves ∙ i.leaves;
+      leaves = s.rest.leaves ∙ i.leaves;
       items = s.items ∙ (λ j. if is_zero (k j) then i.items j else insert_in hash_cmp (i.items j) (k j) (eight m))
           ∙ sym (map_from_more [] (map f (range_with_len 0 m)) (f m)) ∙ ap (map_from []) (mapped_more f m);
-      shown = s.shown ∙ i.shown;
+      shown = s.rest.shown ∙ i.shown;
     }

@@ -39,11 +39,11 @@ loop-key-preserved g c =
     let before = i.items ∙ ap (λ (x : List (Hash × ℕ)). map (on (data_in seq)) ys ++ map (on (data_in (seq - 1))) x)
     c.in-Some.ensures.steps in
     record {
-      leaves = s.leaves ∙ i.leaves;
+      leaves = s.rest.leaves ∙ i.leaves;
       items = advance_step half plan seq ys rest c.in-Some.key.now c.in-Some.item.now _ _ c.requires.seq (sym c.requires.owners ∙ split)
           sorted before s.items
           ∙ ap (λ (x : List (Hash × ℕ)). map (on (data_in seq)) x ++ map (on (data_in (seq - 1))) rest) (sym more);
-      shown = s.shown ∙ i.shown;
+      shown = s.rest.shown ∙ i.shown;
       split = ap (λ (x : List (Hash × ℕ)). x ++ rest) more ∙ split_on c.args.owners.now.entries ys rest e split;
     }
 

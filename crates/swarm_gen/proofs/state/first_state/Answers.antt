@@ -2,10 +2,14 @@ use Rattle.std.proofs.Common.{◌≡◌, ℕ, ◌++◌, ◌∷◌, List, [], map
 use Rattle.std.specs.Prelude.{if◌then◌else◌}
 use Rattle.std.specs.Map.Iter.{deref_pair}
 use Rattle.std.proofs.lemmas.List.{map-append}
-use Rattle.ledger_spec.specs.Bytes.{Bytes, Hash, is_nonzero}
+use Rattle.ledger_spec.specs.declared.Kind.TheVariants.{State}
+use Rattle.ledger_spec.specs.Bytes.{Bytes, Half, Hash, is_nonzero}
 use Rattle.ledger_spec.specs.Maps.{hash_cmp, IsMap}
 use Rattle.ledger_spec.specs.Tree.{Entry}
 use Rattle.cow_map.specs.Gathered.{entries_of}
+use Rattle.map_changes.specs.Tracking.{Tracking, leaves_in, items_in, shown_in}
+use Rattle.swarm_gen.specs.declared.plan.Plan.{Plan}
+use Rattle.swarm_gen.specs.Standing.{IsUnshown}
 use Rattle.swarm_gen.specs.Ledgers.{eight, state_of}
 use Rattle.swarm_gen.proofs.Owners.{on, data_in, state_is, first_step, sorted_mapped, split_more, split_on, split_end}
 use Rattle.swarm_gen.proofs.state.first_state.Goals as goal
@@ -42,10 +46,11 @@ from_sorted-requires-after_bounds g c alive here =
     subst (λ (es : List Entry). IsMap hash_cmp es) (sym (i.items ∙ ap (map (on (data_in 1))) all))
     (sorted_mapped (data_in 1) c.args.owners.now.entries c.into_iter-key-iterator.ensures.into_iter_gives.5)
 
-both : {A E : Type 0} (r : Result A E) (P Q S T : A → Type 0) → IfOk r P → IfOk r Q → IfOk r S → ((x : A) → Q x → T x)
-    → IfOk r (λ x. P x × T x × S x)
-both (Ok x) P Q S T p q s f = (p, f x q, s)
-both (Err e) P Q S T p q s f = tt
+unshown : {E : Type 0} (half : Half) (plan : Plan) (r : Result Tracking E) (entries : List Entry) → entries ≡ state_of half plan 1
+    → IfOk r (λ m. leaves_in m ≡ State) → IfOk r (λ m. items_in m ≡ entries) → IfOk r (λ m. shown_in half m ≡ [])
+    → IfOk r (λ m. IsUnshown half plan 1 (leaves_in m) (items_in m) (shown_in half m))
+unshown half plan (Ok m) entries is leaves items shown = record { leaves = leaves; is_state = items ∙ is; nodes = shown }
+unshown half plan (Err e) entries is leaves items shown = tt
 
 -- no owner is left, so each has ledger 1's data, and an account state is just the owners with their data
 pub returns : goal.returns
@@ -57,4 +62,5 @@ returns g c =
     c.in-None.ensures.steps.0 in
     let is : entries_of c.loop-key.items.items ≡ state_of half plan 1 =
     i.items ∙ ap (map (on (data_in 1))) (all ∙ c.requires) ∙ sym (state_is half plan 1) in
-    both c.from_sorted.result _ _ _ _ c.from_sorted.ensures.kind c.from_sorted.ensures.items c.from_sorted.ensures.shown (λ m told. told ∙ is)
+    unshown half plan c.from_sorted.result (entries_of c.loop-key.items.items) is c.from_sorted.ensures.kind c.from_sorted.ensures.items
+    c.from_sorted.ensures.shown
