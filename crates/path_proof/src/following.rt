@@ -1,5 +1,5 @@
 //! What a path of nodes says of a key. It is asked of nobody: who has the root and the path can judge the answer.
-ghost use Rattle.std.specs.Prelude.{◌≡◌, ◌≢◌, IfSome, [], ◌∷◌, if◌then◌else◌, length, List, ℕ, Some};
+ghost use Rattle.std.specs.Prelude.{◌≡◌, ◌≢◌, IfSome, [], ◌∷◌, Some};
 ghost use Rattle.std.specs.Option.{option_map};
 ghost use Rattle.ledger_spec.specs.Reads as spec;
 ghost use Rattle.ledger_spec.specs.Reads.{IsKey, AreNodes, AnswersOrShows};

@@ -1,6 +1,5 @@
 //! Reads of a key in the map below a root, over a source that gives nodes by their hashes.
-ghost use Rattle.std.specs.Prelude.{◌≡◌, ◌≢◌, IfErr, IfOk, IsTrue, Some, take};
-ghost use Rattle.nib_path.specs.Paths.{nibbles};
+ghost use Rattle.std.specs.Prelude.{◌≡◌, ◌≢◌, IfErr, IfOk, IsTrue, Some};
 ghost use Rattle.std.specs.FinMap as map;
 ghost use Rattle.ledger_spec.specs.Reads as spec;
 ghost use Rattle.ledger_spec.specs.Reads.{AreNodes, AnswersOrShows};

@@ -1,5 +1,5 @@
 //! A read on its way. It asks no source itself: it says which hash it wants, and goes on by what was given for it.
-ghost use Rattle.std.specs.Prelude.{◌≡◌, ◌<◌, false, Err, None, IfErr, IfOk, IsTrue, ℕ, Bool, List, Option, take};
+ghost use Rattle.std.specs.Prelude.{◌≡◌, ◌<◌, false, Err, None, IfErr, IfOk, ℕ, Bool, List, Option, take};
 ghost use Rattle.nib_path.specs.Paths.{nibbles};
 ghost use Rattle.ledger_spec.specs.Bytes.{Lookup, is_zero};
 ghost use Rattle.ledger_spec.specs.declared.Kind.{Kind};
@@ -9,7 +9,7 @@ ghost use Rattle.shamap_node.specs.Nodes.{held, hashes_above};
 ghost use Rattle.path_proof.specs.Paths.{held_nodes, last_branches, IsAbove};
 ghost use Rattle.path_proof.specs.Sources.{Gives, Holds, HasHash};
 ghost use Rattle.path_proof.specs.Ways.{Ends, Fits};
-ghost use Rattle.path_proof.specs.Progressing.{Comes, IsFetched, IsOnWay, levels_left, wanted_by, StaysBelow};
+ghost use Rattle.path_proof.specs.Progressing.{Comes, IsFetched, IsOnWay, wanted_by, StaysBelow};
 
 use crate::FetchFault;
 use crate::answer::{Answer, ReadFault};

@@ -1,7 +1,6 @@
 //! The commands that acquire a ledger from peers. Each is answered by the acquisition that is open under the target.
-ghost use Rattle.std.specs.Prelude.{◌≡◌, ◌<◌, ◌∷◌, [], ℕ, None, IsTrue, IsSome, OnOk, OnErr, IfOk};
+ghost use Rattle.std.specs.Prelude.{◌≡◌, ◌<◌, ◌∷◌, [], None, IsTrue, IsSome, OnOk, OnErr, IfOk};
 ghost use Rattle.std.specs.List.{Contains};
-ghost use Rattle.run_io.specs.Bytes.{Rose};
 ghost use Rattle.std.specs.Option.{option_copied};
 ghost use Rattle.ledger_spec.specs.Bytes.{is_nonzero};
 ghost use Rattle.ledger_spec.specs.Maps.{hash_cmp, get_in};
@@ -18,9 +17,7 @@ ghost use Rattle.ledger_machine.specs.Check.{check_reply, after_check};
 ghost use Rattle.ledger_machine.specs.Ticks.{tick_reply, after_tick};
 ghost use Rattle.ledger_machine.specs.Rotation.{Tells};
 ghost use Rattle.ledger_machine.specs.Steps.{IsAfter};
-ghost use Rattle.ledger_machine.specs.Steps.{Does};
 ghost use Rattle.store_core.specs.Desks.{AsksNoStore, IsFiled, Stays, Grows, KeepsRest, WantsMemory};
-ghost use Rattle.store_core.specs.Refusals.{IsRefusal};
 ghost use Rattle.store_core.specs.Commands.{TellsRoot};
 ghost use Rattle.store_core.specs.Telling.{Hears};
 ghost use Rattle.store_core.specs.Wanting.{judged_by, found_seq as seq_found, settled, told_at};

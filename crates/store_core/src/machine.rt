@@ -1,5 +1,5 @@
 //! The machine with the open edit sessions beside it: each command is the machine's, the sessions', or one of both.
-ghost use Rattle.std.specs.Prelude.{◌≡◌, ◌<◌, ◌^◌, [], IsTrue, IfOk, MatchOption, OnErr, length, map};
+ghost use Rattle.std.specs.Prelude.{◌≡◌, ◌<◌, ◌^◌, [], IsTrue, IfOk, MatchOption, length, map};
 ghost use Rattle.std.specs.FinMap as finite;
 ghost use Rattle.std.specs.Option.{option_copied};
 ghost use Rattle.rotating_store.specs.Stores.{merged};
@@ -13,7 +13,7 @@ ghost use Rattle.ledger_machine.specs.Steps.{own_hashes};
 ghost use Rattle.ledger_machine.specs.Views.{is_retained as state_retains, view_reply, after_view};
 ghost use Rattle.store_core.specs.Commands.{IsNoCheck, IsOfSessions, TellsRoot};
 ghost use Rattle.store_core.specs.Checking.{AreKept, HasFound};
-ghost use Rattle.store_core.specs.Desks.{IsFiled, Stays, over, WantsMemory};
+ghost use Rattle.store_core.specs.Desks.{IsFiled, over, WantsMemory};
 ghost use Rattle.store_core.specs.Dumping.{GivesNext};
 ghost use Rattle.store_core.specs.Reads.{GivesForm, GivesNode};
 ghost use Rattle.store_core.specs.Serving.{Acts, Answers, LeavesMore, MayServe, Seeks, Steps};

@@ -1,5 +1,5 @@
 //! Views, which pin a ledger under a number of an actor's, and reads of them.
-ghost use Rattle.std.specs.Prelude.{◌≡◌, ◌≢◌, IsTrue, OnErr, IfErr, IfOk};
+ghost use Rattle.std.specs.Prelude.{◌≡◌, ◌≢◌, IsTrue, IfErr, IfOk};
 ghost use Rattle.std.specs.FinMap as map;
 ghost use Rattle.rotating_store.specs.Reading.{WasRead};
 ghost use Rattle.path_proof.specs.Sources.{LeavesSource, RoseIf};

@@ -1,7 +1,7 @@
-use Rattle.std.proofs.Common.{◌≡◌, List, Option, None, refl, ap, take, arith, subst, ◌∙◌}
+use Rattle.std.proofs.Common.{List, Option, None, refl, ap, take, arith, subst, ◌∙◌}
 use Rattle.nib_path.specs.Paths.{nibbles}
 use Rattle.ledger_spec.specs.Bytes.{Hash}
-use Rattle.shamap_node.specs.Nodes.{held, hashes_above}
+use Rattle.shamap_node.specs.Nodes.{held}
 use Rattle.std.specs.declared.alloc.Global.{Global}
 use Rattle.std.specs.declared.sync.Arc.{Arc}
 use Rattle.shamap_node.specs.declared.Node.{Node}
