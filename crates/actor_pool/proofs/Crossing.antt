@@ -23,10 +23,10 @@ use Rattle.acquire_core.specs.contracts.acquire.Acquire as Acquire
 use Rattle.online_rotate.specs.contracts.rotator.Rotator as Rotator
 use Rattle.retain_book.specs.contracts.Book as Book
 use Rattle.open_sessions.specs.contracts.open.Open as Open
-use Rattle.store_core.specs.contracts.tables.Tables as Tables
-use Rattle.store_core.specs.contracts.tables.Tables.TheInside as TablesIn
-use Rattle.store_core.specs.contracts.machine.Machine as Machine
-use Rattle.store_core.specs.contracts.machine.Machine.TheInside as MachineIn
+use Rattle.core_machine.specs.contracts.tables.Tables as Tables
+use Rattle.core_machine.specs.contracts.tables.Tables.TheInside as TablesIn
+use Rattle.core_machine.specs.contracts.machine.Machine as Machine
+use Rattle.core_machine.specs.contracts.machine.Machine.TheInside as MachineIn
 use Rattle.store_core.specs.contracts.hall.Hall as Hall
 use Rattle.store_core.specs.contracts.hall.Hall.TheInside as HallIn
 use Rattle.store_core.specs.contracts.core_calls.Core as Core

@@ -25,7 +25,7 @@ use Rattle.log_shelf.specs.Rooms.{Files}
 use Rattle.log_shelf.specs.Recovery.{IsRecovered}
 use Rattle.log_recovery.specs.Records.{is_record, AreRecovered}
 use Rattle.store_core.specs.Journal.{CoreView, IsJournal}
-use Rattle.store_core.specs.Retaining.{AreRetained}
+use Rattle.core_machine.specs.Retaining.{AreRetained}
 use Rattle.stop_run.specs.Leaving.{HoldsForms}
 use Rattle.stop_run.specs.Opening.{IsReopened, complete_in}
 use Rattle.stop_run.specs.Looking.{line_with, lines_behind, lines_for, is_unlucky, is_unlucky_entry, AreLucky}

@@ -39,7 +39,7 @@ use Rattle.ledger_machine.specs.Steps.{Outcomes, Gives, IsAfter}
 use Rattle.ledger_machine.specs.Want.{want_reply, after_want}
 use Rattle.ledger_laws.proofs.shared.SoundCheck.{get_inserted}
 use Rattle.ledger_laws.proofs.shared.SoundForms.{some_same, in_head, in_tail}
-use Rattle.store_core.specs.Totals.{completes, is_complete}
+use Rattle.core_machine.specs.Totals.{completes, is_complete}
 use Rattle.stop_run.specs.Looking.{line_with, lines_behind, is_unlucky, AreLucky}
 
 -- what can't be

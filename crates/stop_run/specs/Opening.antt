@@ -7,8 +7,8 @@ use Rattle.ledger_machine.specs.Runs.{IsFull, opening_of}
 use Rattle.ledger_machine.specs.Sound.{IsWholeLedger}
 use Rattle.ledger_machine.specs.State.{form_in}
 use Rattle.store_core.specs.Journal.{CoreView, IsJournal}
-use Rattle.store_core.specs.Retaining.{AreRetained}
-use Rattle.store_core.specs.Totals.{is_complete}
+use Rattle.core_machine.specs.Retaining.{AreRetained}
+use Rattle.core_machine.specs.Totals.{is_complete}
 use Rattle.stop_run.specs.Looking.{lines_for, AreLucky}
 
 -- how many replies of a core's journal are `complete`

@@ -27,18 +27,19 @@ use Rattle.ledger_machine.specs.Runs.{is_answered, next_line, IsDone, IsBlocked}
 use Rattle.ledger_machine.specs.State.{State}
 use Rattle.ledger_machine.specs.Commands.{MayBeRefused}
 use Rattle.node_backend.specs.declared.back.BackFault.TheVariants as back
-use Rattle.store_core.specs.Desks.{Desk}
-use Rattle.store_core.specs.Commands.{IsQuiet}
+use Rattle.core_machine.specs.Desks.{Desk}
+use Rattle.core_machine.specs.Commands.{IsQuiet}
 use Rattle.store_core.specs.Halls.{AreViews, root_by}
-use Rattle.store_core.specs.Serving.{Serves}
+use Rattle.core_machine.specs.Serving.{Serves}
 use Rattle.store_core.specs.Jobs.{job_for, job_in, free_line, if_free, IsTaken, IfSays, TakesIn}
 use Rattle.store_core.specs.Reads.{IsReplied}
-use Rattle.store_core.specs.Telling.{AreTold}
+use Rattle.core_machine.specs.Telling.{AreTold}
 use Rattle.store_core.specs.declared.jobs.ReadJob.{ReadJob}
 use Rattle.store_core.specs.declared.jobs.View.{View}
 use Rattle.store_core.proofs.Pinning.{roots_same}
 use Rattle.store_core.proofs.Waiting.{next_left, blocked_at}
-use Rattle.store_core.proofs.Serving.{step_got, serves_refused, reads_self}
+use Rattle.core_machine.proofs.shared.Serving.{serves_refused}
+use Rattle.store_core.proofs.Serving.{step_got, reads_self}
 
 -- the jobs of roots that agree agree
 job_same : (f g : Kind → ℕ × ℕ → Option Hash) (a n : ℕ) (c : Command) → ((kind : Kind) (v : ℕ × ℕ) → f kind v ≡ g kind v)

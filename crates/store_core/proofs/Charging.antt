@@ -28,7 +28,7 @@ use Rattle.ledger_machine.specs.Base.{base_reply, after_base, node_reply, node_f
 use Rattle.ledger_machine.specs.Steps.{Step, Refused, Gives}
 use Rattle.ledger_laws.proofs.shared.SoundSteps.{outcome_cases}
 use Rattle.ledger_laws.proofs.shared.Receipts.{base_present, node_present}
-use Rattle.store_core.proofs.States.{set_same}
+use Rattle.core_machine.proofs.shared.States.{set_same}
 
 -- what is stored is no part of the acquisitions
 form_wanted : (half : Half) (s : State) (form : Bytes) → (with_form half s form).wanted ≡ s.wanted

@@ -24,14 +24,14 @@ use Rattle.ledger_machine.specs.Scripts.{numbers_of, line_of}
 use Rattle.script_form.specs.Servable.{AreServable}
 use Rattle.ledger_machine.specs.Sound.{Sound}
 use Rattle.ledger_machine.specs.Rotation.{AreShaded}
-use Rattle.store_core.specs.Telling.{AreTold}
+use Rattle.core_machine.specs.Telling.{AreTold}
 use Rattle.ledger_laws.proofs.shared.Openings.{records_are_sound}
 use Rattle.ledger_laws.proofs.shared.Sweeping.{all_swaps_keep}
 use Rattle.ledger_machine.specs.Swaps.{AllSwapsKeep}
 use Rattle.ledger_laws.proofs.shared.RunLaws.{run_more}
 use Rattle.ledger_machine.specs.Runs.{IsDone, is_answered, next_line}
 use Rattle.run_io.specs.Bytes.{Rose}
-use Rattle.store_core.specs.Desks.{KeepsRest}
+use Rattle.core_machine.specs.Desks.{KeepsRest}
 use Rattle.store_core.specs.Journal.{CoreKeeps, IsNext, RoseBy, faults_in, fault_count}
 use Rattle.store_core.proofs.Finding.{rising, line_there}
 use Rattle.store_core.proofs.Waiting.{read_at, next_left, next_at, answered_any, any_answered, number_at, number_in, same_place, waits_more}

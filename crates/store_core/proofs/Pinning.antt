@@ -40,7 +40,7 @@ use Rattle.ledger_laws.proofs.shared.SoundViews.{numbered_total}
 use Rattle.ledger_laws.proofs.shared.Stored.{Goes, on, begun, swapped}
 use Rattle.ledger_laws.proofs.shared.Going.{row_goes}
 use Rattle.open_sessions.proofs.shared.Tables.{over_get, over_has, over_insert, over_remove, over_values}
-use Rattle.store_core.specs.Machines.{IsHeaderOf}
+use Rattle.core_machine.specs.Machines.{IsHeaderOf}
 use Rattle.store_core.specs.Halls.{AreViews, root_of, root_by}
 use Rattle.store_core.specs.declared.jobs.View.{View}
 use Rattle.store_core.proofs.Sighting.{LeavesViews, row_views, refused_view}

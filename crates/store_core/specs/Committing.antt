@@ -11,9 +11,9 @@ use Rattle.store_core.specs.Journal.{CoreView, AdvancesFor, Slices, ChecksFew, C
 use Rattle.store_core.specs.declared.core_calls.Stepped.{Stepped}
 use Rattle.store_core.specs.declared.core_calls.Stepped.TheVariants.{Answered, More, Blocked, Finished}
 
--- What every section says: it is blocked exactly where the actor's next line waits for one that has no entry, and finished exactly where there
--- is none; then nothing is changed. No more slices are counted than before, but behind one that left something, and there is at most an entry
--- for each line.
+-- What every section says: it is blocked exactly where the actor's next line waits for one that has no entry, and finished exactly where
+-- there is none; then nothing is changed. No more slices are counted than before, but behind one that left something, and there is at most
+-- an entry for each line.
 pub record ComesTo (old : CoreView) (a : ℕ) (stepped : Stepped) (new : CoreView) : Type 0 where
   pub blocked : (stepped ≡ Blocked) ↔ IsBlocked old.lines old.journal a
   pub finished : (stepped ≡ Finished) ↔ IsDone old.lines old.journal a

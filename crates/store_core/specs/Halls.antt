@@ -9,8 +9,8 @@ use Rattle.ledger_spec.specs.declared.Kind.{Kind}
 use Rattle.ledger_spec.specs.declared.Kind.TheVariants.{State as Accounts, Tx, Set}
 use Rattle.ledger_header.specs.declared.Header.{Header}
 use Rattle.ledger_machine.specs.State.{State}
-use Rattle.store_core.specs.Machines.{IsHeaderOf}
-use Rattle.store_core.specs.Desks.{Desk}
+use Rattle.core_machine.specs.Machines.{IsHeaderOf}
+use Rattle.core_machine.specs.Desks.{Desk}
 use Rattle.store_core.specs.declared.jobs.View.{View}
 
 -- what contracts see of a hall: what the commands act on, and the open views

@@ -29,14 +29,14 @@ use Rattle.script_form.specs.Servable.{AreServable}
 use Rattle.full_below.specs.declared.marks.Marks.{Marks}
 use Rattle.ledger_searches.specs.declared.hunt.Hunt.{Hunt}
 use Rattle.ledger_searches.specs.Hunting.{hunt_of}
-use Rattle.store_core.specs.Checking.{AsksFew, LeavesMarks, SearchesBy, SlicesSearch}
-use Rattle.store_core.specs.Desks.{KeepsRest}
+use Rattle.core_machine.specs.Checking.{AsksFew, LeavesMarks, SearchesBy, SlicesSearch}
+use Rattle.core_machine.specs.Desks.{KeepsRest}
 use Rattle.store_core.specs.Failing.{without}
 use Rattle.store_core.specs.Halls.{AreViews}
 use Rattle.store_core.specs.declared.jobs.View.{View}
 use Rattle.ledger_spec.specs.Maps.{ForActor}
-use Rattle.store_core.specs.Refusals.{IsRefusal}
-use Rattle.store_core.specs.Telling.{AreTold, CountsFrom, most_slices, most_copied}
+use Rattle.core_machine.specs.Refusals.{IsRefusal}
+use Rattle.core_machine.specs.Telling.{AreTold, CountsFrom, most_slices, most_copied}
 
 -- what contracts see of a core: its script's records and lines, the interval, the store's count of faults at opening and now and its count
 -- of gets, how many slices of the rotation under way left something to copy, what the writable backend and the archive hold, the marks of

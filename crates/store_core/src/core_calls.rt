@@ -12,27 +12,26 @@ ghost use Rattle.script_form.specs.Servable.{AreServable};
 ghost use Rattle.ledger_searches.specs.Sharing.{IsPaired};
 ghost use Rattle.run_io.specs.Bytes.{Rose};
 ghost use Rattle.rotating_store.specs.Stores.{Store, nodes_of};
-ghost use Rattle.store_core.specs.Checking.{TurnsBy};
+ghost use Rattle.core_machine.specs.Checking.{TurnsBy};
 ghost use Rattle.store_core.specs.Committing.{ComesTo, Commits, IsShort};
-ghost use Rattle.store_core.specs.Dumping.{IsHandedBack, IsNextRecord, IsOpened, Follows, Lists, missed_after};
+ghost use Rattle.core_machine.specs.Dumping.{IsNextRecord, Follows};
+ghost use Rattle.store_core.specs.Dumping.{IsHandedBack, IsOpened, Lists, missed_after};
 ghost use Rattle.store_core.specs.Failing.{is_among, failed_after, with_fault};
 ghost use Rattle.store_core.specs.Halls.{root_by};
 ghost use Rattle.store_core.specs.Jobs.{job_in, TakesIn, HandsFault};
 ghost use Rattle.store_core.specs.Journal.{Advances, AdvancesFor, Slices, ChecksFew, CopiesFew, IsJournal, IsNew, IsNext};
-ghost use Rattle.store_core.specs.Reads.{IsFormOf, IsNodeOf};
+ghost use Rattle.core_machine.specs.Reads.{IsFormOf, IsNodeOf};
 ghost use Rattle.store_core.specs.Journal.{AllBefore, AllFrom};
-ghost use Rattle.store_core.specs.Retaining.{AreRetained};
-ghost use Rattle.store_core.specs.Totals.{totals_of, is_complete as completes, is_closed as closes};
+ghost use Rattle.core_machine.specs.Retaining.{AreRetained};
+ghost use Rattle.core_machine.specs.Totals.{totals_of, is_complete as completes, is_closed as closes};
 
 use crate::failed::Failed;
 use crate::hall::Hall;
 use crate::jobs::{Followed, Handed, ReadJob};
-use crate::limits::ACTORS;
-use crate::records::put_records;
-use crate::rotating::Part;
+use core_machine::{Part, put_records};
 use half_hash::{Blob, Hash32, Memory, NodeHash, known_half};
 use ledger_machine::{
-    CheckReply, CloseReply, Entry, Line, Record, Reply, Script, SwapReply, Totals,
+    ACTORS, CheckReply, CloseReply, Entry, Line, Record, Reply, Script, SwapReply, Totals,
 };
 use ledger_searches::Searches;
 use node_backend::{BackFault, Shelf};
@@ -87,7 +86,7 @@ impl<H: NodeHash, Sh: Shelf> Model for Core<H, Sh> {
     ghost use Rattle.std.specs.Prelude.{◌+◌, length, vec_capacity};
     ghost use Rattle.std.specs.Coded.{codes};
     ghost use Rattle.ledger_spec.specs.Maps.{map_code, set_code};
-    ghost use Rattle.store_core.specs.Checking.{KeepsSearches};
+    ghost use Rattle.core_machine.specs.Checking.{KeepsSearches};
     ghost use Rattle.store_core.specs.Journal.{CoreView, CoreKeeps};
 
     ghost Value = { CoreView };

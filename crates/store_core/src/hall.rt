@@ -12,24 +12,22 @@ ghost use Rattle.ledger_machine.specs.Views.{is_retained as state_retains};
 ghost use Rattle.rotating_store.specs.Stores.{merged};
 ghost use Rattle.run_io.specs.Bytes.{Rose};
 ghost use Rattle.shamap_node.specs.Nodes.{held};
-ghost use Rattle.store_core.specs.Machines.{IsHeaderOf};
-ghost use Rattle.store_core.specs.Checking.{AreKept};
-ghost use Rattle.store_core.specs.Desks.{IsFiled, over};
-ghost use Rattle.store_core.specs.Dumping.{GivesNext};
-ghost use Rattle.store_core.specs.Commands.{IsQuiet};
+ghost use Rattle.core_machine.specs.Machines.{IsHeaderOf};
+ghost use Rattle.core_machine.specs.Checking.{AreKept};
+ghost use Rattle.core_machine.specs.Desks.{IsFiled, over};
+ghost use Rattle.core_machine.specs.Dumping.{GivesNext};
+ghost use Rattle.core_machine.specs.Commands.{IsQuiet};
 ghost use Rattle.store_core.specs.Halls.{AreViews, root_by, root_of};
-ghost use Rattle.store_core.specs.Serving.{Answers, LeavesMore, MayServe, Serves, Steps};
+ghost use Rattle.core_machine.specs.Serving.{Answers, LeavesMore, MayServe, Serves, Steps};
 ghost use Rattle.store_core.specs.Jobs.{HandsFault, IfSays, IsTaken, job_for};
-ghost use Rattle.store_core.specs.Reads.{GivesForm, GivesNode, IsFollowed, IsReplied};
-ghost use Rattle.store_core.specs.Retaining.{AreRetained, IsStoreOf};
-ghost use Rattle.store_core.specs.Totals.{totals_by};
-ghost use Rattle.store_core.specs.Telling.{AreTold};
+ghost use Rattle.core_machine.specs.Reads.{GivesForm, GivesNode, IsFollowed};
+ghost use Rattle.store_core.specs.Reads.{IsReplied};
+ghost use Rattle.core_machine.specs.Retaining.{AreRetained, IsStoreOf};
+ghost use Rattle.core_machine.specs.Totals.{totals_by};
+ghost use Rattle.core_machine.specs.Telling.{AreTold};
 
 use crate::jobs::{Followed, Handed, ReadJob, View};
-use crate::machine::Machine;
-use crate::refusals::unread;
-use crate::rotating::Part;
-use crate::views::answered;
+use core_machine::{Machine, Part, answered, unread};
 use half_hash::{Blob, Hash32, Memory, NodeHash};
 use ledger_header::Header;
 use ledger_machine::{Command, Line, Record, Reply, Totals, ViewReply};
@@ -82,7 +80,7 @@ impl<H: NodeHash, Sh: Shelf> Hall<H, Sh> {
 
     /// The hash that nodes are stored under.
     pub(crate) fn hash(&self) -> H {
-        self.machine.tables.hash
+        self.machine.hash()
     }
 
     /// The store that the commands act on.

@@ -13,11 +13,12 @@ use Rattle.journal_text.specs.Text.{record_text}
 use Rattle.ledger_machine.specs.State.{State}
 use Rattle.ledger_machine.specs.declared.commands.Line.{Line}
 use Rattle.ledger_machine.specs.declared.journal.Entry.{Entry}
-use Rattle.store_core.specs.Totals.{totals_of}
+use Rattle.core_machine.specs.Totals.{totals_of}
 use Rattle.top_call.specs.Output.{output}
 use Rattle.top_call.specs.Top.{text_of}
 use Rattle.store_core.specs.Journal.{CoreView}
-use Rattle.store_core.specs.Dumping.{comes_after, records_of, records_after, IsNextRecord, Follows, Lists}
+use Rattle.core_machine.specs.Dumping.{comes_after, records_of, records_after, IsNextRecord, Follows}
+use Rattle.store_core.specs.Dumping.{Lists}
 use Rattle.std.specs.Result.{IsErrAnd}
 use Rattle.run_io.specs.declared.io.AllFault.{AllFault}
 use Rattle.run_io.specs.declared.io.AllFault.TheVariants as sinks

@@ -10,7 +10,7 @@ use Rattle.node_backend.specs.Counts.{held_sum}
 use Rattle.journal_text.specs.Text.{record_text}
 use Rattle.store_core.specs.declared.core_calls.OpenFault.{OpenFault}
 use Rattle.store_core.specs.declared.core_calls.OpenFault.TheVariants as opens
-use Rattle.store_core.specs.Dumping.{records_of, Follows}
+use Rattle.core_machine.specs.Dumping.{records_of, Follows}
 use Rattle.store_core.specs.Journal.{CoreView}
 use Rattle.top_call.specs.declared.dump.DumpEnd.{DumpEnd}
 use Rattle.top_call.specs.declared.dump.DumpEnd.TheVariants as ends

@@ -9,7 +9,7 @@ use Rattle.run_io.specs.Bytes.{Rose, Wrote, WrotePart}
 use Rattle.run_words.specs.declared.words.Words.{Words}
 use Rattle.run_words.specs.declared.words.Words.TheVariants.{Replay, Swarm, Stop}
 use Rattle.store_core.specs.Journal.{CoreView}
-use Rattle.store_core.specs.Retaining.{AreRetained}
+use Rattle.core_machine.specs.Retaining.{AreRetained}
 use Rattle.stop_run.specs.declared.ended.StopEnd.{StopEnd}
 use Rattle.stop_run.specs.Ending.{MatchEnd, HasFailed, wanted_memory}
 use Rattle.stop_run.specs.Opening.{IsReopened, complete_in}

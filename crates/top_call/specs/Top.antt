@@ -7,7 +7,7 @@ use Rattle.ledger_spec.specs.Bytes.{Bytes, Half, Nodes}
 use Rattle.ledger_machine.specs.Runs.{IsFull}
 use Rattle.ledger_machine.specs.Collisions.{brought_by, IsShown}
 use Rattle.store_core.specs.Journal.{CoreView, IsJournal, IsRun}
-use Rattle.store_core.specs.Totals.{totals_of}
+use Rattle.core_machine.specs.Totals.{totals_of}
 use Rattle.script_form.specs.Grammar.{IsRefused, most_read}
 use Rattle.run_words.specs.declared.words.Words.{Words}
 use Rattle.run_io.specs.Bytes.{Rose, Took, TookPart, Wrote, WrotePart}

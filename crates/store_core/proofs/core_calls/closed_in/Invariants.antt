@@ -1,6 +1,6 @@
 use Rattle.std.proofs.Common.{◌≡◌, ◌≤◌, take}
 use Rattle.std.specs.Prelude.{count_by}
-use Rattle.store_core.specs.Totals.{is_closed}
+use Rattle.core_machine.specs.Totals.{is_closed}
 use Rattle.store_core.proofs.core_calls.closed_in.Given as goal
 
 abbrev pub invariant-loop-entry : goal.invariant-loop-entry

@@ -2,7 +2,7 @@
 use Rattle.std.proofs.Common.{sym, ap, ◌∙◌, subst}
 use Rattle.ledger_machine.specs.declared.replies.Reply.{Reply}
 use Rattle.ledger_machine.specs.declared.replies.Reply.TheVariants as says
-use Rattle.store_core.specs.Checking.{TurnsBy}
+use Rattle.core_machine.specs.Checking.{TurnsBy}
 use Rattle.store_core.proofs.core_calls.end_search.Goals as goal
 
 pub returns-in-Swapped : goal.returns-in-Swapped

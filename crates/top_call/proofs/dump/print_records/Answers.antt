@@ -1,5 +1,5 @@
 use Rattle.std.proofs.Common.{refl, ◌∙◌, arith}
-use Rattle.store_core.proofs.Numbering.{left_falls}
+use Rattle.core_machine.proofs.shared.Numbering.{left_falls}
 use Rattle.top_call.proofs.Dumping.{dump_starts, dump_goes, dump_cut, lists_none, lists_then, next_of_core, follows_as, cut_by}
 use Rattle.top_call.proofs.dump.print_records.Goals as goal
 

@@ -1,5 +1,5 @@
 use Rattle.std.proofs.Common.{◌≡◌, ◌≤◌}
-use Rattle.store_core.specs.Dumping.{IsHashOrNone, left_after}
+use Rattle.core_machine.specs.Dumping.{IsHashOrNone, left_after}
 use Rattle.top_call.specs.Dump.{LeavesCore}
 use Rattle.top_call.proofs.Dumping.{IsGoing}
 use Rattle.top_call.proofs.dump.print_records.Given as goal

@@ -1,5 +1,5 @@
 use Rattle.std.proofs.Common.{refl}
-use Rattle.store_core.proofs.Sections.{none_copied}
+use Rattle.core_machine.proofs.shared.Sections.{none_copied}
 use Rattle.store_core.proofs.core_calls.Core.next_stored.Goals as goal
 
 pub next_stored-requires-after_bounds : goal.next_stored-requires-after_bounds

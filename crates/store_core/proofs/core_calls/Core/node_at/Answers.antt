@@ -1,5 +1,5 @@
 use Rattle.std.proofs.Common.{refl}
-use Rattle.store_core.proofs.Sections.{none_copied}
+use Rattle.core_machine.proofs.shared.Sections.{none_copied}
 use Rattle.store_core.proofs.core_calls.Core.node_at.Goals as goal
 
 pub node_at-requires-after_bounds : goal.node_at-requires-after_bounds

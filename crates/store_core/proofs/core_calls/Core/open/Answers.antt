@@ -6,7 +6,7 @@ use Rattle.ledger_machine.specs.declared.commands.Record.{Record}
 use Rattle.ledger_machine.specs.Records.{with_records}
 use Rattle.ledger_machine.specs.State.{State}
 use Rattle.rotating_store.specs.Stores.{Store, nodes_of}
-use Rattle.store_core.specs.Dumping.{HoldsOf}
+use Rattle.core_machine.specs.Dumping.{HoldsOf}
 use Rattle.store_core.proofs.Checks.{keeps_new}
 use Rattle.store_core.proofs.Journals.{kept_open}
 use Rattle.store_core.proofs.Entries.{over_open}

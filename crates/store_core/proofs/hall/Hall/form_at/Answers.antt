@@ -1,5 +1,5 @@
 use Rattle.std.proofs.Common.{sym, subst}
-use Rattle.store_core.specs.Desks.{IsFiled}
+use Rattle.core_machine.specs.Desks.{IsFiled}
 use Rattle.store_core.specs.Halls.{HallView}
 use Rattle.store_core.proofs.hall.Hall.form_at.Goals as goal
 

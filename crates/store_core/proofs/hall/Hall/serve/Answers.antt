@@ -1,6 +1,6 @@
 use Rattle.std.proofs.Common.{map, sym, subst, rules}
 use Rattle.shamap_node.specs.Nodes.{held}
-use Rattle.store_core.specs.Commands.{IsQuiet}
+use Rattle.core_machine.specs.Commands.{IsQuiet}
 use Rattle.store_core.proofs.Sighting.{LeavesViews}
 use Rattle.store_core.proofs.Pinning.{views_kept}
 use Rattle.store_core.proofs.Serving.{answers_quiet, section_same, section_step}

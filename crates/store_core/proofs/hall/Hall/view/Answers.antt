@@ -2,11 +2,12 @@ use Rattle.std.proofs.Common.{map, sym, subst}
 use Rattle.ledger_machine.specs.declared.commands.Command.{Command}
 use Rattle.ledger_machine.specs.Commands.{MayBeRefused}
 use Rattle.ledger_machine.specs.Steps.{Outcomes}
-use Rattle.store_core.specs.Commands.{IsQuiet}
+use Rattle.core_machine.specs.Commands.{IsQuiet}
 use Rattle.node_backend.specs.declared.back.BackFault.TheVariants as back
 use Rattle.shamap_node.specs.Nodes.{held}
 use Rattle.store_core.proofs.Pinning.{views_unopened, unopenable}
-use Rattle.store_core.proofs.Serving.{steps_refused, no_fault}
+use Rattle.core_machine.proofs.shared.Serving.{no_fault}
+use Rattle.store_core.proofs.Serving.{steps_refused}
 use Rattle.store_core.proofs.hall.Hall.view.Goals as goal
 
 -- where a view may not be opened it isn't

@@ -1,0 +1,14 @@
+pub mod Commands
+pub mod Desks
+pub mod Checking
+pub mod Wanting
+pub mod Refusals
+pub mod Heeds
+pub mod Dumping
+pub mod Totals
+pub mod Reads
+pub mod Machines
+pub mod Closing
+pub mod Telling
+pub mod Serving
+pub mod Retaining
