@@ -1,6 +1,7 @@
 -- The lists of a walk, as hashes are shaded and become black.
 use Rattle.std.proofs.Common.{◌≡◌, ◌≢◌, ◌⊎◌, inl, inr, ⊎_elim, ◌++◌, ◌∷◌, ◌+◌, ◌^◌, ◌≤◌, ◌<◌, [], ℕ, suc, List}
-use Rattle.std.proofs.Common.{Bool, true, false, cond, not, if◌then◌else◌, Some, Contains, length, take, drop, get_or, slice_get, refl, sym, ap, ◌∙◌, subst}
+use Rattle.std.proofs.Common.{Bool, true, false, cond, not, if◌then◌else◌, Some, Contains, length, take, drop, get_or, slice_get, refl, sym}
+use Rattle.std.proofs.Common.{ap, ◌∙◌, subst}
 use Rattle.std.proofs.Common.{arith, append_assoc, length-append}
 use Rattle.std.specs.HashSet.{HashSet, contains}
 use Rattle.std.specs.Cmp.{IsEquivalence, eq_by_cmp_equiv}

@@ -1,18 +1,14 @@
 //! The marks, the cache and the begun searches that checks share.
-ghost use Rattle.std.specs.Prelude.{◌≡◌, ◌⊎◌, ◌+◌, ◌<◌, ◌≤◌, ◌^◌, IfOk, IfErr, IfSome, IsSome, IsNone, OnErr, ℕ, length, None};
+ghost use Rattle.std.specs.Prelude.{◌≡◌, ◌+◌, ◌<◌, ◌≤◌, ◌^◌, IfOk, IfSome, OnErr, ℕ, length, None};
 ghost use Rattle.std.specs.Prelude.{slice_set, vec_len};
-ghost use Rattle.run_io.specs.Bytes.{Rose};
 ghost use Rattle.ledger_machine.specs.Limits.{actors};
 ghost use Rattle.ledger_spec.specs.Bytes.{Lookup};
-ghost use Rattle.rotating_store.specs.Reading.{WasRead};
-ghost use Rattle.missing_walk.specs.Ends.{IsClean};
-ghost use Rattle.missing_walk.specs.Founds.{IsFound};
 ghost use Rattle.missing_walk.specs.Passes.{HasMarkedRoots};
 ghost use Rattle.missing_walk.specs.Searching.{IsNew as IsNewSearch};
-ghost use Rattle.missing_walk.specs.Sees.{Finds};
 ghost use Rattle.missing_walk.specs.Views.{Tells};
-ghost use Rattle.ledger_searches.specs.Hunting.{GoesOn, IsRunWhole, IsTakenUp, IsUnbegun, hunt_of, most_asked};
-ghost use Rattle.ledger_searches.specs.Sharing.{IsPaired, AreTrueOf, IsEmpty, IsTurned, LeavesOthers, Forgets, most_cached};
+ghost use Rattle.ledger_searches.specs.Hunting.{IsTakenUp, IsUnbegun, hunt_of};
+ghost use Rattle.ledger_searches.specs.Sharing.{IsPaired, IsEmpty, IsTurned, Forgets, most_cached};
+ghost use Rattle.ledger_searches.specs.Answering.{FindsLedger, LeavesHunt, AsksFew, LeavesShared};
 
 use crate::hunt::Hunt;
 use crate::hunting::MOST_STALES;
@@ -74,27 +70,10 @@ impl Searches {
     ) -> Result<Option<Found>, SearchFault>
         requires paired { IsPaired self.old }
         requires known_actor { actor < actors }
-        ensures found { (nodes : Lookup) → Tells Sh.B.tells H.half store.old nodes → AreTrueOf H.half nodes self.old
-            → IfOk result (λ o. IfSome o (Finds H.half nodes target.now)) }
-        ensures known { IfOk result (λ o. IfSome o IsFound) }
-        ensures keeps { (nodes : Lookup) → Tells Sh.B.tells H.half store.old nodes → AreTrueOf H.half nodes self.old
-            → AreTrueOf H.half nodes self.new }
-        ensures roots { (nodes : Lookup) → Tells Sh.B.tells H.half store.old nodes → AreTrueOf H.half nodes self.old
-            → IfOk result (λ o. IfSome o (λ f. IsClean f → HasMarkedRoots nodes target.now self.new.marks)) }
-        ensures first { (nodes : Lookup) → Tells Sh.B.tells H.half store.old nodes
-            → IsUnbegun (hunt_of self.old.hunts.items actor) target.now → HasMarkedRoots nodes target.now self.old.marks
-            → IfOk result IsSome × (store.new.gets ≤ store.old.gets + 2) }
-        ensures more { (nodes : Lookup) → Tells Sh.B.tells H.half store.old nodes → AreTrueOf H.half nodes self.old
-            → IfOk result (λ o. IsNone o → GoesOn H.half nodes self.old.marks.generation target.now (hunt_of self.old.hunts.items actor)
-            (hunt_of self.new.hunts.items actor)) }
-        ensures few { IsRunWhole self.old.marks.generation (hunt_of self.old.hunts.items actor) target.now
-            ⊎ (store.new.gets ≤ store.old.gets + most_asked) }
-        ensures answered { IfOk result (λ o. IsSome o → hunt_of self.new.hunts.items actor ≡ None) }
-        ensures others { LeavesOthers actor self.old self.new }
-        ensures paired { IsPaired self.new }
-        ensures generation { self.new.marks.generation ≡ self.old.marks.generation }
-        ensures read { WasRead Sh.B.tells H.half store.old store.new }
-        ensures fault { IfErr result (λ e. e ≡ SearchFault.Fault → Rose store.old.faults store.new.faults) }
+        ensures finds { FindsLedger Sh.B.tells H.half store.old target.now self.old self.new (λ P. IfOk result (λ o. IfSome o P)) }
+        ensures hunts { LeavesHunt Sh.B.tells H.half store.old actor target.now self.old self.new result }
+        ensures asks { AsksFew Sh.B.tells H.half store.old store.new actor target.now self.old result }
+        ensures leaves { LeavesShared Sh.B.tells H.half store.old store.new self.old self.new result }
     {
         let mut hunt = self.take_up(alloc, actor, target)?;
         if hunt.stales >= MOST_STALES {
@@ -165,20 +144,11 @@ impl Searches {
         target: &Hash32,
     ) -> Result<Found, SearchFault>
         requires paired { IsPaired self.old }
-        ensures found { (nodes : Lookup) → Tells Sh.B.tells H.half store.old nodes → AreTrueOf H.half nodes self.old
-            → IfOk result (Finds H.half nodes target.now) }
-        ensures known { IfOk result IsFound }
-        ensures keeps { (nodes : Lookup) → Tells Sh.B.tells H.half store.old nodes → AreTrueOf H.half nodes self.old
-            → AreTrueOf H.half nodes self.new }
-        ensures roots { (nodes : Lookup) → Tells Sh.B.tells H.half store.old nodes → AreTrueOf H.half nodes self.old
-            → IfOk result (λ f. IsClean f → HasMarkedRoots nodes target.now self.new.marks) }
+        ensures finds { FindsLedger Sh.B.tells H.half store.old target.now self.old self.new (λ P. IfOk result P) }
         ensures few { (nodes : Lookup) → Tells Sh.B.tells H.half store.old nodes → HasMarkedRoots nodes target.now self.old.marks
             → store.new.gets ≤ store.old.gets + 2 }
         ensures hunts { self.new.hunts.items ≡ self.old.hunts.items }
-        ensures paired { IsPaired self.new }
-        ensures generation { self.new.marks.generation ≡ self.old.marks.generation }
-        ensures read { WasRead Sh.B.tells H.half store.old store.new }
-        ensures fault { IfErr result (λ e. e ≡ SearchFault.Fault → Rose store.old.faults store.new.faults) }
+        ensures leaves { LeavesShared Sh.B.tells H.half store.old store.new self.old self.new result }
     {
         let search = Search::start(alloc, target)?;
         self.run::<H, Sh>(alloc, store, search)
@@ -193,20 +163,11 @@ impl Searches {
     ) -> Result<Found, SearchFault>
         requires paired { IsPaired self.old }
         requires new { IsNewSearch search }
-        ensures found { (nodes : Lookup) → Tells Sh.B.tells H.half store.old nodes → AreTrueOf H.half nodes self.old
-            → IfOk result (Finds H.half nodes search.target) }
-        ensures known { IfOk result IsFound }
-        ensures keeps { (nodes : Lookup) → Tells Sh.B.tells H.half store.old nodes → AreTrueOf H.half nodes self.old
-            → AreTrueOf H.half nodes self.new }
-        ensures roots { (nodes : Lookup) → Tells Sh.B.tells H.half store.old nodes → AreTrueOf H.half nodes self.old
-            → IfOk result (λ f. IsClean f → HasMarkedRoots nodes search.target self.new.marks) }
+        ensures finds { FindsLedger Sh.B.tells H.half store.old search.target self.old self.new (λ P. IfOk result P) }
         ensures few { (nodes : Lookup) → Tells Sh.B.tells H.half store.old nodes → HasMarkedRoots nodes search.target self.old.marks
             → store.new.gets ≤ store.old.gets + 2 }
         ensures hunts { self.new.hunts.items ≡ self.old.hunts.items }
-        ensures paired { IsPaired self.new }
-        ensures generation { self.new.marks.generation ≡ self.old.marks.generation }
-        ensures read { WasRead Sh.B.tells H.half store.old store.new }
-        ensures fault { IfErr result (λ e. e ≡ SearchFault.Fault → Rose store.old.faults store.new.faults) }
+        ensures leaves { LeavesShared Sh.B.tells H.half store.old store.new self.old self.new result }
     {
         let mut search = search;
         loop {

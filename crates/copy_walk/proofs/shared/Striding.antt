@@ -1,5 +1,6 @@
 -- What strides keep: the colours, what is kept, and that nothing but what is kept is copied. For proofs of other crates.
-use Rattle.std.proofs.Common.{◌≡◌, ◌⊎◌, inl, inr, ⊎_elim, ℕ, zero, suc, ◌+◌, List, [], Option, None, Some, Contains, sym, ap, ◌∙◌, subst, arith}
+use Rattle.std.proofs.Common.{◌≡◌, ◌⊎◌, inl, inr, ⊎_elim, ℕ, zero, suc, ◌+◌, List, [], Option, None, Some, Contains, sym, ap, ◌∙◌, subst}
+use Rattle.std.proofs.Common.{arith}
 use Rattle.ledger_spec.specs.Bytes.{Bytes, Hash, Lookup}
 use Rattle.ledger_spec.specs.Reach.{root, kid, Stored, kids}
 use Rattle.ledger_spec.proofs.shared.ReachLaws.{reach_joins}

@@ -15,7 +15,7 @@ pub invariant_of-self-in-Slice : goal.invariant_of-self-in-Slice
 invariant_of-self-in-Slice g c = (
   c.self.invariant.0,
   keeps_was_read g.Sh.B.Backend.tells c.self.inside.book c.self.inside.rotator c.self.inside.store
-      c.self.invariant.1 g.H.NodeHash.half c.slice.new.store c.slice.ensures.read,
+      c.self.invariant.1 g.H.NodeHash.half c.slice.new.store c.slice.ensures.leaves.read,
 )
 
 pub returns-in_err-found-in-Slice : goal.returns-in_err-found-in-Slice
@@ -31,15 +31,16 @@ returns-in_err-found-in-Slice g c =
       leaves = search rules;
       first = λ told unbegun marked. omega (
         arith,
-        (c.slice.ensures.first (form_in s) (forms told) unbegun marked).1,
+        (c.slice.ensures.asks.first (form_in s) (forms told) unbegun marked).1,
         ap (λ (d : Desk).
             d.gets) c.self.view_is,
       );
       shares = slice_shares half tells s c.args.actor c.args.target.now c.args.part c.args.searches.now st.gets c.args.self.now.gets
           c.slice.new.self
-          c.slice.new.store.gets (ap (λ (d : Desk). d.gets) c.self.view_is) c.slice.ensures.paired c.slice.ensures.generation
-          (λ told. c.slice.ensures.keeps (form_in s) (forms told) (c.requires.searches.rule told)) c.slice.ensures.others
-          c.slice.ensures.few;
+          c.slice.new.store.gets (ap (λ (d : Desk). d.gets) c.self.view_is) c.slice.ensures.leaves.paired
+          c.slice.ensures.leaves.generation
+          (λ told. c.slice.ensures.leaves.keeps (form_in s) (forms told) (c.requires.searches.rule told)) c.slice.ensures.hunts.others
+          c.slice.ensures.asks.few;
       reads = search rules;
       fault = search rules;
     }
@@ -57,28 +58,29 @@ returns-in_ok-found-in-Slice g c =
           (sought_on half tells s (state_of c.slice.new.store c.self.inside.wanted.entries c.self.inside.views.entries c.self.inside.book
           c.self.inside.rotator)
           c.args.target.now
-          (λ told. ap (λ (x : State). form_in x) (same_over st c.slice.new.store s is (c.slice.ensures.read.same told)))
-          c.args.part c.in_ok-found-in-Slice.found c.in-Slice.is c.in_ok-found-in-Slice.ensures.known
-          (λ told. c.in_ok-found-in-Slice.ensures.found (form_in s) (forms told) (c.requires.searches.rule told)));
+          (λ told. ap (λ (x : State). form_in x) (same_over st c.slice.new.store s is (c.slice.ensures.leaves.read.same told)))
+          c.args.part c.in_ok-found-in-Slice.found c.in-Slice.is c.in_ok-found-in-Slice.ensures.finds.known
+          (λ told. c.in_ok-found-in-Slice.ensures.finds.found (form_in s) (forms told) (c.requires.searches.rule told)));
       leaves = λ told. let opened : IsOpen s c.args.target.now = rw (← c.self.view_is) (sym c.contains_key.ensures ∙
           c.if-not-contains_key.false) in
           rw c.slice_sought.ensures
           (leaves_on half s c.args.target.now (hunt_of c.args.searches.now.hunts.items c.args.actor) c.args.searches.now.marks
           (hunt_of c.slice.new.self.hunts.items c.args.actor) c.slice.new.self.marks c.in_ok-found-in-Slice.found opened
-          (c.in_ok-found-in-Slice.ensures.roots (form_in s) (forms told) (c.requires.searches.rule told))
-          (c.in_ok-found-in-Slice.ensures.more (form_in s) (forms told) (c.requires.searches.rule told))
-          (λ unbegun marked. (c.in_ok-found-in-Slice.ensures.first (form_in s) (forms told) unbegun marked).0));
+          (c.in_ok-found-in-Slice.ensures.finds.roots (form_in s) (forms told) (c.requires.searches.rule told))
+          (c.in_ok-found-in-Slice.ensures.hunts.more (form_in s) (forms told) (c.requires.searches.rule told))
+          (λ unbegun marked. (c.in_ok-found-in-Slice.ensures.asks.first (form_in s) (forms told) unbegun marked).0));
       first = λ told unbegun marked. omega (
         arith,
-        (c.slice.ensures.first (form_in s) (forms told) unbegun marked).1,
+        (c.slice.ensures.asks.first (form_in s) (forms told) unbegun marked).1,
         ap (λ (d : Desk).
             d.gets) c.self.view_is,
       );
       shares = slice_shares half tells s c.args.actor c.args.target.now c.args.part c.args.searches.now st.gets c.args.self.now.gets
           c.slice.new.self
-          c.slice.new.store.gets (ap (λ (d : Desk). d.gets) c.self.view_is) c.slice.ensures.paired c.slice.ensures.generation
-          (λ told. c.slice.ensures.keeps (form_in s) (forms told) (c.requires.searches.rule told)) c.slice.ensures.others
-          c.slice.ensures.few;
+          c.slice.new.store.gets (ap (λ (d : Desk). d.gets) c.self.view_is) c.slice.ensures.leaves.paired
+          c.slice.ensures.leaves.generation
+          (λ told. c.slice.ensures.leaves.keeps (form_in s) (forms told) (c.requires.searches.rule told)) c.slice.ensures.hunts.others
+          c.slice.ensures.asks.few;
       reads = search rules;
       fault = search rules;
     }
@@ -102,8 +104,9 @@ returns-in_err-found-in-Whole g c =
       );
       shares = look_shares half tells s c.args.actor c.args.target.now c.args.part c.args.searches.now st.gets c.args.self.now.gets
           c.look.new.self
-          c.look.new.store.gets (ap (λ (d : Desk). d.gets) c.self.view_is) c.look.ensures.paired c.look.ensures.generation
-          (λ told. c.look.ensures.keeps (form_in s) (forms told) (c.requires.searches.rule told)) c.in-Whole.is c.look.ensures.hunts;
+          c.look.new.store.gets (ap (λ (d : Desk). d.gets) c.self.view_is) c.look.ensures.leaves.paired c.look.ensures.leaves.generation
+          (λ told. c.look.ensures.leaves.keeps (form_in s) (forms told) (c.requires.searches.rule told)) c.in-Whole.is
+          c.look.ensures.hunts;
       reads = search rules;
       fault = search rules;
     }
@@ -120,10 +123,10 @@ returns-in_ok-found-in-Whole g c =
       found = found_on half tells s (state_of c.look.new.store c.self.inside.wanted.entries c.self.inside.views.entries c.self.inside.book
           c.self.inside.rotator)
           c.args.target.now
-          (λ told. ap (λ (x : State). form_in x) (same_over st c.look.new.store s is (c.look.ensures.read.same told)))
-          c.in_ok-found-in-Whole.found c.in_ok-found-in-Whole.ensures.known
-          (λ told. c.in_ok-found-in-Whole.ensures.found (form_in s) (forms told) (c.requires.searches.rule told));
-      leaves = λ told. c.in_ok-found-in-Whole.ensures.roots (form_in s) (forms told) (c.requires.searches.rule told);
+          (λ told. ap (λ (x : State). form_in x) (same_over st c.look.new.store s is (c.look.ensures.leaves.read.same told)))
+          c.in_ok-found-in-Whole.found c.in_ok-found-in-Whole.ensures.finds.known
+          (λ told. c.in_ok-found-in-Whole.ensures.finds.found (form_in s) (forms told) (c.requires.searches.rule told));
+      leaves = λ told. c.in_ok-found-in-Whole.ensures.finds.roots (form_in s) (forms told) (c.requires.searches.rule told);
       first = λ told unbegun marked. omega (
         arith,
         c.look.ensures.few (form_in s) (forms told) marked,
@@ -132,8 +135,9 @@ returns-in_ok-found-in-Whole g c =
       );
       shares = look_shares half tells s c.args.actor c.args.target.now c.args.part c.args.searches.now st.gets c.args.self.now.gets
           c.look.new.self
-          c.look.new.store.gets (ap (λ (d : Desk). d.gets) c.self.view_is) c.look.ensures.paired c.look.ensures.generation
-          (λ told. c.look.ensures.keeps (form_in s) (forms told) (c.requires.searches.rule told)) c.in-Whole.is c.look.ensures.hunts;
+          c.look.new.store.gets (ap (λ (d : Desk). d.gets) c.self.view_is) c.look.ensures.leaves.paired c.look.ensures.leaves.generation
+          (λ told. c.look.ensures.leaves.keeps (form_in s) (forms told) (c.requires.searches.rule told)) c.in-Whole.is
+          c.look.ensures.hunts;
       reads = search rules;
       fault = search rules;
     }

@@ -1,5 +1,5 @@
 -- a slice goes on within its generation, and the last one ends the search
-use Rattle.std.proofs.Common.{◌≡◌, ◌≤◌, false, sym, ap, ◌∙◌, subst, arith}
+use Rattle.std.proofs.Common.{rules, ◌≡◌, ◌≤◌, false, sym, ap, ◌∙◌, subst, arith}
 use Rattle.ledger_spec.specs.Bytes.{Hash}
 use Rattle.rotating_store.proofs.shared.Reading.{read_then}
 use Rattle.missing_walk.specs.declared.search.Search.{Search}
@@ -15,41 +15,57 @@ use Rattle.ledger_searches.proofs.Running.{true_beside, present_on, few_left, ro
 use Rattle.ledger_searches.proofs.searches.Searches.run.Goals as goal
 
 -- what marks and cache say stays true
-pub returns-in_err-found-clause-keeps : goal.returns-in_err-found-clause-keeps
-returns-in_err-found-clause-keeps g c nodes t all =
-    let half = g.H.NodeHash.half in
-    let now = tells_after g.Sh.B.Backend.tells half c.args.store.now c.loop-search.store nodes c.loop-search.invariant.read t in
-    true_beside half nodes c.args.self.now
-    (record { cache = c.slice.new.cache; marks = c.slice.new.marks; hunts = c.loop-search.self.hunts }) c.slice.new.self all
-    (c.slice.ensures.keeps.rule nodes now (c.loop-search.invariant.rule nodes t all))
-    (c.slice.ensures.leaves.marks ∙ c.loop-search.invariant.generation) c.loop-search.invariant.hunts
+pub returns-in_err-found-clause-leaves : goal.returns-in_err-found-clause-leaves
+returns-in_err-found-clause-leaves g c =
+    record {
+      keeps = λ nodes t all. let half = g.H.NodeHash.half in
+          let now = tells_after g.Sh.B.Backend.tells half c.args.store.now c.loop-search.store nodes c.loop-search.invariant.read t in
+          true_beside half nodes c.args.self.now
+          (record { cache = c.slice.new.cache; marks = c.slice.new.marks; hunts = c.loop-search.self.hunts }) c.slice.new.self all
+          (c.slice.ensures.keeps.rule nodes now (c.loop-search.invariant.rule nodes t all))
+          (c.slice.ensures.leaves.marks ∙ c.loop-search.invariant.generation) c.loop-search.invariant.hunts;
+      paired = search rules;
+      generation = search rules;
+      read = read_then _ _ _ _ _ c.loop-search.invariant.read c.slice.ensures.leaves.read;
+      cause = search rules;
+    }
 
-pub returns-in-Done-clause-keeps : goal.returns-in-Done-clause-keeps
-returns-in-Done-clause-keeps g c nodes t all =
-    let half = g.H.NodeHash.half in
-    let now = tells_after g.Sh.B.Backend.tells half c.args.store.now c.loop-search.store nodes c.loop-search.invariant.read t in
-    true_beside half nodes c.args.self.now
-    (record { cache = c.slice.new.cache; marks = c.slice.new.marks; hunts = c.loop-search.self.hunts }) c.slice.new.self all
-    (c.slice.ensures.keeps.rule nodes now (c.loop-search.invariant.rule nodes t all))
-    (c.slice.ensures.leaves.marks ∙ c.loop-search.invariant.generation) c.loop-search.invariant.hunts
+pub returns-in-Done-clause-leaves : goal.returns-in-Done-clause-leaves
+returns-in-Done-clause-leaves g c =
+    record {
+      keeps = λ nodes t all. let half = g.H.NodeHash.half in
+          let now = tells_after g.Sh.B.Backend.tells half c.args.store.now c.loop-search.store nodes c.loop-search.invariant.read t in
+          true_beside half nodes c.args.self.now
+          (record { cache = c.slice.new.cache; marks = c.slice.new.marks; hunts = c.loop-search.self.hunts }) c.slice.new.self all
+          (c.slice.ensures.keeps.rule nodes now (c.loop-search.invariant.rule nodes t all))
+          (c.slice.ensures.leaves.marks ∙ c.loop-search.invariant.generation) c.loop-search.invariant.hunts;
+      paired = search rules;
+      generation = search rules;
+      read = read_then _ _ _ _ _ c.loop-search.invariant.read c.slice.ensures.leaves.read;
+      cause = search rules;
+    }
 
 -- what the last slice found
-pub returns-in-Done-clause-found : goal.returns-in-Done-clause-found
-returns-in-Done-clause-found g c nodes t all =
-    let half = g.H.NodeHash.half in
-    let now = tells_after g.Sh.B.Backend.tells half c.args.store.now c.loop-search.store nodes c.loop-search.invariant.read t in
-    subst (λ (h : Hash). Finds half nodes h c.in-Done.found) c.loop-search.invariant.target
-    (subst (λ (s : Slice). OnDone s (Finds half nodes c.loop-search.search.target)) c.in-Done.is
-    (c.in_ok-found.ensures.answers.done nodes now (c.loop-search.invariant.rule nodes t all)))
-
--- and the roots that it marked are those of the stored header
-pub returns-in-Done-clause-roots : goal.returns-in-Done-clause-roots
-returns-in-Done-clause-roots g c nodes t all clean =
-    let finds = returns-in-Done-clause-found g c nodes t all in
-    let marked = subst (λ (s : Slice). OnDone s (λ f. IsClean f → 2 ≤ c.slice.new.marks.entries.cap
-    → AreRootsMarked f.header c.slice.new.marks)) c.in-Done.is c.in_ok-found.ensures.answers.roots in
-    roots_marked nodes c.args.search.target c.slice.new.marks c.in-Done.found.header finds.header
-    (marked clean (omega (arith, c.slice.ensures.leaves.room, c.loop-search.invariant.paired.room)))
+pub returns-in-Done-clause-finds : goal.returns-in-Done-clause-finds
+returns-in-Done-clause-finds g c =
+    record {
+      found = λ nodes t all. let half = g.H.NodeHash.half in
+          let now = tells_after g.Sh.B.Backend.tells half c.args.store.now c.loop-search.store nodes c.loop-search.invariant.read t in
+          subst (λ (h : Hash). Finds half nodes h c.in-Done.found) c.loop-search.invariant.target
+          (subst (λ (s : Slice). OnDone s (Finds half nodes c.loop-search.search.target)) c.in-Done.is
+          (c.in_ok-found.ensures.answers.done nodes now (c.loop-search.invariant.rule nodes t all)));
+      roots = λ nodes t all clean. let half = g.H.NodeHash.half in
+          let now = tells_after g.Sh.B.Backend.tells half c.args.store.now c.loop-search.store nodes c.loop-search.invariant.read t in
+          let finds : Finds half nodes c.args.search.target c.in-Done.found = subst (λ (h : Hash). Finds half nodes h c.in-Done.found)
+          c.loop-search.invariant.target
+          (subst (λ (s : Slice). OnDone s (Finds half nodes c.loop-search.search.target)) c.in-Done.is
+          (c.in_ok-found.ensures.answers.done nodes now (c.loop-search.invariant.rule nodes t all))) in
+          let marked = subst (λ (s : Slice). OnDone s (λ f. IsClean f → 2 ≤ c.slice.new.marks.entries.cap
+          → AreRootsMarked f.header c.slice.new.marks)) c.in-Done.is c.in_ok-found.ensures.answers.roots in
+          roots_marked nodes c.args.search.target c.slice.new.marks c.in-Done.found.header finds.header
+          (marked clean (omega (arith, c.slice.ensures.leaves.room, c.loop-search.invariant.paired.room)));
+      known = search rules;
+    }
 
 pub loop-search-preserved : goal.loop-search-preserved
 loop-search-preserved g c =
