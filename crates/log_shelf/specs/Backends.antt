@@ -1,10 +1,9 @@
 -- What a backend's log holds, and what a stop may leave of it.
-use Rattle.std.specs.Prelude.{◌≡◌, ◌≤◌, ◌⊎◌, ℕ, Bool, List, [], ◌∷◌, take, drop, Option, None, Some, Result, OnOk, OnErr}
+use Rattle.std.specs.Prelude.{◌≡◌, ◌⊎◌, ℕ, Bool, List, [], ◌∷◌, take, drop, Option, None, Some}
 use Rattle.std.specs.Option.{option_map}
 use Rattle.std.specs.FinMap as map
-use Rattle.ledger_spec.specs.Bytes.{Bytes, Hash, Nodes}
-use Rattle.node_backend.specs.Counts.{held_sum}
-use Rattle.node_backend.specs.Doubts.{Pair, MayDoubt}
+use Rattle.ledger_spec.specs.Bytes.{Nodes}
+use Rattle.node_backend.specs.Doubts.{Pair}
 use Rattle.log_shelf.specs.Entries.{entries_of}
 use Rattle.log_shelf.specs.Logs.{told_entries, doubted}
 
@@ -36,18 +35,3 @@ with_pair held (Some pair) = map.insert held pair.0 pair.1
 -- a file reads as this map, or as it is with the pair in doubt set
 abbrev pub HoldsOrDoubts : List ℕ → Nodes → Option Pair → Type 0
 HoldsOrDoubts file held doubt = (nodes_of (entries_of file) ≡ held) ⊎ (nodes_of (entries_of file) ≡ with_pair held doubt)
-
--- a put sets the pair; where it failed nothing has changed
-pub record SetsPair {X E : Type 0} (held held' : Nodes) (h : Hash) (form : Bytes) (result : Result X E) : Type 0 where
-  pub set : OnOk result (held' ≡ map.insert held h form)
-  pub unset : OnErr result (held' ≡ held)
-
--- after a put no pair is in doubt; where it failed there may be one: the one before, or this one
-pub record Doubts {X E : Type 0} (before : Option Pair) (pair : Pair) (now : Option Pair) (result : Result X E) : Type 0 where
-  pub sure : OnOk result (now ≡ None)
-  pub doubted : OnErr result (MayDoubt before pair now)
-
--- one more form was asked for
-pub record CountsGet (before after : ℕ) : Type 0 where
-  pub counted : after ≡ held_sum before 1
-  pub risen : before ≤ after

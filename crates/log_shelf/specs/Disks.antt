@@ -1,8 +1,6 @@
 -- What the calls of a disk do to its bytes, and what a stop may leave of them.
-use Rattle.std.specs.Prelude.{◌≡◌, ℕ, ◌+◌, ◌-◌, ◌<◌, ◌≤◌, List, ◌++◌, length, take, drop, replicate, slice_index, Result, Err, OnOk, OnErr}
-use Rattle.run_io.specs.Bytes.{Rose}
+use Rattle.std.specs.Prelude.{◌≡◌, ℕ, ◌+◌, ◌-◌, ◌<◌, ◌≤◌, List, ◌++◌, length, take, drop, replicate, slice_index, Result, OnOk, OnErr}
 use Rattle.node_backend.specs.declared.back.BackFault.{BackFault}
-use Rattle.node_backend.specs.declared.back.BackFault.TheVariants.{Fault}
 
 -- the file has these bytes at this place
 pub record Holds (file : List ℕ) (at : ℕ) (bytes : List ℕ) : Type 0 where
@@ -34,21 +32,6 @@ NoMore old new = (c : List ℕ) → new c → old c
 -- a stop leaves these bytes alone
 abbrev pub Only : List ℕ → (List ℕ → Type 0) → Type 0
 Only file outcomes = (c : List ℕ) → outcomes c → c ≡ file
-
--- it holds where a call ends with the fault of a device
-abbrev pub OnFault : {X : Type 0} → Result X BackFault → Type 0 → Type 0
-OnFault result p = result ≡ Err Fault → p
-
--- a count of faults doesn't fall, and where the device failed it rose
-pub record CountsFaults (Where : Type 0 → Type 0) (before after : ℕ) : Type 0 where
-  pub later : before ≤ after
-  pub cause : Where (Rose before after)
-
--- a call leaves a device its number; its count of faults doesn't fall, and where the device failed it rose
-pub record LeavesDevice {D : Type 0} (number faults : D → ℕ) (Where : Type 0 → Type 0) (old new : D) : Type 0 where
-  pub numbered : number new ≡ number old
-  pub later : faults old ≤ faults new
-  pub cause : Where (Rose (faults old) (faults new))
 
 -- reads give what they gave, and a stop leaves nothing else than before
 pub record KeepsBytes {D : Type 0} (shows : D → List ℕ) (leaves : D → List ℕ → Type 0) (old new : D) : Type 0 where

@@ -1,12 +1,12 @@
 -- A shelf of logs, as contracts of other crates name it, and what a stop leaves of it.
 use Rattle.std.specs.Prelude.{◌≡◌, ◌++◌, ◌<◌, ◌==◌, ℕ, Bool, true, false, cond, IsTrue, List, [], ◌∷◌, map}
-use Rattle.std.specs.Prelude.{◌+◌, is_none, Option, None, Some, Result, IsSomeAnd, IfOk, OnOk, OnErr}
+use Rattle.std.specs.Prelude.{◌+◌, is_none, Option, None, Some, Result, IsSomeAnd, OnOk}
 use Rattle.std.specs.FinMap as finite
 use Rattle.ledger_spec.specs.Bytes.{Bytes, Hash, Nodes}
 use Rattle.node_backend.specs.Numbers.{is_among}
 use Rattle.node_backend.specs.Doubts.{Pair}
 use Rattle.node_backend.specs.declared.back.BackFault.{BackFault}
-use Rattle.log_shelf.specs.Disks.{CountsFaults, OnFault}
+use Rattle.node_backend.specs.Faults.{CountsFaults, OnFault}
 use Rattle.log_shelf.specs.Manifests.{AreLive, NamesOnly, FreshFailed}
 use Rattle.log_shelf.specs.Rooms.{Files, file_in}
 use Rattle.log_shelf.specs.Recovery.{entries_at, live_in, IsKept, IsRecovered}
@@ -46,13 +46,6 @@ module _ {R D : Type 0} {room : Rooms R D} {disk : Disks D} where
   pub record LeavesShelf {X : Type 0} (old new : LogShelf R D room disk) (result : Result X BackFault) : Type 0 where
     pub counts : CountsFaults (OnFault result) old.faults new.faults
     pub stop : StandsLive new
-
-  -- the number of the backend that was made comes to the first list; where none was made nothing does; the second list stays
-  pub record ListsNew {U : Type 0} (undone : LogShelf R D room disk → U) (old new : LogShelf R D room disk)
-      (result : Result (LogBackend D disk) BackFault) : Type 0 where
-    pub listed : IfOk result (λ b. new.live.items ≡ old.live.items ++ b.number ∷ [])
-    pub unlisted : OnErr result (new.live.items ≡ old.live.items)
-    pub others : undone new ≡ undone old
 
   -- the lists, the last number, the manifest and the count of faults are as before
   pub record KeepsShelf (old new : LogShelf R D room disk) : Type 0 where

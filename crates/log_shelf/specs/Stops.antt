@@ -5,7 +5,7 @@ use Rattle.run_io.specs.Bytes.{Rose}
 use Rattle.ledger_spec.specs.Bytes.{Nodes}
 use Rattle.node_backend.specs.Doubts.{Pair}
 use Rattle.node_backend.specs.declared.back.BackFault.{BackFault}
-use Rattle.log_shelf.specs.Disks.{LeavesDevice, OnFault}
+use Rattle.node_backend.specs.Faults.{LeavesDevice, OnFault}
 use Rattle.log_shelf.specs.Backends.{held_in, pair_in_doubt, HoldsOrDoubts}
 use Rattle.log_shelf.specs.declared.disk.Disk.{Ghosts}
 use Rattle.log_shelf.specs.declared.backend.LogBackend.{LogBackend}

@@ -5,10 +5,11 @@ ghost use Rattle.std.specs.FinMap as map;
 ghost use Rattle.std.specs.Option.{option_copied};
 ghost use Rattle.node_backend.specs.Order.{IsNext};
 ghost use Rattle.run_io.specs.Bytes.{Rose};
-ghost use Rattle.node_backend.specs.Doubts.{MayDoubt, FailedPut};
-ghost use Rattle.log_shelf.specs.Disks.{LeavesDevice, OnFault};
+ghost use Rattle.node_backend.specs.Counts.{CountsGet};
+ghost use Rattle.node_backend.specs.Faults.{LeavesDevice, OnFault};
+ghost use Rattle.node_backend.specs.Doubts.{MayDoubt, FailedPut, SetsPair, Doubts};
 ghost use Rattle.log_shelf.specs.Places.{Shows};
-ghost use Rattle.log_shelf.specs.Backends.{held_in, pair_in_doubt, SetsPair, Doubts, CountsGet};
+ghost use Rattle.log_shelf.specs.Backends.{held_in, pair_in_doubt};
 
 use crate::index::Index;
 use crate::log::Log;

@@ -1,6 +1,7 @@
 //! A disk as a log sees it: what reads give, and what a stop may leave.
 ghost use Rattle.std.specs.Prelude.{◌≡◌, ◌+◌, ◌^◌, ◌<◌, ◌≤◌, ℕ, Bool, IsTrue, List, length, take, drop, IfOk, IsOk, OnOk, OnErr};
-ghost use Rattle.log_shelf.specs.Disks.{Only, OnFault, KeepsBytes, LeavesDevice, WritesBytes};
+ghost use Rattle.node_backend.specs.Faults.{OnFault, LeavesDevice};
+ghost use Rattle.log_shelf.specs.Disks.{Only, KeepsBytes, WritesBytes};
 
 use node_backend::BackFault;
 use run_io::Fault;

@@ -4,7 +4,8 @@
 ghost use Rattle.std.specs.Prelude.{◌≡◌, ◌≢◌, ◌+◌, ◌^◌, ◌<◌, ◌≤◌, [], ◌∷◌, true, false, length, take, drop};
 ghost use Rattle.std.specs.Prelude.{slice_index, IfOk, IfErr, OnOk, OnErr};
 ghost use Rattle.run_io.specs.Bytes.{Rose};
-ghost use Rattle.log_shelf.specs.Disks.{Holds, Only, OnFault, KeepsBytes, LeavesDevice};
+ghost use Rattle.node_backend.specs.Faults.{OnFault, LeavesDevice};
+ghost use Rattle.log_shelf.specs.Disks.{Holds, Only, KeepsBytes};
 ghost use Rattle.log_shelf.specs.Logs.{body_of, behind, IsLog, doubted, KeepsAround};
 
 use crate::Disk;

@@ -1,7 +1,7 @@
 //! A room of disks, each with a number: the trait that a shelf of logs is generic in.
 ghost use Rattle.std.specs.Prelude.{◌≡◌, ◌≢◌, ℕ, Bool, IsTrue, [], IfOk, IfSome};
 ghost use Rattle.std.specs.Option.{option_map};
-ghost use Rattle.log_shelf.specs.Disks.{CountsFaults, OnFault};
+ghost use Rattle.node_backend.specs.Faults.{CountsFaults, OnFault};
 ghost use Rattle.log_shelf.specs.Rooms.{Files, IsAttached, file_in};
 
 use crate::Disk;

@@ -4,8 +4,8 @@ ghost use Rattle.std.specs.Prelude.{◌≡◌, ◌≢◌, ◌⊎◌, ◌+◌, �
 ghost use Rattle.std.specs.Prelude.{is_none, IsTrue, IfOk, OnOk, OnErr};
 ghost use Rattle.std.specs.Vec.{vec_capacity};
 ghost use Rattle.run_io.specs.Bytes.{Rose};
-ghost use Rattle.node_backend.specs.Numbers.{is_among, exceeds, without};
-ghost use Rattle.log_shelf.specs.Disks.{CountsFaults, LeavesDevice, OnFault};
+ghost use Rattle.node_backend.specs.Faults.{CountsFaults, LeavesDevice, OnFault};
+ghost use Rattle.node_backend.specs.Numbers.{is_among, exceeds, without, ListsNew, TakesBack};
 ghost use Rattle.log_shelf.specs.Entries.{number_bytes};
 ghost use Rattle.log_shelf.specs.Logs.{body_of, told_entries, doubted, MayDoubtEntry};
 ghost use Rattle.log_shelf.specs.Manifests.{Manifested};
@@ -114,7 +114,7 @@ impl<R: Room> LogShelf<R> {
     ghost use Rattle.std.specs.Prelude.{IsSomeAnd};
     ghost use Rattle.log_shelf.specs.Adding.{IsEmptyLog};
     ghost use Rattle.log_shelf.specs.Stops.{IsNewBackend};
-    ghost use Rattle.log_shelf.specs.Shelves.{KeepsShelf, ListsNew, StandsLive, TellsWhy};
+    ghost use Rattle.log_shelf.specs.Shelves.{KeepsShelf, StandsLive, TellsWhy};
 
     /// A shelf without backends, in a room. It makes the manifest.
     pub fn new(alloc: Global, room: R) -> Result<LogShelf<R>, Unmade<R>>
@@ -166,7 +166,7 @@ impl<R: Room> LogShelf<R> {
     /// Makes a backend with the next number.
     fn make(&mut self, alloc: Global) -> Result<LogBackend<R::D>, BackFault>
         ensures backend { IfOk result (λ b. IsNewBackend (self.old.made + 1) b) }
-        ensures lists { ListsNew (λ s. s.spent.items) self.old self.new result }
+        ensures lists { ListsNew (λ b. b.number) self.old.live.items self.new.live.items self.old.spent.items self.new.spent.items result }
         ensures faults { self.new.faults ≡ self.old.faults }
         ensures fresh { TellsWhy (result ≡ Err BackFault.Fault) self.old self.new result }
     {
@@ -207,7 +207,7 @@ where
     R::D: Send,
 {
     ghost use Rattle.log_shelf.specs.Stops.{IsNewBackend};
-    ghost use Rattle.log_shelf.specs.Shelves.{numbers_of, LeavesShelf, ListsNew, TellsWhy};
+    ghost use Rattle.log_shelf.specs.Shelves.{numbers_of, LeavesShelf, TellsWhy};
 
     type B = LogBackend<R::D>;
 
@@ -221,7 +221,8 @@ where
         ensures backend { IfOk result (λ b. IsNewBackend (self.old.made + 1) b) }
         ensures above { IfOk result (λ b. IsTrue (exceeds b.number self.old.live.items)
             × IsTrue (exceeds b.number (numbers_of self.old.spent.items))) }
-        ensures lists { ListsNew (λ s. numbers_of s.spent.items) self.old self.new result }
+        ensures lists { ListsNew (λ b. b.number) self.old.live.items self.new.live.items (numbers_of self.old.spent.items)
+            (numbers_of self.new.spent.items) result }
         ensures fresh { TellsWhy (self.new.faults ≢ self.old.faults) self.old self.new result }
         ensures left { LeavesShelf self.old self.new result }
     {
@@ -230,10 +231,8 @@ where
     }
 
     fn discard(&mut self, old: LogBackend<R::D>) -> Result<(), BackFault>
-        ensures gone { self.new.live.items ≡ without self.old.live.items old.number }
-        ensures done { OnOk result (numbers_of self.new.spent.items ≡ numbers_of self.old.spent.items) }
-        ensures kept { OnErr result (IsTrue (is_among self.old.live.items old.number)
-            → numbers_of self.new.spent.items ≡ numbers_of self.old.spent.items ++ old.number ∷ []) }
+        ensures taken { TakesBack old.number self.old.live.items self.new.live.items (numbers_of self.old.spent.items)
+            (numbers_of self.new.spent.items) result }
         ensures rose { self.new.faults ≢ self.old.faults → Rose (R.D.faults self.old.manifest.disk) (R.D.faults self.new.manifest.disk) }
         ensures left { LeavesShelf self.old self.new result }
     {

@@ -1,7 +1,10 @@
 pub mod Order
 pub mod Rising
 pub mod Counts
+pub mod Faults
 pub mod Numbers
 pub mod Doubts
+pub mod Backends
 pub mod Calls
+pub mod Memory
 pub mod Shelves

@@ -1,13 +1,14 @@
 //! What a store stands on: the trait of backends, which hold forms, and of shelves, which make them, and why either could not answer.
-ghost use Rattle.std.specs.Prelude.{◌≡◌, ◌≤◌, ◌⊎◌, ◌++◌, ◌∷◌, [], ℕ, List, Option, None, Bool, IsTrue, IfOk, OnOk, OnErr};
+ghost use Rattle.std.specs.Prelude.{◌≡◌, ℕ, List, Option, Bool, IsTrue, IfOk, OnOk, OnErr};
 ghost use Rattle.std.specs.FinMap as map;
 ghost use Rattle.std.specs.Option.{option_copied};
 ghost use Rattle.ledger_spec.specs.Bytes.{Nodes};
 ghost use Rattle.node_backend.specs.Order.{IsNext};
-ghost use Rattle.run_io.specs.Bytes.{Rose};
-ghost use Rattle.node_backend.specs.Counts.{held_sum};
-ghost use Rattle.node_backend.specs.Numbers.{is_among, exceeds, without};
-ghost use Rattle.node_backend.specs.Doubts.{Pair, MayDoubt, FailedPut};
+ghost use Rattle.node_backend.specs.Counts.{CountsGet};
+ghost use Rattle.node_backend.specs.Faults.{OnFault, CountsFaults, LeavesDevice};
+ghost use Rattle.node_backend.specs.Numbers.{exceeds, ListsNew, TakesBack};
+ghost use Rattle.node_backend.specs.Doubts.{Pair, Doubts, FailedPut};
+ghost use Rattle.node_backend.specs.Backends.{IsEmptyBackend};
 
 use half_hash::{Blob, Hash32, Memory};
 use std::alloc::{AllocError, AllocFailed, Global};
@@ -79,34 +80,26 @@ pub trait Backend: Send + Drop {
     fn get(&mut self, alloc: Global, h: &Hash32) -> Result<Option<Blob>, BackFault>
         ensures same { IsTrue tells → held self.new ≡ held self.old }
         ensures found { IsTrue tells → IfOk result (λ b. b ≡ map.get (held self.old) h.now) }
-        ensures later { faults self.old ≤ faults self.new }
-        ensures counted { gets self.new ≡ held_sum (gets self.old) 1 }
-        ensures risen { gets self.old ≤ gets self.new }
-        ensures numbered { number self.new ≡ number self.old }
+        ensures asked { CountsGet (gets self.old) (gets self.new) }
         ensures doubted { doubt self.new ≡ doubt self.old }
-        ensures cause { result ≡ Err BackFault.Fault → Rose (faults self.old) (faults self.new) };
+        ensures device { LeavesDevice number faults (OnFault result) self.old self.new };
 
     /// Sets the form of a hash.
     fn put(&mut self, alloc: Global, h: &Hash32, form: &[u8]) -> Result<(), BackFault>
         ensures set { IsTrue tells → OnOk result (held self.new ≡ map.insert (held self.old) h.now form.now) }
         ensures partly { IsTrue tells
             → OnErr result (FailedPut (held self.old) (doubt self.old) (h.now, form.now) (held self.new) (doubt self.new)) }
-        ensures sure { OnOk result (doubt self.new ≡ None) }
-        ensures doubted { OnErr result (MayDoubt (doubt self.old) (h.now, form.now) (doubt self.new)) }
-        ensures later { faults self.old ≤ faults self.new }
+        ensures doubts { Doubts (doubt self.old) (h.now, form.now) (doubt self.new) result }
         ensures uncounted { gets self.new ≡ gets self.old }
-        ensures numbered { number self.new ≡ number self.old }
-        ensures cause { result ≡ Err BackFault.Fault → Rose (faults self.old) (faults self.new) };
+        ensures device { LeavesDevice number faults (OnFault result) self.old self.new };
 
     /// The least hash that comes after another one, or the least of all.
     fn next(&mut self, alloc: Global, after: Option<&Hash32>) -> Result<Option<Hash32>, BackFault>
         ensures same { IsTrue tells → held self.new ≡ held self.old }
         ensures next { IsTrue tells → IfOk result (IsNext (held self.old) (option_copied after.entry)) }
-        ensures later { faults self.old ≤ faults self.new }
         ensures uncounted { gets self.new ≡ gets self.old }
-        ensures numbered { number self.new ≡ number self.old }
         ensures doubted { doubt self.new ≡ doubt self.old }
-        ensures cause { result ≡ Err BackFault.Fault → Rose (faults self.old) (faults self.new) };
+        ensures device { LeavesDevice number faults (OnFault result) self.old self.new };
 
     /// How often the device failed.
     fn faults(&self) -> u64
@@ -133,26 +126,17 @@ pub trait Shelf: Send + Drop {
 
     /// An empty backend, with a number greater than all of both lists.
     fn fresh(&mut self, alloc: Global) -> Result<Self::B, BackFault>
-        ensures empty { IfOk result (λ b. IsTrue Self.B.tells → Self.B.held b ≡ map.empty) }
-        ensures uncounted { IfOk result (λ b. (Self.B.faults b ≡ 0) × (Self.B.gets b ≡ 0)) }
-        ensures sure { IfOk result (λ b. Self.B.doubt b ≡ None) }
+        ensures backend { IfOk result (λ b. IsEmptyBackend Self.B.tells Self.B.held Self.B.faults Self.B.gets Self.B.doubt b) }
         ensures above { IfOk result (λ b. IsTrue (exceeds (Self.B.number b) (live self.old))
             × IsTrue (exceeds (Self.B.number b) (undone self.old))) }
-        ensures listed { IfOk result (λ b. live self.new ≡ live self.old ++ Self.B.number b ∷ []) }
-        ensures unlisted { OnErr result (live self.new ≡ live self.old) }
-        ensures others { undone self.new ≡ undone self.old }
-        ensures later { faults self.old ≤ faults self.new }
-        ensures cause { result ≡ Err BackFault.Fault → Rose (faults self.old) (faults self.new) };
+        ensures lists { ListsNew Self.B.number (live self.old) (live self.new) (undone self.old) (undone self.new) result }
+        ensures counts { CountsFaults (OnFault result) (faults self.old) (faults self.new) };
 
     /// Takes a backend back: its number leaves the first list, and where the device fails it goes into
     /// the second.
     fn discard(&mut self, old: Self::B) -> Result<(), BackFault>
-        ensures gone { live self.new ≡ without (live self.old) (Self.B.number old) }
-        ensures done { OnOk result (undone self.new ≡ undone self.old) }
-        ensures kept { OnErr result (IsTrue (is_among (live self.old) (Self.B.number old))
-            → undone self.new ≡ undone self.old ++ Self.B.number old ∷ []) }
-        ensures later { faults self.old ≤ faults self.new }
-        ensures cause { result ≡ Err BackFault.Fault → Rose (faults self.old) (faults self.new) };
+        ensures taken { TakesBack (Self.B.number old) (live self.old) (live self.new) (undone self.old) (undone self.new) result }
+        ensures counts { CountsFaults (OnFault result) (faults self.old) (faults self.new) };
 
     /// How often the shelf failed.
     fn faults(&self) -> u64

@@ -1,11 +1,12 @@
 //! A backend in memory, which fails at stated calls.
-ghost use Rattle.std.specs.Prelude.{◌≡◌, ◌≢◌, ◌≤◌, ◌⊎◌, ℕ, Bool, IsTrue, true, None, IfOk, OnOk, OnErr, MatchBool, if◌then◌else◌};
+ghost use Rattle.std.specs.Prelude.{◌≡◌, ◌≤◌, IsTrue, true, None, IfOk};
 ghost use Rattle.std.specs.FinMap as map;
 ghost use Rattle.std.specs.Option.{option_copied};
 ghost use Rattle.node_backend.specs.Order.{IsNext};
 ghost use Rattle.run_io.specs.Bytes.{Rose};
-ghost use Rattle.node_backend.specs.Counts.{held_sum};
+ghost use Rattle.node_backend.specs.Counts.{held_sum, CountsGet};
 ghost use Rattle.node_backend.specs.Calls.{fails_next, faults_after};
+ghost use Rattle.node_backend.specs.Doubts.{SetsPair};
 
 use crate::table::NodeTable;
 use crate::{BackFault, Backend};
@@ -59,6 +60,8 @@ pub(crate) fn call_fails(calls: &mut u64, faults: &mut u64, failing: &[u64]) -> 
 }
 
 impl Backend for MemBackend {
+    ghost use Rattle.node_backend.specs.Memory.{LeavesMemory};
+
     ghost tells = { true };
 
     ghost held = { λ b. b.map };
@@ -78,15 +81,8 @@ impl Backend for MemBackend {
     fn get(&mut self, alloc: Global, h: &Hash32) -> Result<Option<Blob>, BackFault>
         ensures same { self.new.map ≡ self.old.map }
         ensures found { IfOk result (λ b. b ≡ map.get self.old.map h.now) }
-        ensures later { self.old.faults ≤ self.new.faults }
-        ensures counted { self.new.gets ≡ held_sum self.old.gets 1 }
-        ensures risen { self.old.gets ≤ self.new.gets }
-        ensures numbered { self.new.number ≡ self.old.number }
-        ensures cause { result ≡ Err BackFault.Fault → Rose self.old.faults self.new.faults }
-        ensures exact { MatchBool (fails_next self.old.calls self.old.failing.items)
-            (result ≡ Err BackFault.Fault) (result ≢ Err BackFault.Fault) }
-        ensures failed { self.new.faults ≡ faults_after (fails_next self.old.calls self.old.failing.items) self.old.faults }
-        ensures called { (self.new.calls ≡ held_sum self.old.calls 1) × (self.new.failing ≡ self.old.failing) }
+        ensures asked { CountsGet self.old.gets self.new.gets }
+        ensures left { LeavesMemory self.old self.new result }
     {
         self.gets = self.gets.saturating_add(1);
         if call_fails(&mut self.calls, &mut self.faults, &self.failing) {
@@ -99,16 +95,9 @@ impl Backend for MemBackend {
     }
 
     fn put(&mut self, alloc: Global, h: &Hash32, form: &[u8]) -> Result<(), BackFault>
-        ensures set { OnOk result (self.new.map ≡ map.insert self.old.map h.now form.now) }
-        ensures unset { OnErr result (self.new.map ≡ self.old.map) }
-        ensures later { self.old.faults ≤ self.new.faults }
+        ensures pair { SetsPair self.old.map self.new.map h.now form.now result }
         ensures uncounted { self.new.gets ≡ self.old.gets }
-        ensures numbered { self.new.number ≡ self.old.number }
-        ensures cause { result ≡ Err BackFault.Fault → Rose self.old.faults self.new.faults }
-        ensures exact { MatchBool (fails_next self.old.calls self.old.failing.items)
-            (result ≡ Err BackFault.Fault) (result ≢ Err BackFault.Fault) }
-        ensures failed { self.new.faults ≡ faults_after (fails_next self.old.calls self.old.failing.items) self.old.faults }
-        ensures called { (self.new.calls ≡ held_sum self.old.calls 1) × (self.new.failing ≡ self.old.failing) }
+        ensures left { LeavesMemory self.old self.new result }
     {
         if call_fails(&mut self.calls, &mut self.faults, &self.failing) {
             return Err(BackFault::Fault);
@@ -121,14 +110,8 @@ impl Backend for MemBackend {
     fn next(&mut self, alloc: Global, after: Option<&Hash32>) -> Result<Option<Hash32>, BackFault>
         ensures same { self.new.map ≡ self.old.map }
         ensures next { IfOk result (IsNext self.old.map (option_copied after.entry)) }
-        ensures later { self.old.faults ≤ self.new.faults }
         ensures uncounted { self.new.gets ≡ self.old.gets }
-        ensures numbered { self.new.number ≡ self.old.number }
-        ensures cause { result ≡ Err BackFault.Fault → Rose self.old.faults self.new.faults }
-        ensures exact { MatchBool (fails_next self.old.calls self.old.failing.items)
-            (result ≡ Err BackFault.Fault) (result ≢ Err BackFault.Fault) }
-        ensures failed { self.new.faults ≡ faults_after (fails_next self.old.calls self.old.failing.items) self.old.faults }
-        ensures called { (self.new.calls ≡ held_sum self.old.calls 1) × (self.new.failing ≡ self.old.failing) }
+        ensures left { LeavesMemory self.old self.new result }
     {
         if call_fails(&mut self.calls, &mut self.faults, &self.failing) {
             return Err(BackFault::Fault);

@@ -1,13 +1,11 @@
 //! A shelf in memory, which numbers its backends and fails at stated calls.
-ghost use Rattle.std.specs.Prelude.{◌≡◌, ◌≢◌, ◌≤◌, ◌<◌, ◌++◌, ◌∷◌, ◌+◌, [], List, IsTrue, length};
-ghost use Rattle.std.specs.Prelude.{map as map_list, IfOk, OnOk, OnErr, MatchBool};
-ghost use Rattle.std.specs.FinMap as map;
-ghost use Rattle.std.specs.Vec.{vec_capacity, vec_len};
-ghost use Rattle.run_io.specs.Bytes.{Rose};
-ghost use Rattle.node_backend.specs.Counts.{held_sum};
-ghost use Rattle.node_backend.specs.Numbers.{is_among, exceeds, without};
-ghost use Rattle.node_backend.specs.Calls.{fails_next, faults_after, plan_at};
-ghost use Rattle.node_backend.specs.Shelves.{refuses_fresh, Called};
+ghost use Rattle.std.specs.Prelude.{◌≡◌, ◌≢◌, ◌≤◌, ◌<◌, ◌++◌, ◌∷◌, ◌+◌, [], IsTrue, length};
+ghost use Rattle.std.specs.Prelude.{map as map_list, IfOk};
+ghost use Rattle.std.specs.Vec.{vec_capacity};
+ghost use Rattle.node_backend.specs.Numbers.{is_among, exceeds, without, ListsNew, TakesBack};
+ghost use Rattle.node_backend.specs.Calls.{fails_next, plan_at};
+ghost use Rattle.node_backend.specs.Memory.{IsNewMemory};
+ghost use Rattle.node_backend.specs.Shelves.{refuses_fresh, MakesOne, LeavesShelved};
 
 use crate::memory::call_fails;
 use crate::table::NodeTable;
@@ -85,9 +83,7 @@ fn plan_of(alloc: Global, plans: &[Vec<u64>], made: u64) -> Result<Vec<u64>, All
 /// Lists one more number, with room for it among those whose discard fails.
 fn list_number(live: &mut Vec<u64>, undone: &mut Vec<u64>, number: u64) -> Result<(), BackFault>
     requires room { length undone.old.items + length live.old.items ≤ vec_capacity undone.old }
-    ensures listed { OnOk result (live.new.items ≡ live.old.items ++ number ∷ []) }
-    ensures unlisted { OnErr result (live.new.items ≡ live.old.items) }
-    ensures undone { undone.new.items ≡ undone.old.items }
+    ensures lists { ListsNew (λ _. number) live.old.items live.new.items undone.old.items undone.new.items result }
     ensures room { length undone.new.items + length live.new.items ≤ vec_capacity undone.new }
     ensures cause { result ≢ Err BackFault.Fault }
 {
@@ -128,21 +124,11 @@ impl Shelf for MemShelf {
     ghost undone = { λ s. s.undone };
 
     fn fresh(&mut self, alloc: Global) -> Result<MemBackend, BackFault>
-        ensures empty { IfOk result (λ b. b.map ≡ map.empty) }
-        ensures uncounted { IfOk result (λ b. (b.faults ≡ 0) × (b.gets ≡ 0) × (b.calls ≡ 0)) }
-        ensures plan { IfOk result (λ b. b.failing.items ≡ plan_at self.old.plans self.old.made) }
-        ensures number { IfOk result (λ b. b.number ≡ self.old.made + 1) }
-        ensures made { OnOk result (self.new.made ≡ self.old.made + 1) }
-        ensures unmade { OnErr result (self.new.made ≡ self.old.made) }
+        ensures backend { IfOk result (λ b. IsNewMemory (self.old.made + 1) (plan_at self.old.plans self.old.made) b) }
+        ensures made { MakesOne self.old self.new result }
         ensures above { IfOk result (λ b. IsTrue (exceeds b.number self.old.live) × IsTrue (exceeds b.number self.old.undone)) }
-        ensures listed { IfOk result (λ b. self.new.live ≡ self.old.live ++ b.number ∷ []) }
-        ensures unlisted { OnErr result (self.new.live ≡ self.old.live) }
-        ensures others { self.new.undone ≡ self.old.undone }
-        ensures later { self.old.faults ≤ self.new.faults }
-        ensures cause { result ≡ Err BackFault.Fault → Rose self.old.faults self.new.faults }
-        ensures exact { MatchBool (refuses_fresh self.old) (result ≡ Err BackFault.Fault) (result ≢ Err BackFault.Fault) }
-        ensures failed { self.new.faults ≡ faults_after (refuses_fresh self.old) self.old.faults }
-        ensures called { Called self.old self.new }
+        ensures lists { ListsNew (λ b. b.number) self.old.live self.new.live self.old.undone self.new.undone result }
+        ensures left { LeavesShelved (refuses_fresh self.old) self.old self.new result }
     {
         if call_fails(&mut self.calls, &mut self.faults, &self.failing) {
             return Err(BackFault::Fault);
@@ -166,19 +152,11 @@ impl Shelf for MemShelf {
     }
 
     fn discard(&mut self, old: MemBackend) -> Result<(), BackFault>
-        ensures gone { self.new.live ≡ without self.old.live old.number }
-        ensures done { OnOk result (self.new.undone ≡ self.old.undone) }
-        ensures kept { OnErr result (IsTrue (is_among self.old.live old.number)
-            → self.new.undone ≡ self.old.undone ++ old.number ∷ []) }
+        ensures taken { TakesBack old.number self.old.live self.new.live self.old.undone self.new.undone result }
         // A backend that is none of this shelf's leaves both lists.
         ensures foreign { ¬ IsTrue (is_among self.old.live old.number) → self.new.undone ≡ self.old.undone }
         ensures made { self.new.made ≡ self.old.made }
-        ensures later { self.old.faults ≤ self.new.faults }
-        ensures cause { result ≡ Err BackFault.Fault → Rose self.old.faults self.new.faults }
-        ensures exact { MatchBool (fails_next self.old.calls self.old.failing)
-            (result ≡ Err BackFault.Fault) (result ≢ Err BackFault.Fault) }
-        ensures failed { self.new.faults ≡ faults_after (fails_next self.old.calls self.old.failing) self.old.faults }
-        ensures called { Called self.old self.new }
+        ensures left { LeavesShelved (fails_next self.old.calls self.old.failing) self.old self.new result }
         // It takes no memory.
         ensures memory { result ≢ Err BackFault.Memory }
     {

@@ -6,5 +6,5 @@ pub invariant_of-self-2 : goal.invariant_of-self-2
 invariant_of-self-2 c =
     let e = listed_all c.self.inside.made c.self.inside.live.items c.self.inside.undone.items c.list_number.new.live.items
     c.list_number.new.undone.items c.self.invariant.0 c.self.invariant.1
-    c.in_ok-list_number.ensures.listed c.list_number.ensures.undone in
+    c.in_ok-list_number.ensures.lists.listed c.list_number.ensures.lists.others in
     (e.0, e.1, c.list_number.ensures.room)

@@ -13,8 +13,8 @@ invariant_of-self-2 g c = (
       c.in-Some.fresh c.replace-old.result c.replace-full.new.dest c.replace-old.new.dest
       c.self.inside.ready c.take.new.self c.self.invariant.0 (sym c.take.ensures.value ∙ c.in-Some.is) c.take.ensures.after
       c.replace-full.ensures.after (c.replace-old.ensures.after ∙ c.replace-full.ensures.value)
-      c.replace-old.ensures.value c.discard.ensures.gone
-      (either_way c.discard.result c.discard.ensures.done c.discard.ensures.kept
+      c.replace-old.ensures.value c.discard.ensures.taken.gone
+      (either_way c.discard.result c.discard.ensures.taken.done c.discard.ensures.taken.kept
       (numbered_live g.Sh.B.Backend.number _ _ c.self.inside.archive c.replace-old.result _ _ c.self.invariant.0
       c.replace-old.ensures.value)),
   λ tells. swapped_keeps g.Sh.B.Backend.number g.Sh.B.Backend.held g.Sh.B.Backend.doubt c.self.inside.writable c.self.inside.archive
