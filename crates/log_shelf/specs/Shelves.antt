@@ -6,7 +6,8 @@ use Rattle.ledger_spec.specs.Bytes.{Bytes, Hash, Nodes}
 use Rattle.node_backend.specs.Numbers.{is_among}
 use Rattle.node_backend.specs.Doubts.{Pair}
 use Rattle.node_backend.specs.declared.back.BackFault.{BackFault}
-use Rattle.node_backend.specs.Faults.{CountsFaults, OnFault}
+use Rattle.run_io.specs.Bytes.{CountsFaults}
+use Rattle.node_backend.specs.Faults.{OnFault}
 use Rattle.log_shelf.specs.Manifests.{AreLive, NamesOnly, FreshFailed}
 use Rattle.log_shelf.specs.Rooms.{Files, file_in}
 use Rattle.log_shelf.specs.Recovery.{entries_at, live_in, IsKept, IsRecovered}

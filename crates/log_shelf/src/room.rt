@@ -1,7 +1,8 @@
 //! A room of disks, each with a number: the trait that a shelf of logs is generic in.
 ghost use Rattle.std.specs.Prelude.{◌≡◌, ◌≢◌, ℕ, Bool, IsTrue, [], IfOk, IfSome};
 ghost use Rattle.std.specs.Option.{option_map};
-ghost use Rattle.node_backend.specs.Faults.{CountsFaults, OnFault};
+ghost use Rattle.run_io.specs.Bytes.{CountsFaults};
+ghost use Rattle.node_backend.specs.Faults.{OnFault};
 ghost use Rattle.log_shelf.specs.Rooms.{Files, IsAttached, file_in};
 
 use crate::Disk;

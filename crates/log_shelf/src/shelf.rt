@@ -3,8 +3,8 @@
 ghost use Rattle.std.specs.Prelude.{◌≡◌, ◌≢◌, ◌⊎◌, ◌+◌, ◌<◌, ◌≤◌, ◌++◌, [], ◌∷◌, false, length, map as map_list};
 ghost use Rattle.std.specs.Prelude.{is_none, IsTrue, IfOk, OnOk, OnErr};
 ghost use Rattle.std.specs.Vec.{vec_capacity};
-ghost use Rattle.run_io.specs.Bytes.{Rose};
-ghost use Rattle.node_backend.specs.Faults.{CountsFaults, LeavesDevice, OnFault};
+ghost use Rattle.run_io.specs.Bytes.{Rose, CountsFaults};
+ghost use Rattle.node_backend.specs.Faults.{LeavesDevice, OnFault};
 ghost use Rattle.node_backend.specs.Numbers.{is_among, exceeds, without, ListsNew, TakesBack};
 ghost use Rattle.log_shelf.specs.Entries.{number_bytes};
 ghost use Rattle.log_shelf.specs.Logs.{body_of, told_entries, doubted, MayDoubtEntry};

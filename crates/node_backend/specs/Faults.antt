@@ -8,11 +8,6 @@ use Rattle.node_backend.specs.declared.back.BackFault.TheVariants.{Fault}
 abbrev pub OnFault : {X : Type 0} → Result X BackFault → Type 0 → Type 0
 OnFault result p = result ≡ Err Fault → p
 
--- a count of faults doesn't fall, and where the device failed it rose
-pub record CountsFaults (Where : Type 0 → Type 0) (before after : ℕ) : Type 0 where
-  pub later : before ≤ after
-  pub cause : Where (Rose before after)
-
 -- a call leaves a device its number; its count of faults doesn't fall, and where the device failed it rose
 pub record LeavesDevice {D : Type 0} (number faults : D → ℕ) (Where : Type 0 → Type 0) (old new : D) : Type 0 where
   pub numbered : number new ≡ number old

@@ -2,7 +2,8 @@
 use Rattle.std.specs.Prelude.{◌≡◌, ℕ, ◌-◌, ◌^◌, ◌==◌, ◌||◌, ◌+◌, Bool, List, Result, OnOk, OnErr}
 use Rattle.node_backend.specs.Counts.{held_sum}
 use Rattle.node_backend.specs.Calls.{fails_next, FailsExactly}
-use Rattle.node_backend.specs.Faults.{OnFault, CountsFaults}
+use Rattle.run_io.specs.Bytes.{CountsFaults}
+use Rattle.node_backend.specs.Faults.{OnFault}
 use Rattle.node_backend.specs.declared.back.BackFault.{BackFault}
 
 -- the plans of its backends, how many it made, its two lists, its calls and those that fail, and its faults

@@ -1,7 +1,6 @@
 //! What gives bytes and what takes them, and how all of them are read or written.
-ghost use Rattle.std.specs.Prelude.{◌≡◌, ◌<◌, ◌≤◌, ◌++◌, ℕ, List, Option, Some, IfOk, IfErr, OnErr, OnOk, IfSome, length, take, vec_len};
-ghost use Rattle.std.specs.Prelude.{◌+◌};
-ghost use Rattle.run_io.specs.Bytes.{Rose, Takes, Took, TookPart, Wrote, WrotePart};
+ghost use Rattle.std.specs.Prelude.{◌≡◌, ◌≤◌, ◌++◌, ◌+◌, ℕ, List, Option, Some, IfOk, IfErr, OnErr, OnOk, IfSome, length, take, vec_len};
+ghost use Rattle.run_io.specs.Bytes.{CountsFaults, Reads, Took, TookPart, Writes, Wrote, WrotePart};
 
 use std::alloc::{AllocError, Global};
 
@@ -20,11 +19,9 @@ pub trait Source {
     /// Reads some bytes; none into a buffer that isn't empty is the end of input. A read that fails
     /// moves none.
     fn read(&mut self, buf: &mut [u8]) -> Result<usize, Fault>
-        ensures within { IfOk result (λ n. n ≤ length buf.old) }
-        ensures taken { IfOk result (λ n. IfSome (left self.old) (λ bytes. Takes bytes n buf.new (length buf.old) (left self.new))) }
+        ensures read { Reads (left self.old) (left self.new) buf.old buf.new result }
         ensures kept { OnErr result (IfSome (left self.old) (λ bytes. left self.new ≡ Some bytes)) }
-        ensures later { faults self.old ≤ faults self.new }
-        ensures cause { OnErr result (Rose (faults self.old) (faults self.new)) };
+        ensures counts { CountsFaults (OnErr result) (faults self.old) (faults self.new) };
 }
 
 /// What takes bytes.
@@ -37,12 +34,8 @@ pub trait Sink {
 
     /// Takes a front of the piece; of a piece that isn't empty at least one byte.
     fn write(&mut self, piece: &[u8]) -> Result<usize, Fault>
-        ensures within { IfOk result (λ n. n ≤ length piece.now) }
-        ensures some { IfOk result (λ n. 0 < length piece.now → 0 < n) }
-        ensures wrote { IfOk result (λ n. Wrote (held self.old) (held self.new) (take n piece.now)) }
-        ensures part { OnErr result (WrotePart (held self.old) (held self.new) piece.now) }
-        ensures later { faults self.old ≤ faults self.new }
-        ensures cause { OnErr result (Rose (faults self.old) (faults self.new)) };
+        ensures written { Writes (held self.old) (held self.new) piece.now result }
+        ensures counts { CountsFaults (OnErr result) (faults self.old) (faults self.new) };
 }
 
 /// Why not all was read.
@@ -87,8 +80,7 @@ pub fn read_all<S: Source>(alloc: Global, source: &mut S, most: usize) -> Result
     ensures most { IfOk result (λ v. vec_len v ≤ most) }
 
     ensures part { OnErr result (TookPart (S.left source.old) (S.left source.new) most) }
-    ensures later { S.faults source.old ≤ S.faults source.new }
-    ensures cause { IfErr result (λ e. e ≡ AllFault.Fault → Rose (S.faults source.old) (S.faults source.new)) }
+    ensures counts { CountsFaults (λ rose. IfErr result (λ e. e ≡ AllFault.Fault → rose)) (S.faults source.old) (S.faults source.new) }
 {
     let mut held = Vec::new(alloc);
     let mut buf = vec![in alloc; 0; PIECE]?;
@@ -108,14 +100,12 @@ fn read_piece<S: Source>(
     buf: &mut [u8],
     held: &mut Vec<u8>,
 ) -> Result<usize, AllFault>
-    ensures within { IfOk result (λ n. n ≤ length buf.old) }
-    ensures taken { IfOk result (λ n. IfSome (S.left source.old) (λ bytes. Takes bytes n buf.new (length buf.old) (S.left source.new))) }
+    ensures read { Reads (S.left source.old) (S.left source.new) buf.old buf.new result }
     ensures held { IfOk result (λ n. held.new.items ≡ held.old.items ++ take n buf.new) }
     ensures len { IfOk result (λ n. vec_len held.new ≡ vec_len held.old + n) }
 
     ensures part { OnErr result (TookPart (S.left source.old) (S.left source.new) (length buf.old)) }
-    ensures later { S.faults source.old ≤ S.faults source.new }
-    ensures cause { IfErr result (λ e. e ≡ AllFault.Fault → Rose (S.faults source.old) (S.faults source.new)) }
+    ensures counts { CountsFaults (λ rose. IfErr result (λ e. e ≡ AllFault.Fault → rose)) (S.faults source.old) (S.faults source.new) }
 {
     let n = source.read(buf)?;
     held.extend_from_slice(&buf[..n])?;
@@ -126,8 +116,7 @@ fn read_piece<S: Source>(
 pub fn write_all<K: Sink>(sink: &mut K, bytes: &[u8]) -> Result<(), Fault>
     ensures wrote { OnOk result (Wrote (K.held sink.old) (K.held sink.new) bytes.now) }
     ensures part { OnErr result (WrotePart (K.held sink.old) (K.held sink.new) bytes.now) }
-    ensures later { K.faults sink.old ≤ K.faults sink.new }
-    ensures cause { OnErr result (Rose (K.faults sink.old) (K.faults sink.new)) }
+    ensures counts { CountsFaults (OnErr result) (K.faults sink.old) (K.faults sink.new) }
 {
     let mut rest = bytes;
     while !rest.is_empty() {

@@ -1,7 +1,7 @@
 //! A source and a sink in memory, which fail at stated calls.
-ghost use Rattle.std.specs.Prelude.{◌≡◌, ◌⊎◌, ◌↔◌, ◌-◌, ◌<◌, ◌≤◌, ◌++◌, [], Some, Contains, IfOk, IfSome, IsErr, OnErr, drop, length};
-ghost use Rattle.std.specs.Prelude.{min, take};
-ghost use Rattle.run_io.specs.Bytes.{Rose, Takes, Wrote, WrotePart, next_count};
+ghost use Rattle.std.specs.Prelude.{◌≡◌, ◌≤◌, [], Some, IfOk, OnErr, length};
+ghost use Rattle.run_io.specs.Bytes.{CountsFaults, Reads, Writes};
+ghost use Rattle.run_io.specs.Memory.{ReadsByPlan, WritesByPlan};
 
 use crate::{Fault, Sink, Source};
 use half_hash::Memory;
@@ -65,17 +65,12 @@ impl Source for MemSource {
 
     /// Gives at most `piece` bytes, and fails exactly in the calls whose numbers stand in `failing`.
     fn read(&mut self, buf: &mut [u8]) -> Result<usize, Fault>
-        ensures within { IfOk result (λ n. n ≤ length buf.old) }
-        ensures taken { IfOk result (λ n. Takes self.old.left n buf.new (length buf.old) (Some self.new.left)) }
+        ensures read { Reads (Some self.old.left) (Some self.new.left) buf.old buf.new result }
         ensures kept { OnErr result (self.new.left ≡ self.old.left) }
-        ensures later { self.old.faults ≤ self.new.faults }
-        ensures cause { OnErr result (Rose self.old.faults self.new.faults) }
+        ensures counts { CountsFaults (OnErr result) self.old.faults self.new.faults }
 
         // What this source does beyond any other.
-        ensures fails { IsErr result ↔ Contains self.old.failing (next_count self.old.calls) }
-        ensures count { IfOk result (λ n. n ≡ min self.old.piece (min (length buf.old) (length self.old.left))) }
-        ensures ok { IfOk result (λ n. self.new ≡ record self.old { left = drop n self.old.left; calls = next_count self.old.calls }) }
-        ensures err { OnErr result (self.new ≡ record self.old { calls = next_count self.old.calls; faults = next_count self.old.faults }) }
+        ensures plan { ReadsByPlan self.old self.new (length buf.old) result }
     {
         self.calls = self.calls.saturating_add(1);
         if self.failing.contains(&self.calls) {
@@ -144,20 +139,11 @@ impl Sink for MemSink {
     /// Takes what fits, with no memory, and fails exactly in the calls whose numbers stand in
     /// `failing` and where nothing of a piece fits.
     fn write(&mut self, piece: &[u8]) -> Result<usize, Fault>
-        ensures within { IfOk result (λ n. n ≤ length piece.now) }
-        ensures some { IfOk result (λ n. 0 < length piece.now → 0 < n) }
-        ensures wrote { IfOk result (λ n. Wrote (Some self.old.held) (Some self.new.held) (take n piece.now)) }
-        ensures part { OnErr result (WrotePart (Some self.old.held) (Some self.new.held) piece.now) }
-        ensures later { self.old.faults ≤ self.new.faults }
-        ensures cause { OnErr result (Rose self.old.faults self.new.faults) }
+        ensures written { Writes (Some self.old.held) (Some self.new.held) piece.now result }
+        ensures counts { CountsFaults (OnErr result) self.old.faults self.new.faults }
 
         // What this sink does beyond any other.
-        ensures fails { IsErr result
-            ↔ (Contains self.old.failing (next_count self.old.calls) ⊎ ((0 < length piece.now) × (self.old.most ≤ length self.old.held))) }
-        ensures count { IfOk result (λ n. n ≡ min (self.old.most - length self.old.held) (length piece.now)) }
-        ensures ok { IfOk result (λ n.
-            self.new ≡ record self.old { held = self.old.held ++ take n piece.now; calls = next_count self.old.calls }) }
-        ensures err { OnErr result (self.new ≡ record self.old { calls = next_count self.old.calls; faults = next_count self.old.faults }) }
+        ensures plan { WritesByPlan self.old self.new piece.now result }
     {
         self.calls = self.calls.saturating_add(1);
         let room = self.most - self.held.len();

@@ -2,8 +2,8 @@
 //!
 //! What std tells of a reader's or a writer's bytes is passed on, which at a file, a socket or a
 //! terminal is nothing. A call that the system interrupts counts as a fault, and is not tried again.
-ghost use Rattle.std.specs.Prelude.{◌≡◌, ◌<◌, ◌≤◌, IfOk, IsErr, OnErr, length, take};
-ghost use Rattle.run_io.specs.Bytes.{Rose, Wrote, WrotePart, next_count};
+ghost use Rattle.std.specs.Prelude.{◌≡◌, IfOk, IsErr, OnErr};
+ghost use Rattle.run_io.specs.Bytes.{CountsFaults, Writes, next_count};
 
 use crate::{Fault, Sink, Source};
 use std::io;
@@ -75,8 +75,7 @@ impl<W: Write> Sink for StdSink<W> {
 fn count_error(answer: io::Result<usize>, faults: &mut u64) -> Result<usize, Fault>
     ensures ok { IfOk answer (λ n. (result ≡ Ok n) × (faults.new ≡ faults.old)) }
     ensures err { OnErr answer (IsErr result × (faults.new ≡ next_count faults.old)) }
-    ensures later { faults.old ≤ faults.new }
-    ensures cause { OnErr result (Rose faults.old faults.new) }
+    ensures counts { CountsFaults (OnErr result) faults.old faults.new }
 {
     match answer {
         Ok(n) => Ok(n),
@@ -90,10 +89,7 @@ fn count_error(answer: io::Result<usize>, faults: &mut u64) -> Result<usize, Fau
 /// One write, and what the writer has in its buffer. A writer that takes nothing of a piece that
 /// isn't empty has failed.
 fn write_through<W: Write>(inner: &mut W, piece: &[u8]) -> io::Result<usize>
-    ensures within { IfOk result (λ n. n ≤ length piece.now) }
-    ensures some { IfOk result (λ n. 0 < length piece.now → 0 < n) }
-    ensures wrote { IfOk result (λ n. Wrote (W.contents inner.old) (W.contents inner.new) (take n piece.now)) }
-    ensures part { OnErr result (WrotePart (W.contents inner.old) (W.contents inner.new) piece.now) }
+    ensures { Writes (W.contents inner.old) (W.contents inner.new) piece.now result }
 {
     let n = inner.write(piece)?;
     inner.flush()?;

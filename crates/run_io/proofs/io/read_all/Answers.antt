@@ -21,24 +21,27 @@ loop-held-preserved g c =
     let i = c.loop-held.invariant in
     let n = c.in_ok-n.ensures in
     record {
-      reading = rw n.held (reading_step _ _ _ _ _ _ _ i.reading n.taken);
+      reading = rw n.held (reading_step _ _ _ _ _ _ _ i.reading n.read.taken);
       most = omega (
         arith,
         n.len,
-        n.within,
+        n.read.within,
         length-take c.min-room.result c.deref_mut.result.now,
         c.min-room.ensures,
         c.len-in-loop-held.ensures,
         i.most,
       );
       room = i.room;
-      later = omega (arith, n.later, i.later);
+      later = omega (arith, n.counts.later, i.later);
     }
 
-pub returns-in_err-n-clause-cause : goal.returns-in_err-n-clause-cause
-returns-in_err-n-clause-cause g c =
+pub returns-in_err-n-clause-counts : goal.returns-in_err-n-clause-counts
+returns-in_err-n-clause-counts g c =
     let p = err_from_is_err_and c.from_residual-in_err-n.result c.from_residual-in_err-n.ensures.1 in
-    rw (p.1, p.2) (λ e. rose_later _ _ _ c.loop-held.invariant.later (c.in_err-n.ensures.cause e))
+    record {
+      later = omega (arith, c.in_err-n.ensures.counts.later, c.loop-held.invariant.later);
+      cause = rw (p.1, p.2) (λ e. rose_later _ _ _ c.loop-held.invariant.later (c.in_err-n.ensures.counts.cause e));
+    }
 
 -- a read of nothing into room for some is the end of input, so what is held is all of it, and no more than was wanted
 pub returns-then-n-eq0-clause-read : goal.returns-then-n-eq0-clause-read
@@ -46,7 +49,7 @@ returns-then-n-eq0-clause-read g c =
     let i = c.loop-held.invariant in
     let n = c.in_ok-n.ensures in
     let room = length-take c.min-room.result c.deref_mut.result.now in
-    let all = reading_ended _ _ _ c.loop-held.held.items _ c.in_ok-n.n _ c.args.most i.reading n.taken c.if-n-eq0.true
+    let all = reading_ended _ _ _ c.loop-held.held.items _ c.in_ok-n.n _ c.args.most i.reading n.read.taken c.if-n-eq0.true
     (omega (
       arith,
       room,
@@ -72,7 +75,7 @@ pub returns-then-n-eq0-clause-rest : goal.returns-then-n-eq0-clause-rest
 returns-then-n-eq0-clause-rest g c =
     let i = c.loop-held.invariant in
     let room = length-take c.min-room.result c.deref_mut.result.now in
-    took_ended _ _ _ c.loop-held.held.items _ c.in_ok-n.n _ c.args.most i.reading c.in_ok-n.ensures.taken c.if-n-eq0.true
+    took_ended _ _ _ c.loop-held.held.items _ c.in_ok-n.n _ c.args.most i.reading c.in_ok-n.ensures.read.taken c.if-n-eq0.true
     (omega (
       arith,
       room,
