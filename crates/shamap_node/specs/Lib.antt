@@ -2,4 +2,5 @@ pub mod Items
 pub mod Nodes
 pub mod Causes
 pub mod Laws
+pub mod Reading
 pub mod Heads

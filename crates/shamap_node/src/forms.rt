@@ -11,8 +11,8 @@ ghost use Rattle.ledger_spec.specs.Forms.{Held, IsItem, IsInner, Form, form_of, 
 ghost use Rattle.ledger_spec.specs.Forms as spec;
 ghost use Rattle.shamap_node.specs.Nodes.{held};
 ghost use Rattle.shamap_node.specs.Causes.{leaf_cause, keyed_cause, inner_cause, form_cause};
-ghost use Rattle.shamap_node.specs.Laws.{is_node, is_no_node, OneForm, HeldByForm};
-ghost use Rattle.ledger_spec.specs.Findings.{held_of};
+ghost use Rattle.shamap_node.specs.Laws.{is_node, OneForm, HeldByForm};
+ghost use Rattle.shamap_node.specs.Reading.{ReadsHeld};
 ghost use Rattle.shamap_node.specs.declared.forms.FormFault.TheVariants as faults;
 
 use crate::making::{inner_form, key_part, leaf_form};
@@ -297,8 +297,7 @@ pub fn decode_form<H: NodeHash>(alloc: Global, bytes: &[u8]) -> Result<Node, For
         → MatchResult result (λ node. held node ≡ n) (λ fault. fault ≡ faults.Memory) }
 
     // the same as what the bytes hold
-    ensures seen { IfOk result (λ node. held_of H.half bytes.now ≡ Some (held node)) }
-    ensures none { IfErr result (λ fault. fault ≢ faults.Memory → IsTrue (is_no_node (held_of H.half bytes.now))) }
+    ensures held { ReadsHeld H.half bytes.now result }
 {
     node_from::<H>(alloc, bytes)
 }

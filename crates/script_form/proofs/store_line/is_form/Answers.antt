@@ -18,5 +18,5 @@ returns g c =
       | in-Err+in_default w ↦
           rw w.result-is
           (no_form g.H.NodeHash.half c.one_form.ensures.held c.known_half.ensures.size c.args.form.now c.from_form.result _
-          (sym c.is_some.ensures ∙ c.if-is_some.false) c.from_form.ensures.exact (w.in-Err.ensures.none w.in_default.not-Memory))
+          (sym c.is_some.ensures ∙ c.if-is_some.false) c.from_form.ensures.exact (w.in-Err.ensures.held.none w.in_default.not-Memory))
     ]

@@ -9,8 +9,8 @@ returns-clause-back g c =
 pub returns-clause-fits : goal.returns-clause-fits
 returns-clause-fits g c = reads_fit g.H.NodeHash.half c.node_from.result c.args.bytes.now c.node_from.ensures.form
 
-pub returns-clause-seen : goal.returns-clause-seen
-returns-clause-seen g c = reads_seen g.H.NodeHash.half c.node_from.result c.args.bytes.now c.node_from.ensures.form
-
-pub returns-clause-none : goal.returns-clause-none
-returns-clause-none g c = reads_none g.H.NodeHash.half c.node_from.result c.args.bytes.now c.node_from.ensures.cause
+pub returns-clause-held : goal.returns-clause-held
+returns-clause-held g c = record {
+  seen = reads_seen g.H.NodeHash.half c.node_from.result c.args.bytes.now c.node_from.ensures.form;
+  none = reads_none g.H.NodeHash.half c.node_from.result c.args.bytes.now c.node_from.ensures.cause;
+}
