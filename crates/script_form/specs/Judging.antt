@@ -1,6 +1,7 @@
 -- What is said of a line while it is judged; `earlier` are the numbers of the command lines before it, or those with the hashes of the
 -- records.
 use Rattle.std.specs.Prelude.{◌≡◌, ◌+◌, ℕ, if◌then◌else◌, Bool, List, true, false, drop}
+use Rattle.std.specs.List.Sorted.{IsNonDecreasing}
 use Rattle.ledger_spec.specs.Bytes.{Bytes, Half}
 use Rattle.ledger_spec.specs.Own.{IsStoredAt}
 use Rattle.ledger_machine.specs.declared.commands.Command.{Command}
@@ -24,6 +25,12 @@ is_page_command _ = false
 abbrev pub pages_with : ℕ → Content → ℕ
 pages_with pages (content.Line l) = if is_page_command l.command then pages + 1 else pages
 pages_with pages _ = pages
+
+-- the numbers before a line rise, and these are the words of its text, which say no record
+pub record IsNoRecord (earlier : List ℕ) (parts : List Bytes) (text : Bytes) : Type 0 where
+  pub rises : IsNonDecreasing earlier
+  pub words : parts ≡ words_of text
+  pub command : is_store (words_of text) ≡ false
 
 -- the text, or the command line that it is, has no cause
 abbrev pub IsFineText : List ℕ → Bytes → Type 0

@@ -7,3 +7,4 @@ pub mod Causes
 pub mod Grammar
 pub mod Judging
 pub mod Faults
+pub mod Reading

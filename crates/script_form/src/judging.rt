@@ -1,10 +1,10 @@
 //! A line judged: it is skipped, says a record or a command, or has a first cause.
-ghost use Rattle.std.specs.Prelude.{◌≡◌, ◌≤◌, ℕ, List, map, false, true, IfOk, IfErr};
+ghost use Rattle.std.specs.Prelude.{◌≡◌, ◌≤◌, ℕ, List, map, true, IfOk, IfErr};
 ghost use Rattle.std.specs.List.Sorted.{IsNonDecreasing};
 ghost use Rattle.script_form.specs.Words.{words_of as text_words};
 ghost use Rattle.script_form.specs.Records.{is_store as word_is_store, earlier_in};
 ghost use Rattle.script_form.specs.Causes.{TextHas, LineHas};
-ghost use Rattle.script_form.specs.Judging.{pages_with as named_with, IsFineText, IsFineLine, IsSaid, IsVerdict};
+ghost use Rattle.script_form.specs.Judging.{pages_with as named_with, IsFineText, IsFineLine, IsNoRecord, IsSaid, IsVerdict};
 ghost use Rattle.script_form.specs.Faults.{IsFirstCause};
 
 use crate::cause::{Cause, TextFault};
@@ -98,9 +98,7 @@ fn judge_command(
     words: &[&[u8]],
     earlier: &[u32],
 ) -> Result<Content, TextFault>
-    requires rises { IsNonDecreasing earlier.now }
-    requires words { map (λ w. w.now) words.now ≡ text_words text.now }
-    requires command { word_is_store (text_words text.now) ≡ false }
+    requires { IsNoRecord earlier.now (map (λ w. w.now) words.now) text.now }
     ensures said { IfOk result (λ s. (half : List ℕ → List ℕ) → IsSaid half earlier.now n text.now s) }
     ensures fine { IfOk result (λ _. IsFineText earlier.now text.now) }
     ensures cause { IfErr result (IsFirstCause (TextHas earlier.now text.now)) }
@@ -128,9 +126,7 @@ fn said(
     words: &[&[u8]],
     earlier: &[u32],
 ) -> Result<Verdict, Memory>
-    requires rises { IsNonDecreasing earlier.now }
-    requires words { map (λ w. w.now) words.now ≡ text_words text.now }
-    requires command { word_is_store (text_words text.now) ≡ false }
+    requires { IsNoRecord earlier.now (map (λ w. w.now) words.now) text.now }
     ensures { IfOk result (IsVerdict earlier.now n text.now) }
 {
     if !is_printable(text) || text.len() > MOST_TEXT {

@@ -1,12 +1,12 @@
 //! The call of this crate, `read_script`: the lines of a source are judged one after the other, into a script or its first refused line.
-ghost use Rattle.std.specs.Prelude.{◌≡◌, ◌<◌, ◌≤◌, ◌+◌, ℕ, List, Some, [], length, take, drop, ◌∷◌, OnOk, IfOk, IfErr, IfSome};
+ghost use Rattle.std.specs.Prelude.{◌≡◌, ◌<◌, ◌≤◌, ◌+◌, Some, [], length, take, drop, ◌∷◌, OnOk, IfOk, IfErr, IfSome};
 ghost use Rattle.ledger_machine.specs.Records.{AreRecords};
 ghost use Rattle.script_form.specs.Servable.{AreServable};
-ghost use Rattle.run_io.specs.Bytes.{TookPart};
 ghost use Rattle.script_form.specs.Grammar.{most_read, IsScript};
 ghost use Rattle.script_form.specs.Words.{text_of, lines_of};
 ghost use Rattle.script_form.specs.Causes.{most_bytes, number_of};
 ghost use Rattle.script_form.specs.Faults.{HasLineCause, HasScriptCause};
+ghost use Rattle.script_form.specs.Reading.{LeavesInput};
 
 use crate::cause::{Cause, TextFault};
 use crate::judging::{Content, judge, pages_with};
@@ -136,8 +136,7 @@ pub fn read_script<H: NodeHash, S: Source>(
     ensures cause { IfErr result
         (HasScriptCause H.half (S.left source.old) (S.left source.new) (S.faults source.old) (S.faults source.new)) }
     // A front of the input is gone, and no more than is read at most.
-    ensures taken { TookPart (S.left source.old) (S.left source.new) most_read }
-    ensures later { S.faults source.old ≤ S.faults source.new }
+    ensures left { LeavesInput (S.left source.old) (S.left source.new) (S.faults source.old) (S.faults source.new) }
 {
     let bytes = match read_all(alloc, source, MOST_BYTES + 1) {
         Ok(bytes) => bytes,

@@ -1,7 +1,6 @@
 //! What the words ask for.
-ghost use Rattle.std.specs.Prelude.{◌≡◌, ◌≤◌, ◌<◌, ℕ, [], Err, IsNone, IfOk, IfErr, IfSome, MatchOption, OnOk};
-ghost use Rattle.run_io.specs.Bytes.{Rose, TookPart};
-ghost use Rattle.script_form.specs.Grammar.{most_read};
+ghost use Rattle.std.specs.Prelude.{◌≡◌, ◌<◌, ℕ, [], Err, IsNone, IfOk, IfErr, IfSome, MatchOption, OnOk};
+ghost use Rattle.script_form.specs.Reading.{LeavesInput};
 ghost use Rattle.script_form.specs.Servable.{AreServable};
 ghost use Rattle.script_form.specs.Faults.{HasScriptCause};
 ghost use Rattle.ledger_machine.specs.Records.{AreRecords};
@@ -104,8 +103,7 @@ pub(crate) fn script_for<H: NodeHash, S: Source>(
     ensures only { (l : ℕ) (n : ℕ) → result ≡ Err (ScriptFault.Refused l n) → IsRead asked.now }
     ensures cause { IfErr result
         (HasScriptCause H.half (S.left source.old) (S.left source.new) (S.faults source.old) (S.faults source.new)) }
-    ensures taken { TookPart (S.left source.old) (S.left source.new) most_read }
-    ensures later { S.faults source.old ≤ S.faults source.new }
+    ensures left { LeavesInput (S.left source.old) (S.left source.new) (S.faults source.old) (S.faults source.new) }
 {
     match asked {
         Words::Replay { .. } => read_script::<H, S>(alloc, source),

@@ -10,8 +10,8 @@ returns-clause-ended g c =
     (subst (λ (v : List ℕ). length v ≤ most_bytes) c.deref.ensures.value c.in_ok-script.ensures.few)
 
 -- all that was read stands in front
-pub returns-clause-taken : goal.returns-clause-taken
-returns-clause-taken g c = took_at_most _ _ _ c.in-Ok.ensures.rest
+pub returns-clause-left : goal.returns-clause-left
+returns-clause-left g c = record { taken = took_at_most _ _ _ c.in-Ok.ensures.rest; later = c.in-Ok.ensures.counts.later }
 
-pub returns-in_err-script-clause-taken : goal.returns-in_err-script-clause-taken
-returns-in_err-script-clause-taken g c = took_at_most _ _ _ c.in-Ok.ensures.rest
+pub returns-in_err-script-clause-left : goal.returns-in_err-script-clause-left
+returns-in_err-script-clause-left g c = record { taken = took_at_most _ _ _ c.in-Ok.ensures.rest; later = c.in-Ok.ensures.counts.later }

@@ -107,7 +107,7 @@ pub returns-in-Some-stop_of-clause-cause : goal.returns-in-Some-stop_of-clause-c
 returns-in-Some-stop_of-clause-cause g c =
     rw c.only_stopped.ensures.status (rw c.only_stopped.ensures.core (rw c.only_stopped.ensures.stopped
     (ended_cause _ _ _ _ _ _ _ _ _ _ _ _ _ _ _ _ _ c.run_stop-status.result.1 c.run_stop-status.ensures.ended
-    c.script_for.ensures.later c.run_stop-status.ensures.later c.script_for.ensures.taken)))
+    c.script_for.ensures.left.later c.run_stop-status.ensures.later c.script_for.ensures.left.taken)))
 
 pub returns-in-Some-stop_of-clause-stopped : goal.returns-in-Some-stop_of-clause-stopped
 returns-in-Some-stop_of-clause-stopped g c =
