@@ -4,3 +4,4 @@ pub mod Counts
 pub mod Slices
 pub mod Scenes
 pub mod Moves
+pub mod Calls

@@ -1,10 +1,10 @@
 //! The copy of one form.
-ghost use Rattle.std.specs.Prelude.{◌≡◌, ◌≤◌, IsTrue, IfOk, IfErr, IfSome, OnOk, length};
+ghost use Rattle.std.specs.Prelude.{◌≡◌, IsTrue, IfErr, OnOk};
 ghost use Rattle.std.specs.FinMap as finite;
-ghost use Rattle.std.specs.Option.{option_map};
 ghost use Rattle.rotating_store.specs.Puts.{IsPlain};
 ghost use Rattle.rotating_store.specs.Stores.{LeavesStore, nodes_of};
-ghost use Rattle.copy_walk.specs.Slices.{CopiesOne, KidsAt};
+ghost use Rattle.copy_walk.specs.Slices.{CopiesOne};
+ghost use Rattle.copy_walk.specs.Calls.{HandsKids};
 
 use crate::kids::kids_of;
 use half_hash::Hash32;
@@ -20,9 +20,7 @@ pub(crate) fn copy_one<Sh: Shelf>(
 ) -> Result<Option<Vec<Hash32>>, StoreFault>
     ensures one { IsTrue Sh.B.tells → CopiesOne h.now store.old store.new }
     ensures there { IsTrue Sh.B.tells → OnOk result (finite.get store.new.writable h.now ≡ finite.get (nodes_of store.old) h.now) }
-    ensures kids { IsTrue Sh.B.tells
-        → IfOk result (λ kids. KidsAt (finite.get (nodes_of store.old) h.now) (option_map (λ v. v.items) kids)) }
-    ensures few { IfOk result (λ kids. IfSome kids (λ v. length v.items ≤ 16)) }
+    ensures named { HandsKids Sh.B.tells (finite.get (nodes_of store.old) h.now) (λ v. v.items) result }
     ensures store { LeavesStore StoreFault.Fault store.old store.new result }
     ensures kind { IfErr result IsPlain }
 {

@@ -4,7 +4,8 @@ ghost use Rattle.std.specs.Prelude.{◌≡◌, ◌≢◌, ◌↔◌, ◌≤◌, 
 ghost use Rattle.std.specs.List.{Contains, slice_get};
 ghost use Rattle.rotating_store.specs.Puts.{IsPlain};
 ghost use Rattle.rotating_store.specs.Stores.{LeavesStore};
-ghost use Rattle.copy_walk.specs.Slices.{Blackens, Strode, Slices, IsCutShort, Drains, KeepsRule, LeftBy};
+ghost use Rattle.copy_walk.specs.Slices.{LeftBy};
+ghost use Rattle.copy_walk.specs.Calls.{GoesBlack, TakesOne, AnswersSlice, DrainsBy};
 
 use crate::copy::copy_one;
 use half_hash::{Hash32, Memory};
@@ -39,7 +40,7 @@ impl Model for CopyWalk {
 }
 
 impl CopyWalk {
-    ghost use Rattle.copy_walk.specs.Walks.{Walk, Shades, ShadesSome, shaded, left_of};
+    ghost use Rattle.copy_walk.specs.Walks.{Walk, Shades, ShadesSome, shaded};
 
     /// A walk that begins at these hashes.
     pub fn start(alloc: Global, roots: &[Hash32]) -> Result<CopyWalk, Memory>
@@ -73,12 +74,8 @@ impl CopyWalk {
         n: usize,
     ) -> Result<Left, StoreFault>
         requires { 0 < n }
-        ensures ok { IsTrue Sh.B.tells → IfOk result (λ l. Slices n self.old store.old l self.new store.new) }
-        ensures err { IsTrue Sh.B.tells → OnErr result (IsCutShort n self.old store.old self.new store.new) }
-        ensures rule { IsTrue Sh.B.tells → KeepsRule self.old store.old self.new store.new }
-        ensures left { IfOk result (λ l. LeftBy l self.new) }
+        ensures slices { AnswersSlice Sh.B.tells n self.old store.old result self.new store.new }
         ensures store { LeavesStore StoreFault.Fault store.old store.new result }
-        ensures kind { IfErr result IsPlain }
     {
         for _ in 0..n {
             if self.is_done() {
@@ -95,8 +92,7 @@ impl CopyWalk {
         alloc: Global,
         store: &mut RotStore<Sh>,
     ) -> Result<(), StoreFault>
-        ensures strode { IsTrue Sh.B.tells → Drains self.old store.old self.new store.new }
-        ensures rule { IsTrue Sh.B.tells → KeepsRule self.old store.old self.new store.new }
+        ensures drains { DrainsBy Sh.B.tells self.old store.old self.new store.new }
         ensures ok { OnOk result (self.new.grey ≡ []) }
 
         // where nothing is grey, nothing is done
@@ -144,9 +140,7 @@ impl CopyWalk {
         requires at { slice_get self.old.grey place ≡ Some hash.now }
         requires few { length named.now ≤ 16 }
         requires new { Contains self.old.black hash.now → ⊥ }
-        ensures ok { OnOk result (Blackens self.old hash.now named.now self.new) }
-        ensures err { OnErr result (ShadesSome self.old named.now self.new) }
-        ensures less { OnOk result (left_of self.new < left_of self.old) }
+        ensures { GoesBlack self.old hash.now named.now result self.new }
     {
         self.shade_all(named)?;
         let _count = self.black.len();
@@ -165,9 +159,7 @@ impl CopyWalk {
     ) -> Result<(), StoreFault>
         requires at { slice_get self.old.grey place ≡ Some hash.now }
         requires new { Contains self.old.black hash.now → ⊥ }
-        ensures ok { IsTrue Sh.B.tells → OnOk result (Strode 1 1 self.old store.old self.new store.new) }
-        ensures err { IsTrue Sh.B.tells → OnErr result (Strode 0 1 self.old store.old self.new store.new) }
-        ensures less { OnOk result (left_of self.new < left_of self.old) }
+        ensures takes { TakesOne Sh.B.tells self.old store.old result self.new store.new }
         ensures store { LeavesStore StoreFault.Fault store.old store.new result }
         ensures kind { IfErr result IsPlain }
     {
@@ -182,9 +174,7 @@ impl CopyWalk {
     // Takes the last grey hash.
     fn take<Sh: Shelf>(&mut self, alloc: Global, store: &mut RotStore<Sh>) -> Result<(), StoreFault>
         requires { self.old.grey ≢ [] }
-        ensures ok { IsTrue Sh.B.tells → OnOk result (Strode 1 1 self.old store.old self.new store.new) }
-        ensures err { IsTrue Sh.B.tells → OnErr result (Strode 0 1 self.old store.old self.new store.new) }
-        ensures less { OnOk result (left_of self.new < left_of self.old) }
+        ensures takes { TakesOne Sh.B.tells self.old store.old result self.new store.new }
         ensures store { LeavesStore StoreFault.Fault store.old store.new result }
         ensures kind { IfErr result IsPlain }
     {

@@ -1,13 +1,11 @@
 //! The rotator: a walk from the roots, which is told of what is written meanwhile, and the swap once nothing is grey.
-ghost use Rattle.std.specs.Prelude.{◌≡◌, ◌≤◌, ◌<◌, ◌+◌, ◌-◌, ◌^◌, true, false, [], ℕ, List, IsTrue};
-ghost use Rattle.std.specs.Prelude.{IsSome, IfOk, IfErr, IsOk, OnOk, OnErr, Ok, Err};
-ghost use Rattle.run_io.specs.Bytes.{Rose};
-ghost use Rattle.rotating_store.specs.Puts.{IsPlain};
-ghost use Rattle.rotating_store.specs.Stores.{AddsAtMostOne, HasNoNewNotes, KeepsNotes, LeavesStore};
+ghost use Rattle.std.specs.Prelude.{◌≡◌, ◌≤◌, ◌<◌, ◌-◌, ◌^◌, true, false, IfOk, IsOk, OnOk, OnErr};
+ghost use Rattle.rotating_store.specs.Stores.{LeavesStore};
+ghost use Rattle.rotating_store.specs.Turning.{FailsPlainly};
 ghost use Rattle.ledger_spec.specs.Retaining.{due};
-ghost use Rattle.copy_walk.specs.Slices.{Slices, IsCutShort, LeftBy, SameRest};
+ghost use Rattle.copy_walk.specs.Calls.{AnswersSlice};
 ghost use Rattle.online_rotate.specs.Rotators.{slices_after};
-ghost use Rattle.online_rotate.specs.Copying.{IsFit, IsWalking, CopiesSome, CountsOn, Rotated, AfterRotation, AfterFit, CopiesNothing};
+ghost use Rattle.online_rotate.specs.Calls.{LeavesUnbegun, GoesOnBy, EndsBy, Rotates, TurnsOrStays};
 
 use copy_walk::{CopyWalk, Left};
 use half_hash::{Hash32, Memory};
@@ -53,7 +51,7 @@ impl Model for Rotator {
 }
 
 impl Rotator {
-    ghost use Rattle.online_rotate.specs.Rotators.{Turning, at_rest, InStep, begun_by, AfterBegin, Shades, Heeds, AfterFinish, SlicesBy};
+    ghost use Rattle.online_rotate.specs.Rotators.{Turning, at_rest, InStep, begun_by, AfterBegin, Shades, Heeds, AfterFinish};
 
     /// No rotation is under way.
     pub fn new(alloc: Global) -> Rotator
@@ -78,9 +76,7 @@ impl Rotator {
         ensures reply { IfOk result (λ r. r ≡ begun_by self.old.turning (due book.old) book.old.last) }
         ensures after { IfOk result (λ r. AfterBegin book.old targets.now self.old r book.new self.new) }
         ensures step { InStep self.new book.new }
-        ensures err { OnErr result ((self.new ≡ self.old) × (book.new ≡ book.old)) }
-        // Memory is asked for only where a rotation would begin.
-        ensures asked { OnErr result ((self.old.turning ≡ false) × IsSome (due book.old)) }
+        ensures err { LeavesUnbegun self.old book.old result self.new book.new }
     {
         if self.walk.is_some() {
             return Ok(Begun::Busy);
@@ -139,14 +135,9 @@ impl Rotator {
     ) -> Result<Left, StoreFault>
         requires turning { self.old.turning ≡ true }
         requires some { 0 < n }
-        ensures ok { IsTrue Sh.B.tells → IfOk result (λ l. Slices n self.old.walk store.old l self.new.walk store.new) }
-        ensures err { IsTrue Sh.B.tells → OnErr result (IsCutShort n self.old.walk store.old self.new.walk store.new) }
-        ensures walks { IsTrue Sh.B.tells → IsWalking self.old.shaded self.old.walk store.old
-            → CopiesSome self.old.shaded store.old store.new × IsWalking self.old.shaded self.new.walk store.new }
-        ensures left { IfOk result (λ l. LeftBy l self.new.walk) }
-        ensures counts { SlicesBy self.old result self.new }
+        ensures slices { AnswersSlice Sh.B.tells n self.old.walk store.old result self.new.walk store.new }
+        ensures turns { GoesOnBy Sh.B.tells self.old store.old result self.new store.new }
         ensures store { LeavesStore StoreFault.Fault store.old store.new result }
-        ensures kind { IfErr result IsPlain }
     {
         let Some(walk) = &mut self.walk else {
             return Ok(Left::Done);
@@ -168,15 +159,7 @@ impl Rotator {
         requires turning { self.old.turning ≡ true }
         requires room { store.old.epoch < 2 ^ 64 - 1 }
         ensures after { AfterFinish self.old book.old store.old result self.new book.new store.new }
-        ensures nodes { IsTrue Sh.B.tells → IsWalking self.old.shaded self.old.walk store.old
-            → AfterRotation self.old.shaded store.old result store.new }
-        ensures fit { IsTrue Sh.B.tells → IsWalking self.old.shaded self.old.walk store.old → IsFit self.old.shaded store.old
-            → AfterFit self.old.shaded store.old result store.new }
-        ensures walks { IsTrue Sh.B.tells → IsWalking self.old.shaded self.old.walk store.old
-            → OnErr result (IsWalking self.old.shaded self.new.walk store.new) }
-        ensures notes { IsTrue Sh.B.tells → OnOk result (KeepsNotes store.old store.new) }
-        ensures still { IsTrue Sh.B.tells → self.old.walk.grey ≡ [] → CopiesNothing store.old result store.new }
-        ensures counts { CountsOn store.old store.new result }
+        ensures ends { EndsBy Sh.B.tells self.old.shaded self.old.walk store.old result self.new.walk store.new }
     {
         let Some(walk) = &mut self.walk else {
             unreachable!();
@@ -210,18 +193,10 @@ fn rotate<Sh: Shelf>(
     walk: &mut CopyWalk,
 ) -> Result<(), StoreFault>
     requires { store.old.epoch < 2 ^ 64 - 1 }
-    ensures rotated { IsTrue Sh.B.tells → (told : List (List ℕ)) → IsWalking told walk.old store.old
-        → OnOk result (Rotated told store.old store.new) }
-    ensures some { IsTrue Sh.B.tells → (told : List (List ℕ)) → IsWalking told walk.old store.old
-        → OnErr result (CopiesSome told store.old store.new × IsWalking told walk.new store.new) }
-    ensures ok { OnOk result ((store.new.epoch ≡ store.old.epoch + 1) × HasNoNewNotes store.old store.new
-        × (store.new.spare ≡ store.old.spare) × AddsAtMostOne store.old.undone store.new.undone) }
-    ensures notes { IsTrue Sh.B.tells → OnOk result (KeepsNotes store.old store.new) }
-    ensures still { IsTrue Sh.B.tells → walk.old.grey ≡ [] → CopiesNothing store.old result store.new }
-    ensures err { OnErr result (SameRest store.old store.new) }
-    ensures later { store.old.faults ≤ store.new.faults }
-    ensures gets { store.old.gets ≤ store.new.gets }
-    ensures cause { (result ≡ Err StoreFault.Fault → Rose store.old.faults store.new.faults) × IfErr result IsPlain }
+    ensures rotates { Rotates Sh.B.tells walk.old store.old result walk.new store.new }
+    ensures rest { TurnsOrStays store.old result store.new }
+    ensures risen { (store.old.faults ≤ store.new.faults) × (store.old.gets ≤ store.new.gets) }
+    ensures fails { FailsPlainly store.old store.new result }
 {
     walk.drain(alloc, store)?;
     store.prepare(alloc)?;

@@ -5,3 +5,6 @@ pub mod Moves
 pub mod Keeps
 pub mod Sources
 pub mod Reading
+pub mod Turning
+pub mod Pairs
+pub mod Openings

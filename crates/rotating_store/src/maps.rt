@@ -1,11 +1,11 @@
 //! The one map of a store: reading it, writing it, copying what its archive has forward, and its hashes in their order.
-ghost use Rattle.std.specs.Prelude.{◌≡◌, ◌≤◌, ◌+◌, IsTrue, is_some, IfOk, IfErr, OnOk};
+ghost use Rattle.std.specs.Prelude.{◌≡◌, ◌≤◌, ◌+◌, IsTrue, is_some, IfOk, IfErr};
 ghost use Rattle.std.specs.FinMap as map;
 ghost use Rattle.std.specs.Option.{option_copied};
 ghost use Rattle.node_backend.specs.Order.{IsNext};
 ghost use Rattle.rotating_store.specs.Stores.{nodes_of, Counted, LeavesStore};
 ghost use Rattle.rotating_store.specs.Puts.{Puts, TellsWrongHash, Compares, IsPlain};
-ghost use Rattle.rotating_store.specs.Moves.{Moves, moved_of};
+ghost use Rattle.rotating_store.specs.Moves.{Forwards, moved_of};
 
 use crate::outcome::{Put, StoreFault};
 use crate::pair::{Moved, copy_form, get_either, next_of_either};
@@ -81,10 +81,7 @@ impl<Sh: Shelf> RotStore<Sh> {
     /// Copies a form from the archive to the writable backend, where that lacks it. The store's one map
     /// stays, also after an error.
     pub fn forward(&mut self, alloc: Global, h: &Hash32) -> Result<Moved, StoreFault>
-        ensures nodes { IsTrue Sh.B.tells → nodes_of self.new ≡ nodes_of self.old }
-        ensures moves { IsTrue Sh.B.tells → Moves self.old.writable self.old.archive h.now result self.new.writable }
-        ensures there { IsTrue Sh.B.tells → OnOk result (map.get self.new.writable h.now ≡ map.get (nodes_of self.old) h.now) }
-        ensures archive { IsTrue Sh.B.tells → self.new.archive ≡ self.old.archive }
+        ensures forwards { Forwards Sh.B.tells self.old h.now result self.new }
         ensures store { LeavesStore StoreFault.Fault self.old self.new result }
         ensures kind { IfErr result IsPlain }
     {
@@ -98,11 +95,8 @@ impl<Sh: Shelf> RotStore<Sh> {
         alloc: Global,
         h: &Hash32,
     ) -> Result<(Moved, Option<Blob>), StoreFault>
-        ensures nodes { IsTrue Sh.B.tells → nodes_of self.new ≡ nodes_of self.old }
-        ensures moves { IsTrue Sh.B.tells → Moves self.old.writable self.old.archive h.now (moved_of result) self.new.writable }
+        ensures forwards { Forwards Sh.B.tells self.old h.now (moved_of result) self.new }
         ensures form { IsTrue Sh.B.tells → IfOk result (λ r. r.1 ≡ map.get (nodes_of self.old) h.now) }
-        ensures there { IsTrue Sh.B.tells → OnOk result (map.get self.new.writable h.now ≡ map.get (nodes_of self.old) h.now) }
-        ensures archive { IsTrue Sh.B.tells → self.new.archive ≡ self.old.archive }
         ensures store { LeavesStore StoreFault.Fault self.old self.new result }
         ensures kind { IfErr result IsPlain }
     {

@@ -1,12 +1,12 @@
 //! Two backends as one: what the first lacks is looked for in the second.
-ghost use Rattle.std.specs.Prelude.{◌≡◌, ◌≤◌, ◌⊎◌, IsTrue, IfOk, OnOk, OnErr};
+ghost use Rattle.std.specs.Prelude.{◌≡◌, ◌≤◌, ◌⊎◌, IsTrue, IfOk};
 ghost use Rattle.std.specs.FinMap as map;
 ghost use Rattle.std.specs.Option.{option_copied};
 ghost use Rattle.node_backend.specs.Order.{IsNext};
 ghost use Rattle.run_io.specs.Bytes.{Rose};
 ghost use Rattle.node_backend.specs.Counts.{held_sum};
 ghost use Rattle.rotating_store.specs.Stores.{merged, lesser_of};
-ghost use Rattle.rotating_store.specs.Moves.{Moves, Writes, moved_of};
+ghost use Rattle.rotating_store.specs.Pairs.{WasAsked, IsLaterBackend, CopiesForm};
 
 use half_hash::{Blob, Hash32};
 use node_backend::{BackFault, Backend};
@@ -30,15 +30,11 @@ pub(crate) fn get_either<B: Backend>(
     alloc: Global,
     h: &Hash32,
 ) -> Result<Option<Blob>, BackFault>
-    ensures first { IsTrue B.tells → B.held first.new ≡ B.held first.old }
-    ensures second { IsTrue B.tells → B.held second.new ≡ B.held second.old }
+    ensures first { WasAsked B.tells B.held B.doubt B.number B.faults first.old first.new }
+    ensures second { WasAsked B.tells B.held B.doubt B.number B.faults second.old second.new }
     ensures found { IsTrue B.tells → IfOk result (λ b. b ≡ map.get (merged (B.held first.old) (B.held second.old)) h.now) }
-    ensures numbers { (B.number first.new ≡ B.number first.old) × (B.number second.new ≡ B.number second.old) }
-    ensures doubts { (B.doubt first.new ≡ B.doubt first.old) × (B.doubt second.new ≡ B.doubt second.old) }
-    ensures later_first { B.faults first.old ≤ B.faults first.new }
-    ensures later_second { B.faults second.old ≤ B.faults second.new }
-    ensures asked_first { B.gets first.new ≡ held_sum (B.gets first.old) 1 }
-    ensures asked_second { (B.gets second.new ≡ B.gets second.old) ⊎ (B.gets second.new ≡ held_sum (B.gets second.old) 1) }
+    ensures asked { (B.gets first.new ≡ held_sum (B.gets first.old) 1)
+        × ((B.gets second.new ≡ B.gets second.old) ⊎ (B.gets second.new ≡ held_sum (B.gets second.old) 1)) }
     ensures cause { result ≡ Err BackFault.Fault
         → Rose (B.faults first.old) (B.faults first.new) ⊎ Rose (B.faults second.old) (B.faults second.new) }
 {
@@ -67,13 +63,9 @@ pub(crate) fn next_of_either<B: Backend>(
     alloc: Global,
     after: Option<&Hash32>,
 ) -> Result<Option<Hash32>, BackFault>
-    ensures first { IsTrue B.tells → B.held first.new ≡ B.held first.old }
-    ensures second { IsTrue B.tells → B.held second.new ≡ B.held second.old }
+    ensures first { WasAsked B.tells B.held B.doubt B.number B.faults first.old first.new }
+    ensures second { WasAsked B.tells B.held B.doubt B.number B.faults second.old second.new }
     ensures next { IsTrue B.tells → IfOk result (IsNext (merged (B.held first.old) (B.held second.old)) (option_copied after.entry)) }
-    ensures numbers { (B.number first.new ≡ B.number first.old) × (B.number second.new ≡ B.number second.old) }
-    ensures doubts { (B.doubt first.new ≡ B.doubt first.old) × (B.doubt second.new ≡ B.doubt second.old) }
-    ensures later_first { B.faults first.old ≤ B.faults first.new }
-    ensures later_second { B.faults second.old ≤ B.faults second.new }
     ensures uncounted { (B.gets first.new ≡ B.gets first.old) × (B.gets second.new ≡ B.gets second.old) }
     ensures cause { result ≡ Err BackFault.Fault
         → Rose (B.faults first.old) (B.faults first.new) ⊎ Rose (B.faults second.old) (B.faults second.new) }
@@ -90,17 +82,11 @@ pub(crate) fn copy_form<B: Backend>(
     alloc: Global,
     h: &Hash32,
 ) -> Result<(Moved, Option<Blob>), BackFault>
-    ensures moves { IsTrue B.tells → Moves (B.held first.old) (B.held second.old) h.now (moved_of result) (B.held first.new) }
-    ensures form { IsTrue B.tells → IfOk result (λ r. r.1 ≡ map.get (merged (B.held first.old) (B.held second.old)) h.now) }
-    ensures writes { IsTrue B.tells
-        → Writes (B.held first.old) (B.held second.old) (B.doubt first.old) h.now (B.held first.new) (B.doubt first.new) }
-    ensures second { IsTrue B.tells → B.held second.new ≡ B.held second.old }
-    ensures numbers { (B.number first.new ≡ B.number first.old) × (B.number second.new ≡ B.number second.old) }
-    ensures doubt { B.doubt second.new ≡ B.doubt second.old }
-    ensures later_first { B.faults first.old ≤ B.faults first.new }
-    ensures later_second { B.faults second.old ≤ B.faults second.new }
-    ensures gets_first { B.gets first.old ≤ B.gets first.new }
-    ensures gets_second { B.gets second.old ≤ B.gets second.new }
+    ensures copies { CopiesForm B.tells (B.held first.old) (B.held second.old) (B.doubt first.old) h.now result
+        (B.held first.new) (B.doubt first.new) }
+    ensures first { IsLaterBackend B.number B.faults first.old first.new }
+    ensures second { WasAsked B.tells B.held B.doubt B.number B.faults second.old second.new }
+    ensures gets { (B.gets first.old ≤ B.gets first.new) × (B.gets second.old ≤ B.gets second.new) }
     ensures cause { result ≡ Err BackFault.Fault
         → Rose (B.faults first.old) (B.faults first.new) ⊎ Rose (B.faults second.old) (B.faults second.new) }
 {

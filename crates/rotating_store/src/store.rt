@@ -1,13 +1,9 @@
 //! The store: a shelf, two backends of it and the notes on what was checked; how it is opened, and what it tells of itself. What is new
 //! goes into the writable backend; what the archive alone has is kept by a swap only if it was copied forward before.
-ghost use Rattle.std.specs.Prelude.{◌≡◌, ◌≢◌, ◌≤◌, IsTrue, false, is_some, Err, IfOk};
-ghost use Rattle.std.specs.FinMap as map;
-ghost use Rattle.std.specs.FinSet as set;
-ghost use Rattle.std.specs.Option.{option_map, option_map_or};
+ghost use Rattle.std.specs.Prelude.{◌≡◌, ◌≢◌, IsTrue, Err, IfOk};
 ghost use Rattle.run_io.specs.Bytes.{Rose};
-ghost use Rattle.node_backend.specs.Counts.{held_sum};
-ghost use Rattle.rotating_store.specs.Stores.{Store, Agree, sum_of, spare_of, is_noted, IsNoted};
-ghost use Rattle.rotating_store.specs.Keeps.{Numbered, Keeps};
+ghost use Rattle.rotating_store.specs.Stores.{Store, Agree, is_noted, IsNoted};
+ghost use Rattle.rotating_store.specs.Openings.{IsOpened, HasParts};
 
 use crate::notes::Notes;
 use half_hash::Hash32;
@@ -94,12 +90,7 @@ impl<Sh: Shelf> Model for RotStore<Sh> {
 impl<Sh: Shelf> RotStore<Sh> {
     /// A store over a shelf. The archive is taken first, then the writable backend.
     pub fn open(alloc: Global, shelf: Sh) -> Result<RotStore<Sh>, Unopened<Sh>>
-        ensures empty { IsTrue Sh.B.tells → IfOk result (λ s. (s.writable ≡ map.empty) × (s.archive ≡ map.empty)) }
-        ensures state { IfOk result (λ s. (s.epoch ≡ 0) × (s.ready ≡ false)) }
-        ensures count { IfOk result (λ s. (Sh.faults shelf ≤ s.shelf_faults) × (s.faults ≡ s.shelf_faults)) }
-        ensures lists { IfOk result (λ s. (s.spare ≡ Sh.live shelf) × (s.undone ≡ Sh.undone shelf)) }
-        ensures gets { IfOk result (λ s. s.gets ≡ 0) }
-        ensures past { IfOk result (λ s. (s.past_faults ≡ 0) × (s.past_gets ≡ 0) × (s.noted ≡ set.empty)) }
+        ensures opened { IfOk result (IsOpened Sh.B.tells (Sh.live shelf) (Sh.undone shelf) (Sh.faults shelf)) }
         ensures cause { (s : Sh) → result ≡ Err (Unopened.Shelf s) → Rose (Sh.faults shelf) (Sh.faults s) }
         ensures never { (s : Store) → result ≢ Err (Unopened.Store s) }
     {
@@ -151,24 +142,9 @@ impl<Sh: Shelf> RotStore<Sh> {
 
     /// The shelf and the backends. It tells a proof what the store keeps of them.
     pub fn parts(&self) -> Parts<'_, Sh>
-        ensures numbers { Numbered (Sh.live result.shelf.now) (Sh.undone result.shelf.now)
-            (Sh.B.number result.archive.now) (Sh.B.number result.writable.now)
-            (option_map (λ b. Sh.B.number b.now) result.ready) }
-        ensures keeps { IsTrue Sh.B.tells → Keeps (Sh.B.held result.writable.now) (Sh.B.held result.archive.now)
-            (Sh.B.doubt result.writable.now) (Sh.B.doubt result.archive.now)
-            (option_map (λ b. Sh.B.held b.now) result.ready) (option_map (λ b. Sh.B.doubt b.now) result.ready) }
-        ensures maps { IsTrue Sh.B.tells
-            → (Sh.B.held result.writable.now ≡ self.now.writable) × (Sh.B.held result.archive.now ≡ self.now.archive) }
-        ensures ready { is_some result.ready ≡ self.now.ready }
-        ensures faults { self.now.faults ≡ sum_of (held_sum self.now.past_faults (Sh.faults result.shelf.now))
-            (Sh.B.faults result.writable.now) (Sh.B.faults result.archive.now)
-            (option_map_or (λ b. Sh.B.faults b.now) result.ready 0) }
-        ensures gets { self.now.gets ≡ sum_of self.now.past_gets (Sh.B.gets result.writable.now)
-            (Sh.B.gets result.archive.now) (option_map_or (λ b. Sh.B.gets b.now) result.ready 0) }
-        ensures shelf { self.now.shelf_faults ≡ Sh.faults result.shelf.now }
-        ensures lists { (self.now.spare ≡ spare_of (Sh.live result.shelf.now) (Sh.B.number result.archive.now)
-            (Sh.B.number result.writable.now) (option_map (λ b. Sh.B.number b.now) result.ready))
-            × (self.now.undone ≡ Sh.undone result.shelf.now) }
+        ensures { HasParts Sh.B.tells Sh.B.held Sh.B.doubt Sh.B.number Sh.B.faults Sh.B.gets
+            (Sh.live result.shelf.now) (Sh.undone result.shelf.now) (Sh.faults result.shelf.now)
+            result.writable.now result.archive.now (λ b. b.now) result.ready self.now }
     {
         Parts {
             shelf: &self.shelf,

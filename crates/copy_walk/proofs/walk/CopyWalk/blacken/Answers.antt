@@ -1,27 +1,25 @@
 -- the list is longer where the kids were shaded, with the hash at its place, which is then given to the last one
-use Rattle.std.proofs.Common.{◌≡◌, ◌∙◌, ◌+◌, ◌<◌, ◌^◌, List, Contains, length, sym, subst, ap, arith}
+use Rattle.std.proofs.Common.{◌≡◌, ◌∙◌, ◌+◌, ◌<◌, ◌^◌, List, Contains, length, sym, subst, ap, arith, rules}
+use Rattle.std.proofs.lemmas.Grind.{common_steps}
 use Rattle.ledger_spec.specs.Bytes.{Hash}
 use Rattle.copy_walk.specs.Walks.{Walk, ShadesSome, shaded}
 use Rattle.copy_walk.specs.Slices.{Blackens}
 use Rattle.copy_walk.proofs.Shading.{has_too, black_less, blackened, more_black}
 use Rattle.copy_walk.proofs.walk.CopyWalk.blacken.Goals as goal
 
-pub returns-clause-ok : goal.returns-clause-ok
-returns-clause-ok c =
+pub returns : goal.returns
+returns c =
     let mid : Walk = record { grey = c.self.inside.grey.items; black = c.self.inside.black.keys } in
     let some : ShadesSome c.args.self.now c.args.named.now mid =
     subst (λ (w : Walk). ShadesSome c.args.self.now c.args.named.now w) (sym c.self.view_is) c.shade_all.ensures.some in
     let all : (k : Hash) → Contains c.args.named.now k → Contains (shaded mid) k =
-    subst (λ (w : Walk). (k : Hash) → Contains c.args.named.now k → Contains (shaded w) k) (sym c.self.view_is) c.in_ok-shade_all.ensures.all in
+    subst (λ (w : Walk). (k : Hash) → Contains c.args.named.now k → Contains (shaded w) k) (sym c.self.view_is)
+    c.in_ok-shade_all.ensures.all in
+    let blackens : Blackens c.args.self.now c.args.hash.now c.args.named.now
+    (record { grey = c.swap_remove.new.self.items; black = c.insert.new.self.keys }) =
     blackened c.args.self.now mid (record { grey = c.swap_remove.new.self.items; black = c.insert.new.self.keys }) c.args.hash.now
     c.swap_remove.result c.args.named.now c.args.place some all c.requires.at c.swap_remove.ensures.value c.swap_remove.ensures.items
-    (has_too c.self.inside.black c.insert.new.self c.args.hash.now c.in_ok-insert.ensures.updates.0)
-
--- one more is black, and at most sixteen more are grey
-pub returns-clause-less : goal.returns-clause-less
-returns-clause-less c =
-    let blackens : Blackens c.args.self.now c.args.hash.now c.args.named.now (record { grey = c.swap_remove.new.self.items; black = c.insert.new.self.keys }) =
-    returns-clause-ok c in
+    (has_too c.self.inside.black c.insert.new.self c.args.hash.now c.in_ok-insert.ensures.updates.0) in
     let same : c.self.inside.black.keys ≡ c.args.self.now.black =
     ap (λ (w : Walk). w.black) c.self.view_is ∙ c.shade_all.ensures.some.black in
     let more : length c.insert.new.self.keys ≡ length c.self.inside.black.keys + 1 =
@@ -29,4 +27,10 @@ returns-clause-less c =
     (λ is. c.requires.new (subst (λ (hs : List Hash). Contains hs c.args.hash.now) same is)) c.in_ok-insert.ensures.added
     c.in_ok-insert.ensures.len in
     let room : length c.args.self.now.black < 2 ^ 63 = omega (arith, ap length same, c.len-count.ensures.len, c.len-count.ensures.small) in
-    black_less c.args.self.now c.args.hash.now c.args.named.now _ blackens c.requires.few room (more ∙ ap (λ (hs : List Hash). length hs + 1) same)
+    record {
+      ok = blackens;
+      err = first_of (search rules, grind (arith, common_steps));
+      -- one more is black, and at most sixteen more are grey
+      less = black_less c.args.self.now c.args.hash.now c.args.named.now _ blackens c.requires.few room
+          (more ∙ ap (λ (hs : List Hash). length hs + 1) same);
+    }

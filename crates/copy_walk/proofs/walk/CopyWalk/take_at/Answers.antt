@@ -1,5 +1,6 @@
 -- the form is copied first; then its hash leaves the grey list, or becomes black once all that it names is shaded
-use Rattle.std.proofs.Common.{◌≡◌, ◌∙◌, ◌<◌, List, Some, length, slice_get, refl, sym, subst, ap, arith}
+use Rattle.std.proofs.Common.{◌≡◌, ◌∙◌, ◌<◌, List, Some, length, slice_get, refl, sym, subst, ap, arith, rules}
+use Rattle.std.proofs.lemmas.Grind.{common_steps}
 use Rattle.std.specs.Option.{option_map}
 use Rattle.ledger_spec.specs.Bytes.{Hash}
 use Rattle.copy_walk.specs.Walks.{Walk, ShadesSome}
@@ -9,11 +10,15 @@ use Rattle.copy_walk.proofs.Taking.{on_err, strode_copy, strode_left, strode_som
 use Rattle.copy_walk.proofs.walk.CopyWalk.take_at.Goals as goal
 
 -- the form can't be copied, or what it names not be read
-pub returns-in_err-kids-clause-err : goal.returns-in_err-kids-clause-err
-returns-in_err-kids-clause-err g c told =
-    on_err _ c.from_residual.result
-    (strode_copy c.args.self.now c.args.store.now c.copy_one.new.store c.args.hash.now
-    (grey_at c.args.self.now c.args.place c.args.hash.now c.requires.at) (c.copy_one.ensures.one told))
+pub returns-in_err-kids-clause-takes : goal.returns-in_err-kids-clause-takes
+returns-in_err-kids-clause-takes g c = record {
+  ok = first_of (search rules, grind (arith, common_steps));
+  err = λ told.
+      on_err _ c.from_residual.result
+      (strode_copy c.args.self.now c.args.store.now c.copy_one.new.store c.args.hash.now
+      (grey_at c.args.self.now c.args.place c.args.hash.now c.requires.at) (c.copy_one.ensures.one told));
+  less = first_of (search rules, grind (arith, common_steps));
+}
 
 -- its place is one of the list
 pub swap_remove-requires : goal.swap_remove-requires
@@ -24,45 +29,56 @@ swap_remove-requires g c =
     omega (arith, within, c.self.inside.grey.ok.0)
 
 -- nothing is stored under it
-pub returns-in_default-clause-ok : goal.returns-in_default-clause-ok
-returns-in_default-clause-ok g c told =
-    let was : Walk = record { grey = c.self.inside.grey.items; black = c.self.inside.black.keys } in
-    let now : Walk = record { grey = c.swap_remove.new.self.items; black = c.self.inside.black.keys } in
-    let at : slice_get was.grey c.args.place ≡ Some c.args.hash.now =
-    subst (λ (w : Walk). slice_get w.grey c.args.place ≡ Some c.args.hash.now) (sym c.self.view_is) c.requires.at in
-    let leaves : Leaves was c.args.hash.now now =
-    leaves_at was now c.args.place c.args.hash.now c.swap_remove.result (stands_at was.grey c.args.place c.args.hash.now at)
-    c.swap_remove.ensures.value c.swap_remove.ensures.items in
-    rw (← c.self.view_is)
-    (strode_left was c.args.store.now c.copy_one.new.store c.args.hash.now (grey_at was c.args.place c.args.hash.now at)
-    (c.copy_one.ensures.one told) _ (c.in_ok-kids.ensures.kids told) now
-    (ap (option_map (λ v. v.items)) c.in_default.is) leaves refl)
-
-pub returns-in_default-clause-less : goal.returns-in_default-clause-less
-returns-in_default-clause-less g c =
-    let was : Walk = record { grey = c.self.inside.grey.items; black = c.self.inside.black.keys } in
-    let now : Walk = record { grey = c.swap_remove.new.self.items; black = c.self.inside.black.keys } in
-    let at : slice_get was.grey c.args.place ≡ Some c.args.hash.now =
-    subst (λ (w : Walk). slice_get w.grey c.args.place ≡ Some c.args.hash.now) (sym c.self.view_is) c.requires.at in
-    rw (← c.self.view_is)
-    (left_less was c.args.hash.now now
-    (leaves_at was now c.args.place c.args.hash.now c.swap_remove.result (stands_at was.grey c.args.place c.args.hash.now at)
-    c.swap_remove.ensures.value c.swap_remove.ensures.items) refl)
+pub returns-in_default-clause-takes : goal.returns-in_default-clause-takes
+returns-in_default-clause-takes g c = record {
+  ok = λ told.
+      let was : Walk = record { grey = c.self.inside.grey.items; black = c.self.inside.black.keys } in
+      let now : Walk = record { grey = c.swap_remove.new.self.items; black = c.self.inside.black.keys } in
+      let at : slice_get was.grey c.args.place ≡ Some c.args.hash.now =
+      subst (λ (w : Walk). slice_get w.grey c.args.place ≡ Some c.args.hash.now) (sym c.self.view_is) c.requires.at in
+      let leaves : Leaves was c.args.hash.now now =
+      leaves_at was now c.args.place c.args.hash.now c.swap_remove.result (stands_at was.grey c.args.place c.args.hash.now at)
+      c.swap_remove.ensures.value c.swap_remove.ensures.items in
+      rw (← c.self.view_is)
+      (strode_left was c.args.store.now c.copy_one.new.store c.args.hash.now (grey_at was c.args.place c.args.hash.now at)
+      (c.copy_one.ensures.one told) _ (c.in_ok-kids.ensures.named.kids told) now
+      (ap (option_map (λ v. v.items)) c.in_default.is) leaves refl);
+  err = first_of (search rules, grind (arith, common_steps));
+  less =
+      let was : Walk = record { grey = c.self.inside.grey.items; black = c.self.inside.black.keys } in
+      let now : Walk = record { grey = c.swap_remove.new.self.items; black = c.self.inside.black.keys } in
+      let at : slice_get was.grey c.args.place ≡ Some c.args.hash.now =
+      subst (λ (w : Walk). slice_get w.grey c.args.place ≡ Some c.args.hash.now) (sym c.self.view_is) c.requires.at in
+      rw (← c.self.view_is)
+      (left_less was c.args.hash.now now
+      (leaves_at was now c.args.place c.args.hash.now c.swap_remove.result (stands_at was.grey c.args.place c.args.hash.now at)
+      c.swap_remove.ensures.value c.swap_remove.ensures.items) refl);
+}
 
 -- what it names can't be shaded, or it not become black: it is grey still
-pub returns-in_err-blacken-clause-err : goal.returns-in_err-blacken-clause-err
-returns-in_err-blacken-clause-err g c told =
-    let some : ShadesSome c.args.self.now c.in-Some.kids.items c.blacken.new.self =
-    subst (λ (hs : List Hash). ShadesSome c.args.self.now hs c.blacken.new.self) c.deref.ensures.value c.in_err-blacken.ensures.err in
-    on_err _ c.from_residual-in_err-blacken.result
-    (strode_some c.args.self.now c.args.store.now c.copy_one.new.store c.args.hash.now
-    (grey_at c.args.self.now c.args.place c.args.hash.now c.requires.at) (c.copy_one.ensures.one told) _ (c.in_ok-kids.ensures.kids told)
-    c.in-Some.kids.items (ap (option_map (λ v. v.items)) c.in-Some.is) c.blacken.new.self some)
+pub returns-in_err-blacken-clause-takes : goal.returns-in_err-blacken-clause-takes
+returns-in_err-blacken-clause-takes g c = record {
+  ok = first_of (search rules, grind (arith, common_steps));
+  err = λ told.
+      let some : ShadesSome c.args.self.now c.in-Some.kids.items c.blacken.new.self =
+      subst (λ (hs : List Hash). ShadesSome c.args.self.now hs c.blacken.new.self) c.deref.ensures.value c.in_err-blacken.ensures.err in
+      on_err _ c.from_residual-in_err-blacken.result
+      (strode_some c.args.self.now c.args.store.now c.copy_one.new.store c.args.hash.now
+      (grey_at c.args.self.now c.args.place c.args.hash.now c.requires.at) (c.copy_one.ensures.one told) _
+      (c.in_ok-kids.ensures.named.kids told)
+      c.in-Some.kids.items (ap (option_map (λ v. v.items)) c.in-Some.is) c.blacken.new.self some);
+  less = first_of (search rules, grind (arith, common_steps));
+}
 
 -- it is black
-pub returns-clause-ok : goal.returns-clause-ok
-returns-clause-ok g c told =
-    strode_done c.args.self.now c.args.store.now c.copy_one.new.store c.args.hash.now
-    (grey_at c.args.self.now c.args.place c.args.hash.now c.requires.at) (c.copy_one.ensures.one told) _ (c.in_ok-kids.ensures.kids told)
-    c.deref.result.now (ap (option_map (λ v. v.items)) c.in-Some.is ∙ ap Some (sym c.deref.ensures.value)) c.blacken.new.self
-    (c.in_ok-kids.ensures.there told) c.in_ok-blacken.ensures.ok
+pub returns-clause-takes : goal.returns-clause-takes
+returns-clause-takes g c = record {
+  ok = λ told.
+      strode_done c.args.self.now c.args.store.now c.copy_one.new.store c.args.hash.now
+      (grey_at c.args.self.now c.args.place c.args.hash.now c.requires.at) (c.copy_one.ensures.one told) _
+      (c.in_ok-kids.ensures.named.kids told)
+      c.deref.result.now (ap (option_map (λ v. v.items)) c.in-Some.is ∙ ap Some (sym c.deref.ensures.value)) c.blacken.new.self
+      (c.in_ok-kids.ensures.there told) c.in_ok-blacken.ensures.ok;
+  err = first_of (search rules, grind (arith, common_steps));
+  less = c.in_ok-blacken.ensures.less;
+}

@@ -15,8 +15,8 @@ pub invariant_of-self : goal.invariant_of-self
 invariant_of-self g c = (
   c.self.invariant.0,
   subst (λ (x : Turning). KeepsTurning g.Sh.B.Backend.tells c.begin.new.book x c.self.inside.store)
-      (sym c.in_err-begun.ensures.err.0) (subst (λ (b : Retention). KeepsTurning g.Sh.B.Backend.tells b c.self.inside.rotator
-      c.self.inside.store) (sym c.in_err-begun.ensures.err.1) c.self.invariant.1),
+      (sym c.in_err-begun.ensures.err.same.0) (subst (λ (b : Retention). KeepsTurning g.Sh.B.Backend.tells b c.self.inside.rotator
+      c.self.inside.store) (sym c.in_err-begun.ensures.err.same.1) c.self.invariant.1),
 )
 
 pub invariant_of-self-2 : goal.invariant_of-self-2

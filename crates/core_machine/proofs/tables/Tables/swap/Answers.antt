@@ -13,8 +13,9 @@ invariant_of-self g c =
       c.self.invariant.0,
       finish_keeps g.Sh.B.Backend.tells c.self.inside.book c.self.inside.rotator c.self.inside.store k turning
           c.finish-ended.result c.finish-ended.new.book c.finish-ended.new.self c.finish-ended.new.store c.finish-ended.ensures.after
-          (λ told. c.finish-ended.ensures.nodes told (k.walks told)) (λ told. c.finish-ended.ensures.fit told (k.walks told) (k.fit told))
-          (λ told. c.finish-ended.ensures.walks told (k.walks told)),
+          (λ told. c.finish-ended.ensures.ends.nodes told (k.walks told))
+          (λ told. c.finish-ended.ensures.ends.fit told (k.walks told) (k.fit told))
+          (λ told. c.finish-ended.ensures.ends.walks told (k.walks told)),
     )
 
 pub returns : goal.returns
@@ -24,27 +25,27 @@ returns g c = record {
       rw c.swap_told.ensures (rw (← c.self.view_is) (finish_swaps c.self.inside.wanted.entries c.self.inside.views.entries
       c.self.inside.book
       c.finish-ended.new.book c.self.inside.rotator c.finish-ended.new.self c.self.inside.store c.finish-ended.new.store
-      c.finish-ended.result c.finish-ended.ensures.after (c.finish-ended.ensures.nodes told (k.walks told))
-      (c.finish-ended.ensures.fit told (k.walks told) (k.fit told))
+      c.finish-ended.result c.finish-ended.ensures.after (c.finish-ended.ensures.ends.nodes told (k.walks told))
+      (c.finish-ended.ensures.ends.fit told (k.walks told) (k.fit told))
       (sym k.step ∙ sym c.busy.ensures ∙ c.if-not-busy.false)));
   err = λ told.
       rw c.swap_told.ensures (rw (← c.self.view_is) (finish_stays c.self.inside.wanted.entries c.self.inside.views.entries
       c.self.inside.book
       c.finish-ended.new.book c.self.inside.rotator c.finish-ended.new.self c.self.inside.store c.finish-ended.new.store
-      c.finish-ended.result c.finish-ended.ensures.after (c.finish-ended.ensures.nodes told (c.self.invariant.1.walks told))));
+      c.finish-ended.result c.finish-ended.ensures.after (c.finish-ended.ensures.ends.nodes told (c.self.invariant.1.walks told))));
   kept = search rules;
   grows =
       rw (← c.self.view_is) (finish_grows c.self.inside.wanted.entries c.self.inside.views.entries c.self.inside.book
       c.finish-ended.new.book c.self.inside.rotator c.finish-ended.new.self c.self.inside.store c.finish-ended.new.store
-      c.finish-ended.result c.finish-ended.ensures.after c.finish-ended.ensures.counts.later);
+      c.finish-ended.result c.finish-ended.ensures.after c.finish-ended.ensures.ends.counts.later);
   slices = search rules;
   -- nothing is grey, so nothing is copied before the swap
   still = λ told none.
       rw (← c.self.view_is) (finish_still c.self.inside.wanted.entries c.self.inside.views.entries c.self.inside.book
       c.finish-ended.new.book c.self.inside.rotator c.finish-ended.new.self c.self.inside.store c.finish-ended.new.store
       c.finish-ended.result c.finish-ended.ensures.after
-      (c.finish-ended.ensures.still told (subst (λ (d : Desk). d.grey ≡ []) (sym c.self.view_is) none)));
+      (c.finish-ended.ensures.ends.still told (subst (λ (d : Desk). d.grey ≡ []) (sym c.self.view_is) none)));
   fault =
       rw c.swap_told.ensures (rw (← c.self.view_is) (finish_fault c.finish-ended.result c.self.inside.store c.finish-ended.new.store
-      c.finish-ended.ensures.counts.cause));
+      c.finish-ended.ensures.ends.counts.cause));
 }

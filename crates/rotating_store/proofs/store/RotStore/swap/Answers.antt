@@ -1,4 +1,5 @@
-use Rattle.std.proofs.Common.{sym, ◌∙◌, ap, subst}
+use Rattle.std.proofs.Common.{sym, ◌∙◌, ap, subst, rules, arith}
+use Rattle.std.proofs.lemmas.Grind.{common_steps}
 use Rattle.std.specs.Option.{IsSome}
 use Rattle.std.specs.FinMap as map
 use Rattle.ledger_spec.specs.Bytes.{Nodes}
@@ -27,23 +28,27 @@ invariant_of-self-2 g c = (
 )
 
 -- the new writable backend is empty, so all that is held is what the old writable one held
-pub returns-clause-nodes : goal.returns-clause-nodes
-returns-clause-nodes g c tells = rw (← c.self.view_is) (
-    swapped_nodes g.Sh.B.Backend.number g.Sh.B.Backend.held g.Sh.B.Backend.doubt c.self.inside.writable c.self.inside.archive
-    c.in-Some.fresh c.replace-full.new.dest c.replace-old.new.dest c.self.inside.ready (c.self.invariant.1 tells)
-    (sym c.take.ensures.value ∙ c.in-Some.is) c.replace-full.ensures.after
-    (c.replace-old.ensures.after ∙ c.replace-full.ensures.value)
-    )
+pub returns-clause-maps : goal.returns-clause-maps
+returns-clause-maps g c = record {
+  nodes = λ tells. rw (← c.self.view_is) (
+      swapped_nodes g.Sh.B.Backend.number g.Sh.B.Backend.held g.Sh.B.Backend.doubt c.self.inside.writable c.self.inside.archive
+      c.in-Some.fresh c.replace-full.new.dest c.replace-old.new.dest c.self.inside.ready (c.self.invariant.1 tells)
+      (sym c.take.ensures.value ∙ c.in-Some.is) c.replace-full.ensures.after
+      (c.replace-old.ensures.after ∙ c.replace-full.ensures.value)
+      );
+  archive = first_of (search rules, grind (arith, common_steps));
+  writable = first_of (search rules, grind (arith, common_steps));
+}
 
 -- what the old writable backend holds had its notes carried, and they are the earlier ones now
 pub returns-clause-notes : goal.returns-clause-notes
-returns-clause-notes g c tells = rw (← c.self.view_is) (λ h has held. turned_kept (g.Sh.B.Backend.held c.self.inside.writable)
-    c.self.inside.noted c.turn.new.self h (c.self.invariant.2 tells) c.turn.ensures has
-    (subst (λ (m : Nodes). IsSome (map.get m h)) (swapped_nodes g.Sh.B.Backend.number g.Sh.B.Backend.held g.Sh.B.Backend.doubt
-    c.self.inside.writable c.self.inside.archive
-    c.in-Some.fresh c.replace-full.new.dest c.replace-old.new.dest c.self.inside.ready (c.self.invariant.1 tells)
-    (sym c.take.ensures.value ∙ c.in-Some.is) c.replace-full.ensures.after
-    (c.replace-old.ensures.after ∙ c.replace-full.ensures.value)) held))
-
-pub returns-clause-no_notes : goal.returns-clause-no_notes
-returns-clause-no_notes g c = rw (← c.self.view_is) (λ h has. turned_fewer c.self.inside.noted c.turn.new.self h c.turn.ensures has)
+returns-clause-notes g c = record {
+  kept = λ tells. rw (← c.self.view_is) (λ h has held. turned_kept (g.Sh.B.Backend.held c.self.inside.writable)
+      c.self.inside.noted c.turn.new.self h (c.self.invariant.2 tells) c.turn.ensures has
+      (subst (λ (m : Nodes). IsSome (map.get m h)) (swapped_nodes g.Sh.B.Backend.number g.Sh.B.Backend.held g.Sh.B.Backend.doubt
+      c.self.inside.writable c.self.inside.archive
+      c.in-Some.fresh c.replace-full.new.dest c.replace-old.new.dest c.self.inside.ready (c.self.invariant.1 tells)
+      (sym c.take.ensures.value ∙ c.in-Some.is) c.replace-full.ensures.after
+      (c.replace-old.ensures.after ∙ c.replace-full.ensures.value)) held));
+  no_more = rw (← c.self.view_is) (λ h has. turned_fewer c.self.inside.noted c.turn.new.self h c.turn.ensures has);
+}

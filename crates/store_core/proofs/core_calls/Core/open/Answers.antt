@@ -22,7 +22,7 @@ returns-clause-opened g c = record {
       c.new-hall.ensures.state
       ∙ over_open c.put_records.new.store c.args.interval (with_records map.empty c.args.script.records.items)
       (stored.0 ∙ ap (with_records map.empty) c.deref.ensures.value) stored.1
-      (c.put_records.ensures.later.past.0 ∙ c.in_ok-store.ensures.state.0);
+      (c.put_records.ensures.later.past.0 ∙ c.in_ok-store.ensures.opened.state.0);
 }
 
 -- the store that is handed back is the one that the records were put into
@@ -49,7 +49,7 @@ invariant_of-result g c = (
       (c.in-Ok-vec.ensures.items_if_clones_equal (λ y same. same)) l) c.requires.lines
       c.requires.records (search (rules, common_steps)) (c.faults-opened.ensures ∙ sym c.new-hall.ensures.faults)
       (ap (λ (s : State). s.listed) c.new-hall.ensures.state) (ap (λ (s : State). s.turning) c.new-hall.ensures.state)
-      (ap (λ (s : State). s.epoch) c.new-hall.ensures.state ∙ c.put_records.ensures.later.past.0 ∙ c.in_ok-store.ensures.state.0)
+      (ap (λ (s : State). s.epoch) c.new-hall.ensures.state ∙ c.put_records.ensures.later.past.0 ∙ c.in_ok-store.ensures.opened.state.0)
       (returns-clause-opened g c).state,
   keeps_new g.H.NodeHash.half g.Sh.B.Backend.tells c.new-hall.result.desk.state c.in-Ok-with_capacity.journal.items c.in-Ok-new.searches
       c.in-Ok-new.ensures.paired c.in-Ok-new.ensures.empty c.in-Ok-new.ensures.generation,
