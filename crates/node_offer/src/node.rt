@@ -3,19 +3,19 @@
 ghost use Rattle.std.specs.Prelude.{◌≡◌, IsTrue, IfErr, IfOk, Ok, is_some};
 ghost use Rattle.std.specs.FinMap as map;
 ghost use Rattle.ledger_spec.specs.Findings.{held_of};
-ghost use Rattle.ledger_spec.specs.Forms.{Held, form_of};
+ghost use Rattle.ledger_spec.specs.Forms.{form_of};
 ghost use Rattle.ledger_spec.specs.Rules.{fault_of};
 ghost use Rattle.ledger_spec.specs.Spots as way;
-ghost use Rattle.ledger_spec.specs.Spots.{spot_of};
 ghost use Rattle.ledger_spec.specs.Wire.{read_wire};
 ghost use Rattle.shamap_node.specs.Nodes.{held};
-ghost use Rattle.ledger_spec.specs.Offers.{node_outcome, spot_outcome, stored_by};
+ghost use Rattle.ledger_spec.specs.Offers.{node_outcome, stored_by};
 ghost use Rattle.run_io.specs.Bytes.{Rose};
 ghost use Rattle.ledger_spec.specs.Own.{AreStored};
 ghost use Rattle.rotating_store.specs.Stores.{nodes_of};
 ghost use Rattle.rotating_store.specs.Reading.{IsLater, IsReadable, KeepsReadable};
 ghost use Rattle.node_offer.specs.Stored.{HasForms, Refuses};
-ghost use Rattle.node_offer.specs.Outcomes.{numbered, HasCause, HasRule};
+ghost use Rattle.node_offer.specs.Outcomes.{numbered};
+ghost use Rattle.node_offer.specs.Judging.{AnswersOffer, JudgesAt};
 ghost use Rattle.node_offer.specs.Ways.{hashes_of_parent, offered_as, spot as spot_means};
 
 use crate::fault::OfferFault;
@@ -44,13 +44,7 @@ pub fn offer<H: NodeHash, Sh: Shelf>(
     id: &NodeId,
     blob: &[u8],
 ) -> Result<Offered, OfferFault>
-    ensures outcome { IsTrue Sh.B.tells → AreStored H.half (map.get (nodes_of store.old))
-        → IfOk result (λ o. node_outcome H.half (map.get (nodes_of store.old)) target.now kind id.now blob.now ≡ Ok (numbered o)) }
-
-    // a cause is one of the bytes, and a rule one that the node breaks
-    ensures cause { IfOk result (HasCause H.half blob.now) }
-    ensures rule { IsTrue Sh.B.tells → AreStored H.half (map.get (nodes_of store.old)) → (n : Held) → read_wire H.half blob.now ≡ Ok n
-        → IfOk result (HasRule n (spot_of (map.get (nodes_of store.old)) target.now kind id.now) kind id.now) }
+    ensures answers { AnswersOffer Sh.B.tells H.half (map.get (nodes_of store.old)) target.now kind id.now blob.now result }
 
     // a node that is good, or that breaks a rule, is stored under its hash, and nothing else changes
     ensures stored { IsTrue Sh.B.tells
@@ -80,15 +74,7 @@ fn offer_to<H: NodeHash, Sh: Shelf>(
     kind: Kind,
     id: &NodeId,
 ) -> Result<Offered, OfferFault>
-    ensures outcome { IsTrue Sh.B.tells → IfOk result (λ o.
-        spot_outcome H.half (map.get (nodes_of store.old)) kind id.now (held node.now) (spot_means spot) ≡ Ok (numbered o)) }
-    ensures rule { IfOk result (HasRule (held node.now) (spot_means spot) kind id.now) }
-    ensures stored { IsTrue Sh.B.tells
-        → IfOk result (λ o. HasForms H.half (stored_by (Ok (held node.now)) (Ok (numbered o))) store.old store.new) }
-    ensures err { IsTrue Sh.B.tells → IfErr result (λ e. Refuses H.half
-        (spot_outcome H.half (map.get (nodes_of store.old)) kind id.now (held node.now) (spot_means spot))
-        (stored_by (Ok (held node.now)) (spot_outcome H.half (map.get (nodes_of store.old)) kind id.now (held node.now) (spot_means spot)))
-        store.old e store.new) }
+    ensures judges { JudgesAt Sh.B.tells H.half store.old (held node.now) (spot_means spot) kind id.now result store.new }
     ensures notes { IsTrue (is_some (held_of H.half (form_of (held node.now)))) → IsReadable Sh.B.tells H.half store.old
         → IsReadable Sh.B.tells H.half store.new }
     ensures later { IsLater store.old store.new }
@@ -115,17 +101,8 @@ fn offer_at<H: NodeHash, Sh: Shelf>(
     kind: Kind,
     id: &NodeId,
 ) -> Result<Offered, OfferFault>
-    ensures outcome { IsTrue Sh.B.tells → IfOk result (λ o.
-        spot_outcome H.half (map.get (nodes_of store.old)) kind id.now (held node.now)
-        (way.wanted wanted.now (hashes_of_parent parent)) ≡ Ok (numbered o)) }
-    ensures rule { IfOk result (HasRule (held node.now) (way.wanted wanted.now (hashes_of_parent parent)) kind id.now) }
-    ensures stored { IsTrue Sh.B.tells
-        → IfOk result (λ o. HasForms H.half (stored_by (Ok (held node.now)) (Ok (numbered o))) store.old store.new) }
-    ensures err { IsTrue Sh.B.tells → IfErr result (λ e. Refuses H.half
-        (spot_outcome H.half (map.get (nodes_of store.old)) kind id.now (held node.now) (way.wanted wanted.now (hashes_of_parent parent)))
-        (stored_by (Ok (held node.now))
-        (spot_outcome H.half (map.get (nodes_of store.old)) kind id.now (held node.now) (way.wanted wanted.now (hashes_of_parent parent))))
-        store.old e store.new) }
+    ensures judges { JudgesAt Sh.B.tells H.half store.old (held node.now) (way.wanted wanted.now (hashes_of_parent parent)) kind id.now
+        result store.new }
     ensures notes { IsTrue (is_some (held_of H.half (form_of (held node.now)))) → IsReadable Sh.B.tells H.half store.old
         → IsReadable Sh.B.tells H.half store.new }
     ensures later { IsLater store.old store.new }

@@ -20,7 +20,7 @@ returns-clause-answer g c tells all =
     (sym c.numbered.ensures)
     (one_node half outcome forms c.args.store.now c.offer.new.store c.offer.result
     (clash_stores (read_wire half c.args.blob.now))
-    (c.offer.ensures.outcome tells all) (c.offer.ensures.stored tells) (c.offer.ensures.err tells all))
+    (c.offer.ensures.answers.outcome tells all) (c.offer.ensures.stored tells) (c.offer.ensures.err tells all))
 
 pub returns-clause-kept : goal.returns-clause-kept
 returns-clause-kept g c tells all =

@@ -13,14 +13,28 @@ use Rattle.node_offer.proofs.Outcomes.{no_cause, rule_there}
 use Rattle.node_offer.proofs.Storing.{by_place, refused_there, handed_on}
 use Rattle.node_offer.proofs.node.offer.Goals as goal
 
--- finding the place only reads, so the node is judged by what was held, at the place that the definitions find
-pub returns-clause-outcome : goal.returns-clause-outcome
-returns-clause-outcome g c tells all =
-    by_place g.H.NodeHash.half (nodes_of c.args.store.now) (nodes_of c.place.new.store) c.args.target.now c.args.kind c.args.id.now
-    (held c.in-Ok.node) (spot c.in_ok-spot.spot) _
-    (ap nodes_of (c.place.ensures.read.same tells)) all
-    (c.in_ok-spot.ensures.spot (tells, stored_notes g.H.NodeHash.half c.args.store.now all)) c.in-Ok.ensures.node
-    ∙ c.in_ok-offer_to.ensures.outcome tells
+-- finding the place only reads, so the node is judged by what was held, at the place that the definitions find; bytes that were read are
+-- judged as a node, and of that no cause is told
+pub returns-clause-answers : goal.returns-clause-answers
+returns-clause-answers g c = record {
+  outcome = λ tells all.
+      by_place g.H.NodeHash.half (nodes_of c.args.store.now) (nodes_of c.place.new.store) c.args.target.now c.args.kind c.args.id.now
+      (held c.in-Ok.node) (spot c.in_ok-spot.spot) _
+      (ap nodes_of (c.place.ensures.read.same tells)) all
+      (c.in_ok-spot.ensures.spot (tells, stored_notes g.H.NodeHash.half c.args.store.now all)) c.in-Ok.ensures.node
+      ∙ c.in_ok-offer_to.ensures.judges.outcome tells;
+  cause =
+      no_cause g.H.NodeHash.half c.args.blob.now (held c.in-Ok.node) (spot c.in_ok-spot.spot) c.args.kind c.args.id.now
+      c.in_ok-offer_to.field-0 c.in_ok-offer_to.ensures.judges.rule;
+  rule = λ tells all n read.
+      let half = g.H.NodeHash.half in
+      let nodes = map.get (nodes_of c.args.store.now) in
+      rule_there (held c.in-Ok.node) n (spot c.in_ok-spot.spot) (spot_of nodes c.args.target.now c.args.kind c.args.id.now)
+      c.args.kind c.args.id.now c.in_ok-offer_to.field-0 (ok_same (sym c.in-Ok.ensures.node ∙ read))
+      (c.in_ok-spot.ensures.spot (tells, stored_notes half c.args.store.now all)
+      ∙ ap (λ l. spot_of l c.args.target.now c.args.kind c.args.id.now) (all_own half nodes all))
+      c.in_ok-offer_to.ensures.judges.rule;
+}
 
 -- finding the place only reads, so a node that isn't judged leaves what it leaves of the store as it was
 pub returns-in_err-offer_to-clause-err : goal.returns-in_err-offer_to-clause-err
@@ -29,7 +43,7 @@ returns-in_err-offer_to-clause-err g c tells all =
     (refused_there g.H.NodeHash.half c.args.store.now c.place.new.store _ c.args.target.now c.args.kind c.args.id.now (held c.in-Ok.node)
     (spot c.in_ok-spot.spot) _ c.in_err-offer_to.field-0.0
     (c.place.ensures.read.same tells) all (c.in_ok-spot.ensures.spot (tells, stored_notes g.H.NodeHash.half c.args.store.now all))
-    c.in-Ok.ensures.node (c.in_err-offer_to.ensures.err tells))
+    c.in-Ok.ensures.node (c.in_err-offer_to.ensures.judges.err tells))
 
 -- the form of a node that came by wire reads back as that node, so a note of it is true
 pub returns-in_err-offer_to-clause-store : goal.returns-in_err-offer_to-clause-store
@@ -54,20 +68,3 @@ returns-clause-store g c =
       later = search rules;
       cause = search rules;
     }
-
--- bytes that were read are judged as a node, and of that no cause is told
-pub returns-clause-cause : goal.returns-clause-cause
-returns-clause-cause g c =
-    no_cause g.H.NodeHash.half c.args.blob.now (held c.in-Ok.node) (spot c.in_ok-spot.spot) c.args.kind c.args.id.now
-    c.in_ok-offer_to.field-0 c.in_ok-offer_to.ensures.rule
-
--- the node that was read is judged at the place that the definitions find
-pub returns-clause-rule : goal.returns-clause-rule
-returns-clause-rule g c tells all n read =
-    let half = g.H.NodeHash.half in
-    let nodes = map.get (nodes_of c.args.store.now) in
-    rule_there (held c.in-Ok.node) n (spot c.in_ok-spot.spot) (spot_of nodes c.args.target.now c.args.kind c.args.id.now)
-    c.args.kind c.args.id.now c.in_ok-offer_to.field-0 (ok_same (sym c.in-Ok.ensures.node ∙ read))
-    (c.in_ok-spot.ensures.spot (tells, stored_notes half c.args.store.now all)
-    ∙ ap (λ l. spot_of l c.args.target.now c.args.kind c.args.id.now) (all_own half nodes all))
-    c.in_ok-offer_to.ensures.rule
