@@ -1,5 +1,5 @@
 -- What a slice answers, and what it leaves of the search.
-use Rattle.std.specs.Prelude.{◌≡◌, ◌≤◌, Bool, true, false, Option, None, Result, IfOk, IfSome, is_some, length}
+use Rattle.std.specs.Prelude.{◌≡◌, ◌≤◌, ◌+◌, ℕ, Bool, true, false, Option, None, Result, IfOk, IfSome, is_some, length}
 use Rattle.ledger_spec.specs.Bytes.{Half, Lookup}
 use Rattle.rotating_store.specs.Stores.{Store}
 use Rattle.full_below.specs.declared.marks.Marks.{Marks}
@@ -12,6 +12,7 @@ use Rattle.missing_walk.specs.Begins.{Begins}
 use Rattle.missing_walk.specs.Ends.{IsClean, AreRootsMarked}
 use Rattle.missing_walk.specs.Founds.{IsFound}
 use Rattle.missing_walk.specs.Moves.{has_ended}
+use Rattle.missing_walk.specs.Passes.{IsDone, HasMarkedRoots}
 use Rattle.missing_walk.specs.Pending.{IsFull}
 use Rattle.missing_walk.specs.Searching.{Rule, Holding, Kept, Going, OnDone, OnMore, IsNoStale, IsStale, generation_after}
 use Rattle.missing_walk.specs.Sees.{Finds}
@@ -41,6 +42,24 @@ pub record KeepsHolding {E : Type 0} (tells : Bool) (half : Half) (store : Store
     (result : Result Slice E) : Type 0 where
   pub holding : (nodes : Lookup) → Tells tells half store nodes → Holding half nodes s c m → Holding half nodes s' c' m'
   pub fresh : IfOk result IsNoStale
+
+-- a search that is over, with few places noted, may conclude
+pub record MayConclude (s : Search) : Type 0 where
+  pub over : has_ended s ≡ true
+  pub few : length s.missing.items ≤ 256
+
+-- the search of the same ledger, of the same generation, and no place is broken
+pub record BeginsWhole (s s' : Search) : Type 0 where
+  pub unbroken : s'.broken ≡ None
+  pub target : s'.target ≡ s.target
+  pub generation : s'.generation ≡ s.generation
+
+-- where places are left the header was read; and where the roots that it names are marked, the search is done, with two gets at most
+pub record EntersFrom {E : Type 0} (tells : Bool) (half : Half) (store store' : Store) (m : Marks) (n : ℕ) (s s' : Search)
+    (result : Result Slice E) : Type 0 where
+  pub entered : IfOk result (λ a. OnMore a (is_some s'.header ≡ true))
+  pub first : (nodes : Lookup) → Tells tells half store nodes → s.header ≡ None → HasMarkedRoots nodes s.target m → 2 ≤ n
+      → IfOk result IsDone × (store'.gets ≤ store.gets + 2)
 
 -- the search of the same ledger, of the same generation, and no place is broken where none was
 pub record StaysUnbroken (s s' : Search) : Type 0 where

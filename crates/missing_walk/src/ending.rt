@@ -1,5 +1,5 @@
 //! The end of a search: what was found is answered, and where that is nothing the ledger's roots are marked as whole.
-ghost use Rattle.std.specs.Prelude.{◌≡◌, ◌≤◌, true, IfOk, OnOk, OnErr, length, map};
+ghost use Rattle.std.specs.Prelude.{◌≡◌, true, IfOk, OnOk, OnErr, map};
 ghost use Rattle.ledger_spec.specs.Bytes.{Half, Lookup};
 ghost use Rattle.full_below.specs.Marking.{AreMarked};
 ghost use Rattle.tree_cache.specs.declared.cache.TreeCache.{TreeCache as Cache};
@@ -9,7 +9,7 @@ ghost use Rattle.missing_walk.specs.Moves.{has_ended};
 ghost use Rattle.missing_walk.specs.Ends.{found_whole, MarksRoot, marks_of_roots, with_root};
 ghost use Rattle.missing_walk.specs.Leaving.{SameRoom};
 ghost use Rattle.missing_walk.specs.Runs.{StaysWhole};
-ghost use Rattle.missing_walk.specs.Answering.{Concludes, KeepsGoing};
+ghost use Rattle.missing_walk.specs.Answering.{MayConclude, Concludes, KeepsGoing};
 
 use crate::Found;
 use crate::search::Search;
@@ -24,8 +24,7 @@ use std::alloc::Global;
 impl Search {
     /// What was found. Where nothing is missing or broken, the roots are marked. The broken place goes, also where memory is refused.
     pub(crate) fn finish(&mut self, alloc: Global, marks: &mut Marks) -> Result<Found, Memory>
-        requires over { has_ended self.old ≡ true }
-        requires few { length self.old.missing.items ≤ 256 }
+        requires { MayConclude self.old }
         ensures found { Concludes self.old marks.old marks.new result }
         ensures going { KeepsGoing self.old self.new marks.old marks.new }
         ensures stays { StaysWhole self.old self.new }
@@ -38,8 +37,7 @@ impl Search {
 
     // The same, the broken place left.
     fn conclude(&mut self, alloc: Global, marks: &mut Marks) -> Result<Found, Memory>
-        requires over { has_ended self.old ≡ true }
-        requires few { length self.old.missing.items ≤ 256 }
+        requires { MayConclude self.old }
         ensures found { Concludes self.old marks.old marks.new result }
         ensures going { KeepsGoing self.old self.new marks.old marks.new }
         ensures same { SameSearch self.old self.new }

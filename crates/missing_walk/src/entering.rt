@@ -7,7 +7,7 @@ ghost use Rattle.missing_walk.specs.Ends.{IsClean};
 ghost use Rattle.missing_walk.specs.Stacks.{Pushes};
 ghost use Rattle.missing_walk.specs.Begins.{Begins, root_place};
 ghost use Rattle.missing_walk.specs.Leaving.{Asks};
-ghost use Rattle.missing_walk.specs.Answering.{StaysUnbroken, FindsNoHeader, Enters};
+ghost use Rattle.missing_walk.specs.Answering.{StaysUnbroken, BeginsWhole, FindsNoHeader, Enters};
 
 use crate::Found;
 use crate::search::Search;
@@ -53,9 +53,7 @@ impl Search {
         requires { self.old.header ≡ None }
         ensures ok { OnOk result (Begins header self.old self.new) }
         ensures err { OnErr result (self.new.header ≡ None) }
-        ensures unbroken { self.new.broken ≡ None }
-        ensures target { self.new.target ≡ self.old.target }
-        ensures generation { self.new.generation ≡ self.old.generation }
+        ensures whole { BeginsWhole self.old self.new }
     {
         self.stack.clear();
         self.opened.clear();

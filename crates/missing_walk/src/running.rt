@@ -3,14 +3,14 @@
 ghost use Rattle.std.specs.Prelude.{◌≡◌, ◌+◌, ◌*◌, ◌<◌, ◌≤◌, ◌++◌, ◌∷◌, [], false, None, IfOk, OnOk, IsOk, ℕ, List, length};
 ghost use Rattle.std.specs.Prelude.{vec_len};
 ghost use Rattle.ledger_spec.specs.Bytes.{Half, Lookup};
-ghost use Rattle.missing_walk.specs.Pending.{Pending, pending_of};
-ghost use Rattle.missing_walk.specs.Views.{Tells, Views, HasLevels};
-ghost use Rattle.missing_walk.specs.Searching.{Kept, Going, place_of as place_at};
-ghost use Rattle.missing_walk.specs.Passes.{IsNothing, IsIdle, Skips, PassesOne, PassesSome, AnswersTrue, StaysPut};
-ghost use Rattle.missing_walk.specs.Moves.{has_ended, Heeds};
-ghost use Rattle.missing_walk.specs.Rests.{left_in, Weighs, Lighter};
+ghost use Rattle.missing_walk.specs.Pending.{Pending};
+ghost use Rattle.missing_walk.specs.Views.{HasLevels};
+ghost use Rattle.missing_walk.specs.Searching.{Kept};
+ghost use Rattle.missing_walk.specs.Passes.{IsIdle, PassesOne, PassesSome, AnswersTrue, StaysPut};
+ghost use Rattle.missing_walk.specs.Moves.{has_ended};
+ghost use Rattle.missing_walk.specs.Rests.{left_in};
 ghost use Rattle.missing_walk.specs.Leaving.{LeavesUsed};
-ghost use Rattle.missing_walk.specs.Runs.{Lightens, NotesOne, RunsOn, StaysWhole};
+ghost use Rattle.missing_walk.specs.Runs.{Lightens, GoesOnBy, NotesOne, RunsOn, StaysWhole};
 
 use crate::search::{MOST_MISSING, Search};
 use crate::sight::View;
@@ -53,11 +53,9 @@ impl Search {
         first: usize,
         more: usize,
     ) -> Result<bool, BackFault>
-        ensures going { (nodes : Lookup) → Tells Sh.B.tells H.half store.old nodes → Going H.half nodes self.old cache.old marks.old
-            → Going H.half nodes self.new cache.new marks.new }
         ensures passes { IsIdle self.old marks.old → length self.old.stack.items ≤ more
             → AnswersTrue result × (store.new.gets ≡ store.old.gets) }
-        ensures lighter { Lightens Sh.B.tells H.half store.old (first + more) self.old self.new cache.old marks.old
+        ensures lighter { Lightens Sh.B.tells H.half store.old (first + more) self.old self.new cache.old cache.new marks.old marks.new
             (λ P. IfOk result (λ b. b ≡ false → P)) }
         ensures runs { RunsOn self.old self.new result }
         ensures leaves { LeavesUsed Sh.B.tells H.half BackFault.Fault (store.old.gets + 2 * (first + more))
@@ -86,11 +84,9 @@ impl Search {
         marks: &mut Marks,
         most: usize,
     ) -> Result<bool, BackFault>
-        ensures going { (nodes : Lookup) → Tells Sh.B.tells H.half store.old nodes → Going H.half nodes self.old cache.old marks.old
-            → Going H.half nodes self.new cache.new marks.new }
         ensures passes { IsIdle self.old marks.old → IsOk result × PassesSome self.old self.new marks.new store.old.gets store.new.gets }
         ensures all { IsIdle self.old marks.old → length self.old.stack.items ≤ most → AnswersTrue result }
-        ensures lighter { Lightens Sh.B.tells H.half store.old most self.old self.new cache.old marks.old
+        ensures lighter { Lightens Sh.B.tells H.half store.old most self.old self.new cache.old cache.new marks.old marks.new
             (λ P. IfOk result (λ b. b ≡ false → P)) }
         ensures runs { RunsOn self.old self.new result }
         ensures leaves { LeavesUsed Sh.B.tells H.half BackFault.Fault (store.old.gets + 2 * most)
@@ -116,9 +112,8 @@ impl Search {
         requires { has_ended self.old ≡ false }
         ensures passes { IsIdle self.old marks.old
             → IsOk result × PassesOne self.old self.new marks.new × (store.new.gets ≡ store.old.gets) }
-        ensures going { (nodes : Lookup) → Tells Sh.B.tells H.half store.old nodes → Going H.half nodes self.old cache.old marks.old
-            → Going H.half nodes self.new cache.new marks.new }
-        ensures lighter { Lightens Sh.B.tells H.half store.old 1 self.old self.new cache.old marks.old (λ P. OnOk result P) }
+        ensures lighter { Lightens Sh.B.tells H.half store.old 1 self.old self.new cache.old cache.new marks.old marks.new
+            (λ P. OnOk result P) }
         ensures notes { NotesOne None self.old self.new result }
         ensures leaves { LeavesUsed Sh.B.tells H.half BackFault.Fault (store.old.gets + 2)
             store.old store.new cache.old cache.new marks.old marks.new result }
@@ -135,15 +130,9 @@ impl Search {
     // Goes on by what was seen at the place on top of the stack.
     fn heed(&mut self, view: View, place: Place) -> Result<(), Memory>
         requires some { 0 < vec_len self.old.stack }
-        requires levels { (rest : List Todo) (top : Todo) → self.old.stack.items ≡ rest ++ top ∷ [] → HasLevels (length top.at.id) view }
-        requires short { (rest : List Todo) (top : Todo) → self.old.stack.items ≡ rest ++ top ∷ [] → length top.at.id ≤ 64 }
-        ensures nothing { IsNothing view → (rest : List Todo) (top : Todo) → self.old.stack.items ≡ rest ++ top ∷ []
-            → IsOk result × Skips self.old self.new rest }
-        ensures heeds { (half : Half) (nodes : Lookup) (rest : List Todo) (top : Todo) → self.old.stack.items ≡ rest ++ top ∷ []
-            → place ≡ place_at top
-            → Views half nodes (pending_of top) view → Heeds half nodes self.old self.new }
-        ensures lighter { (f g : Pending → ℕ) (rest : List Todo) (top : Todo) → self.old.stack.items ≡ rest ++ top ∷ []
-            → Weighs f g (pending_of top) view → OnOk result (Lighter f g 1 self.old self.new) }
+        requires top { (rest : List Todo) (top : Todo) → self.old.stack.items ≡ rest ++ top ∷ []
+            → HasLevels (length top.at.id) view × (length top.at.id ≤ 64) }
+        ensures goes { GoesOnBy self.old self.new view place result }
         ensures notes { NotesOne self.old.broken self.old self.new result }
     {
         match view {

@@ -3,13 +3,13 @@
 ghost use Rattle.std.specs.Prelude.{◌≡◌, ◌+◌, ◌*◌, ◌<◌, ◌≤◌, true, None, IfOk, is_some};
 ghost use Rattle.ledger_spec.specs.Bytes.{Lookup};
 ghost use Rattle.missing_walk.specs.Views.{Tells};
-ghost use Rattle.missing_walk.specs.Searching.{Rule, Holding, OnMore, stale_in};
+ghost use Rattle.missing_walk.specs.Searching.{Rule, Holding, stale_in};
 ghost use Rattle.missing_walk.specs.Searching.{Renews};
 ghost use Rattle.missing_walk.specs.Passes.{IsReady, IsDone, HasMarkedRoots};
 ghost use Rattle.missing_walk.specs.Rests.{weight, stored_weight, most_from, most_again, left_in, rest_by, bound_by, bound, GoesOn};
 ghost use Rattle.missing_walk.specs.Leaving.{LeavesUsed};
 ghost use Rattle.missing_walk.specs.Runs.{StaysWhole};
-ghost use Rattle.missing_walk.specs.Answering.{Answers, KeepsRule, KeepsHolding, StaysUnbroken};
+ghost use Rattle.missing_walk.specs.Answering.{Answers, KeepsRule, KeepsHolding, EntersFrom, StaysUnbroken};
 
 use crate::SearchFault;
 use crate::search::{MOST_MISSING, Search, Slice};
@@ -87,10 +87,8 @@ impl Search {
             ≤ rest_by (is_some self.old.header) H.half nodes self.old)
             (bound_by (is_some self.new.header) self.new + n ≤ bound_by (is_some self.old.header) self.old)
             self.old self.new marks.new result }
-        ensures entered { IfOk result (λ s. OnMore s (is_some self.new.header ≡ true)) }
+        ensures enters { EntersFrom Sh.B.tells H.half store.old store.new marks.old n self.old self.new result }
         ensures holds { KeepsHolding Sh.B.tells H.half store.old self.old self.new cache.old cache.new marks.old marks.new result }
-        ensures first { (nodes : Lookup) → Tells Sh.B.tells H.half store.old nodes → self.old.header ≡ None
-            → HasMarkedRoots nodes self.old.target marks.old → 2 ≤ n → IfOk result IsDone × (store.new.gets ≤ store.old.gets + 2) }
         ensures stays { StaysUnbroken self.old self.new }
         ensures leaves { LeavesUsed Sh.B.tells H.half BackFault.Fault (store.old.gets + 2 * n + 514)
             store.old store.new cache.old cache.new marks.old marks.new result }

@@ -23,7 +23,7 @@ returns-in-Some-from_form-clause-enters g c =
     record {
       kept = λ nodes t before there. let target = c.args.self.now.target in
           begun g.H.NodeHash.half nodes c.in-Some-from_form.header c.args.self.now c.begin.new.self c.in-Some.form c.bytes.result.now
-          c.begin.ensures.target c.in_ok-begin-in-Some-from_form.ensures.ok
+          c.begin.ensures.whole.target c.in_ok-begin-in-Some-from_form.ensures.ok
           (sym c.in-Some.is ∙ c.in_ok-form.ensures.form t.readable ∙ ap (λ (n : Lookup). n target) t.same)
           c.bytes.ensures c.in-Some-from_form.ensures.exact c.in-Some-from_form.ensures.reads;
       stays = search rules;

@@ -16,7 +16,7 @@ pub returns-in_err-finish-clause-holds : goal.returns-in_err-finish-clause-holds
 returns-in_err-finish-clause-holds g c =
     record {
       holding = λ nodes t h. let half = g.H.NodeHash.half in
-          let going = c.run_both.ensures.going nodes t
+          let going = c.run_both.ensures.lighter.going nodes t
           (going_from half nodes c.take_up.new.self c.args.cache.now c.args.marks.now
           (c.take_up.ensures.kept half nodes (h.search c.requires))
           c.in_ok-take_up.ensures.none c.take_up.ensures.stays.unbroken h.marks h.cache) in
@@ -33,7 +33,7 @@ pub returns-clause-answers : goal.returns-clause-answers
 returns-clause-answers g c =
     record {
       done = λ nodes t h. let half = g.H.NodeHash.half in
-          let going = c.run_both.ensures.going nodes t
+          let going = c.run_both.ensures.lighter.going nodes t
           (going_from half nodes c.take_up.new.self c.args.cache.now c.args.marks.now
           (c.take_up.ensures.kept half nodes (h.search c.requires))
           c.in_ok-take_up.ensures.none c.take_up.ensures.stays.unbroken h.marks h.cache) in
@@ -51,7 +51,7 @@ pub returns-clause-holds : goal.returns-clause-holds
 returns-clause-holds g c =
     record {
       holding = λ nodes t h. let half = g.H.NodeHash.half in
-          let going = c.run_both.ensures.going nodes t
+          let going = c.run_both.ensures.lighter.going nodes t
           (going_from half nodes c.take_up.new.self c.args.cache.now c.args.marks.now
           (c.take_up.ensures.kept half nodes (h.search c.requires))
           c.in_ok-take_up.ensures.none c.take_up.ensures.stays.unbroken h.marks h.cache) in

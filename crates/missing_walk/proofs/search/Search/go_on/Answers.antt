@@ -57,35 +57,45 @@ returns-in_ok-explore-in-None-clause-holds g c =
       fresh = search rules;
     }
 
-pub returns-in_err-explore-in-None-clause-first : goal.returns-in_err-explore-in-None-clause-first
-returns-in_err-explore-in-None-clause-first g c nodes t none roots two =
-    let exit = err_from_is_err_and c.from_residual-in_err-explore-in-None.result c.from_residual-in_err-explore-in-None.ensures.1 in
-    let t_after = tells_after g.Sh.B.Backend.tells g.H.NodeHash.half c.args.store.now c.enter.new.store nodes c.enter.ensures.asks.read
-    t in
-    let there : is_some c.enter.new.self.header ≡ true = c.in_ok-found.ensures.enters.entered c.in-None.is in
-    let never : is_some c.args.self.now.header ≡ true → ⊥ = λ e. no_some c.args.self.now.header none e in
-    let kept = c.enter.ensures.enters.kept nodes t (λ e. absurd (never e)) there in
-    let r : IsReady c.enter.new.self c.args.marks.now = ready nodes c.args.marks.now c.args.self.now c.enter.new.self
-    c.enter.new.self.header there
-    kept.head (c.in_ok-found.ensures.enters.begun none c.in-None.is)
-    (subst (λ (target : Hash). HasMarkedRoots nodes target c.args.marks.now) (sym c.enter.ensures.stays.target) roots) in
-    let passed = c.explore.ensures.passes r two in
-    (none_done c.from_residual-in_err-explore-in-None.result exit.0 exit.1, omega (arith, passed.1, c.enter.ensures.asks.gets))
+pub returns-in_err-explore-in-None-clause-enters : goal.returns-in_err-explore-in-None-clause-enters
+returns-in_err-explore-in-None-clause-enters g c =
+    record {
+      entered = search rules;
+      first = λ nodes t none roots two.
+          let exit = err_from_is_err_and c.from_residual-in_err-explore-in-None.result c.from_residual-in_err-explore-in-None.ensures.1 in
+          let t_after = tells_after g.Sh.B.Backend.tells g.H.NodeHash.half c.args.store.now c.enter.new.store nodes
+          c.enter.ensures.asks.read
+          t in
+          let there : is_some c.enter.new.self.header ≡ true = c.in_ok-found.ensures.enters.entered c.in-None.is in
+          let never : is_some c.args.self.now.header ≡ true → ⊥ = λ e. no_some c.args.self.now.header none e in
+          let kept = c.enter.ensures.enters.kept nodes t (λ e. absurd (never e)) there in
+          let r : IsReady c.enter.new.self c.args.marks.now = ready nodes c.args.marks.now c.args.self.now c.enter.new.self
+          c.enter.new.self.header there
+          kept.head (c.in_ok-found.ensures.enters.begun none c.in-None.is)
+          (subst (λ (target : Hash). HasMarkedRoots nodes target c.args.marks.now) (sym c.enter.ensures.stays.target) roots) in
+          let passed = c.explore.ensures.passes r two in
+          (none_done c.from_residual-in_err-explore-in-None.result exit.0 exit.1, omega (arith, passed.1, c.enter.ensures.asks.gets));
+    }
 
 -- the roots that the header names are marked, so the slice ends here
-pub returns-in_ok-explore-in-None-clause-first : goal.returns-in_ok-explore-in-None-clause-first
-returns-in_ok-explore-in-None-clause-first g c nodes t none roots two =
-    let t_after = tells_after g.Sh.B.Backend.tells g.H.NodeHash.half c.args.store.now c.enter.new.store nodes c.enter.ensures.asks.read
-    t in
-    let there : is_some c.enter.new.self.header ≡ true = c.in_ok-found.ensures.enters.entered c.in-None.is in
-    let never : is_some c.args.self.now.header ≡ true → ⊥ = λ e. no_some c.args.self.now.header none e in
-    let kept = c.enter.ensures.enters.kept nodes t (λ e. absurd (never e)) there in
-    let r : IsReady c.enter.new.self c.args.marks.now = ready nodes c.args.marks.now c.args.self.now c.enter.new.self
-    c.enter.new.self.header there
-    kept.head (c.in_ok-found.ensures.enters.begun none c.in-None.is)
-    (subst (λ (target : Hash). HasMarkedRoots nodes target c.args.marks.now) (sym c.enter.ensures.stays.target) roots) in
-    let passed = c.in_ok-explore-in-None.ensures.passes r two in
-    (passed.0, omega (arith, passed.1, c.enter.ensures.asks.gets))
+pub returns-in_ok-explore-in-None-clause-enters : goal.returns-in_ok-explore-in-None-clause-enters
+returns-in_ok-explore-in-None-clause-enters g c =
+    record {
+      entered = search rules;
+      first = λ nodes t none roots two.
+          let t_after = tells_after g.Sh.B.Backend.tells g.H.NodeHash.half c.args.store.now c.enter.new.store nodes
+          c.enter.ensures.asks.read
+          t in
+          let there : is_some c.enter.new.self.header ≡ true = c.in_ok-found.ensures.enters.entered c.in-None.is in
+          let never : is_some c.args.self.now.header ≡ true → ⊥ = λ e. no_some c.args.self.now.header none e in
+          let kept = c.enter.ensures.enters.kept nodes t (λ e. absurd (never e)) there in
+          let r : IsReady c.enter.new.self c.args.marks.now = ready nodes c.args.marks.now c.args.self.now c.enter.new.self
+          c.enter.new.self.header there
+          kept.head (c.in_ok-found.ensures.enters.begun none c.in-None.is)
+          (subst (λ (target : Hash). HasMarkedRoots nodes target c.args.marks.now) (sym c.enter.ensures.stays.target) roots) in
+          let passed = c.in_ok-explore-in-None.ensures.passes r two in
+          (passed.0, omega (arith, passed.1, c.enter.ensures.asks.gets));
+    }
 
 -- the header was read, if it wasn't, and at least n places below it
 pub returns-in_ok-explore-in-None-clause-answers : goal.returns-in_ok-explore-in-None-clause-answers

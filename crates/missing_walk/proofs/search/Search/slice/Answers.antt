@@ -46,7 +46,7 @@ returns-clause-answers g c =
           on_all_more c.in_ok-go_on.field-0
           (λ fewer more there. goes_on half nodes c.generation-now.result c.args.n c.args.self.now c.renew.new.self c.go_on.new.self
           c.renew.ensures (c.go_on.ensures.stays.generation ∙ c.renew.ensures.generation) there fewer more (after.search there))
-          (c.in_ok-go_on.ensures.answers.rest nodes t holding) c.in_ok-go_on.ensures.answers.more c.in_ok-go_on.ensures.entered;
+          (c.in_ok-go_on.ensures.answers.rest nodes t holding) c.in_ok-go_on.ensures.answers.more c.in_ok-go_on.ensures.enters.entered;
       bound = λ few. let before = renewed_bound c.generation-now.result c.args.self.now c.renew.new.self c.renew.ensures in
           let after = begun_bound c.go_on.new.self c.generation-now.result
           (c.go_on.ensures.stays.generation ∙ c.renew.ensures.generation) in
