@@ -26,6 +26,22 @@ pub enum StoreFault {
     Memory,
 }
 
+impl StoreFault {
+    ghost use Rattle.rotating_store.specs.Puts.{IsPlain, store_fault};
+
+    /// The fault of a backend for which it stands, where it is neither a clash nor a wrong hash.
+    pub fn plain(self) -> BackFault
+        requires { IsPlain self }
+        ensures { store_fault result ≡ self }
+    {
+        match self {
+            StoreFault::Fault => BackFault::Fault,
+            StoreFault::Memory => BackFault::Memory,
+            StoreFault::Clash { .. } | StoreFault::WrongHash { .. } => unreachable!(),
+        }
+    }
+}
+
 impl From<BackFault> for StoreFault {
     ghost use Rattle.rotating_store.specs.Puts.{store_fault};
 

@@ -9,7 +9,7 @@ ghost use Rattle.ledger_spec.specs.Own.{is_own as stands, own_form as held_at, o
 ghost use Rattle.rotating_store.specs.Stores.{is_noted, nodes_of};
 ghost use Rattle.rotating_store.specs.Reading.{IsReadable, MayNote, WasRead};
 
-use crate::{RotStore, StoreFault};
+use crate::RotStore;
 use half_hash::{Blob, Hash32, NodeHash};
 use ledger_header::Header;
 use node_backend::{BackFault, Shelf};
@@ -31,8 +31,7 @@ pub fn own_form<H: NodeHash, Sh: Shelf>(
     match store.get(alloc, h) {
         Ok(Some(form)) => Ok(if_own::<H, Sh>(store, h, form)),
         Ok(None) => Ok(None),
-        Err(StoreFault::Fault) => Err(BackFault::Fault),
-        Err(_) => Err(BackFault::Memory),
+        Err(fault) => Err(fault.plain()),
     }
 }
 
