@@ -43,7 +43,8 @@ fn is_fit(alloc: Global, hash: &Hash32, own: &Hash32, form: &[u8]) -> Result<boo
         Ok(Some(_)) => Ok(true),
         Ok(None) => Ok(false),
         Err(FetchFault::Foreign) => Ok(true),
-        Err(_) => Err(Memory),
+        Err(FetchFault::Memory) => Err(Memory),
+        Err(FetchFault::Fault) => unreachable!(),
     }
 }
 
