@@ -1,8 +1,10 @@
 //! Maps of items that tell which of their nodes are others than when they were last asked.
 ghost use Rattle.std.specs.Prelude.{◌≡◌, ◌≢◌, ℕ, [], map, IfOk, OnOk, OnErr, MatchOption};
+ghost use Rattle.ledger_spec.specs.Bytes.{Items};
 ghost use Rattle.ledger_spec.specs.Maps.{hash_cmp, insert_in, IsMap};
 ghost use Rattle.cow_map.specs.Edits.{GrowsBy, SetsItem};
 ghost use Rattle.cow_map.specs.Gathered.{nothing_held, entries_of};
+ghost use Rattle.cow_map.specs.Trees.{StandsFor};
 ghost use Rattle.map_changes.specs.Placed.{nodes_of, changed};
 ghost use Rattle.map_changes.specs.Given.{given, IsRoot};
 ghost use Rattle.map_changes.specs.Tracking.{leaves_in, items_in, shown_in, KnowsAll};
@@ -11,7 +13,7 @@ use crate::hashing::fill;
 use crate::nodes::{have_one_form, kid, known, place, wire};
 use crate::walk::{Shared, walk};
 use crate::{PlacedNode, Root};
-use cow_map::{CowMap, Link};
+use cow_map::{CowMap, Link, MapFault, a_map_without_a_source_stands_anywhere};
 use half_hash::{Hash32, Memory, NodeHash};
 use nib_path::NodeId;
 use path_proof::NoSource;
@@ -186,13 +188,16 @@ impl<H: NodeHash> TrackedMap<H> {
 /// Sets an item in a map that leaves nothing to a source. Nothing is absent or misshapen in such a map, and
 /// a source that holds nothing doesn't fail, so memory is all that can be wanting.
 fn put_item<H: NodeHash>(alloc: Global, map: &mut CowMap, item: Item) -> Result<(), Memory>
+    requires alone { (items : Items) × StandsFor H.half nothing_held map.old items }
     ensures kind { map.new.kind ≡ map.old.kind }
     ensures grows { GrowsBy 65 map.old.nodes map.new.nodes }
     ensures stands { OnOk result (SetsItem H.half nothing_held map.old map.new item.key item.value) }
     ensures err { OnErr result (map.new ≡ map.old) }
 {
+    a_map_without_a_source_stands_anywhere();
     match map.put::<H, NoSource>(alloc, &mut NoSource, item) {
         Ok(()) => Ok(()),
-        Err(_) => Err(Memory),
+        Err(MapFault::Memory) => Err(Memory),
+        Err(_) => unreachable!(),
     }
 }
