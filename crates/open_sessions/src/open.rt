@@ -17,7 +17,7 @@ use edit_session::Session;
 use half_hash::{Blob, Hash32, Memory, NodeHash};
 use node_backend::Shelf;
 use rotating_store::{Filed, RotStore};
-use shamap_node::Item;
+use shamap_node::{Item, ItemFault};
 use std::alloc::Global;
 use std::collections::BTreeMap;
 use std::marker::Model;
@@ -206,6 +206,7 @@ fn copy_of(alloc: Global, item: &Item) -> Result<Item, MapFault>
     };
     match Item::new(*item.key(), value) {
         Ok(item) => Ok(item),
-        Err(_) => Err(MapFault::Memory),
+        Err(ItemFault::ZeroKey) => unreachable!(),
+        Err(ItemFault::TooLong(_)) => unreachable!(),
     }
 }
