@@ -26,7 +26,9 @@ pub(crate) fn document_of<'a>(
     match Value::from_slice(alloc, line, room) {
         Ok(value) => Ok(Some(value)),
         Err(Error::Invalid) => Ok(None),
-        Err(_) => Err(Memory),
+        Err(Error::OutOfMemory) => Err(Memory),
+        Err(Error::TooLong) => unreachable!(),
+        Err(Error::DuplicateKey) => unreachable!(),
     }
 }
 
