@@ -20,7 +20,7 @@ use Rattle.ledger_machine.specs.Steps.{IsAfter}
 use Rattle.core_machine.specs.Desks.{state_of}
 use Rattle.core_machine.specs.Telling.{begin_told, BeginsBy, CountsFrom}
 use Rattle.ledger_machine.specs.declared.commands.Command.TheVariants as command
-use Rattle.ledger_machine.specs.declared.replies.Reply.TheVariants as says
+use Rattle.ledger_machine.specs.declared.commands.Reply.TheVariants as says
 use Rattle.core_machine.proofs.shared.States.{same_shaded}
 
 -- a filtered list isn't longer

@@ -10,15 +10,15 @@ use Rattle.ledger_spec.specs.Bytes.{Hash, Half}
 use Rattle.ledger_spec.specs.Maps.{ForActor}
 use Rattle.ledger_spec.specs.Own.{AreStored}
 use Rattle.edit_session.specs.Drafts.{Draft, StaysOverParent}
-use Rattle.ledger_machine.specs.declared.replies.BeginReply.{BeginReply}
-use Rattle.ledger_machine.specs.declared.replies.BeginReply.TheVariants as begins
-use Rattle.ledger_machine.specs.declared.replies.SwapReply.{SwapReply}
+use Rattle.ledger_machine.specs.declared.commands.BeginReply.{BeginReply}
+use Rattle.ledger_machine.specs.declared.commands.BeginReply.TheVariants as begins
+use Rattle.ledger_machine.specs.declared.commands.SwapReply.{SwapReply}
 use Rattle.open_sessions.specs.Rows.{AllKept}
 use Rattle.ledger_machine.specs.declared.commands.Command.{Command}
 use Rattle.ledger_machine.specs.declared.commands.Command.TheVariants as command
-use Rattle.ledger_machine.specs.declared.replies.WantReply.TheVariants as want
-use Rattle.ledger_machine.specs.declared.replies.Reply.{Reply}
-use Rattle.ledger_machine.specs.declared.replies.Reply.TheVariants as says
+use Rattle.ledger_machine.specs.declared.commands.WantReply.TheVariants as want
+use Rattle.ledger_machine.specs.declared.commands.Reply.{Reply}
+use Rattle.ledger_machine.specs.declared.commands.Reply.TheVariants as says
 use Rattle.ledger_machine.specs.Rotation.{after_begin}
 use Rattle.ledger_machine.specs.Rotation.{Tells}
 use Rattle.ledger_machine.specs.Commands.{IsBeside}

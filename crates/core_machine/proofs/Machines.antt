@@ -16,9 +16,9 @@ use Rattle.ledger_spec.specs.Own.{AreStored}
 use Rattle.ledger_spec.proofs.shared.ReachLaws.{Grows}
 use Rattle.edit_session.specs.Drafts.{Draft, StaysOverParent}
 use Rattle.ledger_machine.specs.declared.commands.Command.{Command}
-use Rattle.ledger_machine.specs.declared.replies.Reply.{Reply}
-use Rattle.ledger_machine.specs.declared.replies.ViewReply.{ViewReply}
-use Rattle.ledger_machine.specs.declared.replies.ViewReply.TheVariants as view
+use Rattle.ledger_machine.specs.declared.commands.Reply.{Reply}
+use Rattle.ledger_machine.specs.declared.commands.ViewReply.{ViewReply}
+use Rattle.ledger_machine.specs.declared.commands.ViewReply.TheVariants as view
 use Rattle.ledger_machine.specs.State.{State, Session, form_in, with_sessions}
 use Rattle.ledger_machine.specs.Commands.{IsBeside}
 use Rattle.ledger_machine.specs.Views.{is_retained, after_view}

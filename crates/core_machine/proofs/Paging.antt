@@ -21,8 +21,8 @@ use Rattle.rotating_store.specs.Sources.{own_nodes}
 use Rattle.rotating_store.proofs.shared.Sources.{own_at}
 use Rattle.path_proof.specs.Sources.{AreHeld}
 use Rattle.map_cursor.specs.Shown.{entry_of, items_in}
-use Rattle.ledger_machine.specs.declared.replies.PageReply.TheVariants as pages
-use Rattle.ledger_machine.specs.declared.replies.Reply.TheVariants as says
+use Rattle.ledger_machine.specs.declared.commands.PageReply.TheVariants as pages
+use Rattle.ledger_machine.specs.declared.commands.Reply.TheVariants as says
 use Rattle.ledger_machine.specs.Reading.{leaf_entry, IsPage}
 use Rattle.ledger_machine.specs.Scripts.{IsLedgerMap}
 use Rattle.ledger_machine.specs.State.{State, form_in}

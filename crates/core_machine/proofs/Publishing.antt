@@ -25,9 +25,9 @@ use Rattle.ledger_laws.proofs.shared.Beside.{form_beside, forms_beside}
 use Rattle.ledger_laws.proofs.shared.StoringAll.{none_zero}
 use Rattle.ledger_laws.proofs.shared.SoundForms.{with_forms_grow, in_head, in_tail}
 use Rattle.ledger_machine.specs.declared.commands.Command.TheVariants as command
-use Rattle.ledger_machine.specs.declared.replies.CloseReply.TheVariants as close
-use Rattle.ledger_machine.specs.declared.replies.Reply.{Reply}
-use Rattle.ledger_machine.specs.declared.replies.Reply.TheVariants as says
+use Rattle.ledger_machine.specs.declared.commands.CloseReply.TheVariants as close
+use Rattle.ledger_machine.specs.declared.commands.Reply.{Reply}
+use Rattle.ledger_machine.specs.declared.commands.Reply.TheVariants as says
 use Rattle.ledger_machine.specs.Closing.{new_header, closing_forms, clash_under, first_clash, closed_or_clash, zero_or}
 use Rattle.ledger_machine.specs.Closing.{close_given, close_reply, closed, after_close, closes_into, unless_zero, close_forms}
 use Rattle.ledger_machine.specs.Rotation.{Tells}

@@ -8,8 +8,8 @@ use Rattle.ledger_spec.specs.Maps.{ForActor, hash_cmp, get_in, set_in}
 use Rattle.ledger_spec.specs.Acquiring.{Acquiring}
 use Rattle.ledger_spec.specs.Forms.{Held}
 use Rattle.ledger_machine.specs.declared.commands.Command.{Command}
-use Rattle.ledger_machine.specs.declared.replies.Reply.{Reply}
-use Rattle.ledger_machine.specs.declared.replies.Reply.TheVariants as says
+use Rattle.ledger_machine.specs.declared.commands.Reply.{Reply}
+use Rattle.ledger_machine.specs.declared.commands.Reply.TheVariants as says
 use Rattle.ledger_machine.specs.State.{State, form_in, with_form, with_forms, with_sessions}
 use Rattle.ledger_machine.specs.Steps.{IsAfter, Outcomes, Does}
 use Rattle.ledger_spec.specs.declared.replies.BaseReply.{BaseReply}

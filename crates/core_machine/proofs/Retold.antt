@@ -12,7 +12,7 @@ use Rattle.ledger_spec.specs.declared.replies.CheckReply.{CheckReply}
 use Rattle.ledger_spec.specs.declared.replies.CheckReply.TheVariants as check
 use Rattle.ledger_laws.proofs.shared.SoundForms.{in_head, in_tail, in_nothing}
 use Rattle.ledger_spec.specs.Bytes.{Hash}
-use Rattle.ledger_machine.specs.declared.replies.WantReply.TheVariants as want
+use Rattle.ledger_machine.specs.declared.commands.WantReply.TheVariants as want
 use Rattle.ledger_machine.specs.State.{State}
 use Rattle.ledger_machine.specs.Want.{after_want}
 use Rattle.ledger_machine.specs.Check.{after_check}

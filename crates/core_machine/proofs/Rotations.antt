@@ -31,12 +31,12 @@ use Rattle.node_backend.specs.declared.back.BackFault.{BackFault}
 use Rattle.node_backend.specs.declared.back.BackFault.TheVariants as back
 use Rattle.ledger_machine.specs.declared.commands.Command.{Command}
 use Rattle.ledger_machine.specs.declared.commands.Command.TheVariants as command
-use Rattle.ledger_machine.specs.declared.replies.BeginReply.{BeginReply}
-use Rattle.ledger_machine.specs.declared.replies.BeginReply.TheVariants as begins
-use Rattle.ledger_machine.specs.declared.replies.SwapReply.{SwapReply}
-use Rattle.ledger_machine.specs.declared.replies.SwapReply.TheVariants as swaps
-use Rattle.ledger_machine.specs.declared.replies.Reply.{Reply}
-use Rattle.ledger_machine.specs.declared.replies.Reply.TheVariants as says
+use Rattle.ledger_machine.specs.declared.commands.BeginReply.{BeginReply}
+use Rattle.ledger_machine.specs.declared.commands.BeginReply.TheVariants as begins
+use Rattle.ledger_machine.specs.declared.commands.SwapReply.{SwapReply}
+use Rattle.ledger_machine.specs.declared.commands.SwapReply.TheVariants as swaps
+use Rattle.ledger_machine.specs.declared.commands.Reply.{Reply}
+use Rattle.ledger_machine.specs.declared.commands.Reply.TheVariants as says
 use Rattle.ledger_machine.specs.State.{State, Session, form_in, roots, bases, due, with_sessions}
 use Rattle.ledger_machine.specs.Rotation.{begin_given, begin_reply, after_begin, ShadesRoots, Begins, Swapped, WhileTurning}
 use Rattle.ledger_machine.specs.Rotation.{AreShaded}

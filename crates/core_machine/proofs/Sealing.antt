@@ -28,9 +28,9 @@ use Rattle.edit_session.specs.Closing as draft
 use Rattle.ledger_laws.proofs.shared.SoundClosing.{next_seq}
 use Rattle.ledger_laws.proofs.shared.SoundSessions.{IsFit, fits_of}
 use Rattle.ledger_laws.proofs.shared.SoundTables.{all_found}
-use Rattle.ledger_machine.specs.declared.replies.CloseReply.TheVariants as close
-use Rattle.ledger_machine.specs.declared.replies.Reply.{Reply}
-use Rattle.ledger_machine.specs.declared.replies.Reply.TheVariants as says
+use Rattle.ledger_machine.specs.declared.commands.CloseReply.TheVariants as close
+use Rattle.ledger_machine.specs.declared.commands.Reply.{Reply}
+use Rattle.ledger_machine.specs.declared.commands.Reply.TheVariants as says
 use Rattle.ledger_machine.specs.Closing.{new_header, closing_forms, close_given, close_reply, zero_or, closed_or_clash, first_clash}
 use Rattle.ledger_machine.specs.Scripts.{AreFields}
 use Rattle.ledger_machine.specs.Sound.{Sound}

@@ -17,8 +17,8 @@ use Rattle.ledger_header.specs.Fields.{fields, Reads}
 use Rattle.edit_session.specs.Drafts.{Draft, Edits, LeavesToParent}
 use Rattle.ledger_laws.proofs.shared.SoundViews.{among}
 use Rattle.ledger_laws.proofs.shared.WholeMaps.{both_whole}
-use Rattle.ledger_machine.specs.declared.replies.EditReply.{EditReply}
-use Rattle.ledger_machine.specs.declared.replies.EditReply.TheVariants as edits
+use Rattle.ledger_machine.specs.declared.commands.EditReply.{EditReply}
+use Rattle.ledger_machine.specs.declared.commands.EditReply.TheVariants as edits
 use Rattle.ledger_machine.specs.Sessions.{edit_reply, has_session, session_on}
 use Rattle.ledger_machine.specs.Sound.{Sound}
 use Rattle.ledger_machine.specs.State.{State, Session, form_in, retained, stored_seq, with_sessions}

@@ -34,7 +34,7 @@ use Rattle.core_machine.specs.Refusals.{read_refusal}
 use Rattle.path_proof.specs.Paths.{held_nodes}
 use Rattle.ledger_spec.specs.Forms.{Held}
 use Rattle.ledger_machine.specs.declared.commands.Command.TheVariants as command
-use Rattle.ledger_machine.specs.declared.replies.Reply.TheVariants as says
+use Rattle.ledger_machine.specs.declared.commands.Reply.TheVariants as says
 use Rattle.ledger_machine.specs.Steps.{Does}
 use Rattle.core_machine.proofs.shared.States.{refused_nothing}
 use Rattle.core_machine.proofs.shared.Entries.{IsOver, same_over}

@@ -7,13 +7,13 @@ use Rattle.ledger_spec.specs.Header.{header_bytes}
 use Rattle.ledger_spec.specs.Spots.{header_in}
 use Rattle.ledger_header.specs.declared.Header.{Header}
 use Rattle.ledger_header.specs.Fields.{fields, Reads}
-use Rattle.ledger_machine.specs.declared.replies.EditReply.{EditReply}
-use Rattle.ledger_machine.specs.declared.replies.EditReply.TheVariants as edits
+use Rattle.ledger_machine.specs.declared.commands.EditReply.{EditReply}
+use Rattle.ledger_machine.specs.declared.commands.EditReply.TheVariants as edits
 use Rattle.ledger_spec.specs.Maps.{ForActor, numbered_cmp, has_in}
 use Rattle.ledger_spec.specs.Own.{AreStored}
 use Rattle.edit_session.specs.Drafts.{Draft}
-use Rattle.ledger_machine.specs.declared.replies.ViewReply.{ViewReply}
-use Rattle.ledger_machine.specs.declared.replies.ViewReply.TheVariants as view
+use Rattle.ledger_machine.specs.declared.commands.ViewReply.{ViewReply}
+use Rattle.ledger_machine.specs.declared.commands.ViewReply.TheVariants as view
 use Rattle.ledger_machine.specs.Limits.{last_seq, most_sessions, most_views}
 use Rattle.ledger_machine.specs.State.{State, form_in, with_sessions}
 use Rattle.open_sessions.specs.Edited.{sessions_in}

@@ -15,8 +15,8 @@ use Rattle.core_machine.specs.Desks.{Desk, OnlyReads}
 use Rattle.ledger_spec.specs.Reads.{follow}
 use Rattle.path_proof.specs.declared.answer.Answer.{Answer}
 use Rattle.path_proof.specs.Paths.{held_nodes, outcome_by}
-use Rattle.ledger_machine.specs.declared.replies.GetReply.{GetReply}
-use Rattle.ledger_machine.specs.declared.replies.Reply.TheVariants as says
+use Rattle.ledger_machine.specs.declared.commands.GetReply.{GetReply}
+use Rattle.ledger_machine.specs.declared.commands.Reply.TheVariants as says
 use Rattle.ledger_machine.specs.Reading.{IsLast, outcome_of}
 use Rattle.ledger_machine.specs.State.{State, form_in}
 use Rattle.ledger_machine.specs.Steps.{Gets, Pages, UsesNodes}

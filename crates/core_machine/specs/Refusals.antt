@@ -5,8 +5,8 @@ use Rattle.node_offer.specs.declared.fault.OfferFault.{OfferFault}
 use Rattle.node_offer.specs.declared.fault.OfferFault.TheVariants as fault
 use Rattle.missing_walk.specs.declared.fault.SearchFault.{SearchFault}
 use Rattle.missing_walk.specs.declared.fault.SearchFault.TheVariants as search
-use Rattle.ledger_machine.specs.declared.replies.Reply.{Reply}
-use Rattle.ledger_machine.specs.declared.replies.Reply.TheVariants as says
+use Rattle.ledger_machine.specs.declared.commands.Reply.{Reply}
+use Rattle.ledger_machine.specs.declared.commands.Reply.TheVariants as says
 
 -- the replies of a refusal
 abbrev pub IsRefusal : Reply → Type 0

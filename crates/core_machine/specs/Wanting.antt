@@ -15,8 +15,8 @@ use Rattle.ledger_header.specs.declared.Header.{Header}
 use Rattle.missing_walk.specs.declared.Found.{Found}
 use Rattle.node_offer.specs.declared.fault.OfferFault.{OfferFault}
 use Rattle.acquire_core.specs.Replies.{found_verdict}
-use Rattle.ledger_machine.specs.declared.replies.Reply.{Reply}
-use Rattle.ledger_machine.specs.declared.replies.Reply.TheVariants as says
+use Rattle.ledger_machine.specs.declared.commands.Reply.{Reply}
+use Rattle.ledger_machine.specs.declared.commands.Reply.TheVariants as says
 use Rattle.ledger_machine.specs.State.{State, ended, listed_with}
 use Rattle.core_machine.specs.Refusals.{refusal_of}
 

@@ -20,8 +20,8 @@ use Rattle.ledger_spec.specs.declared.outcomes.HeadOffered.{HeadOffered}
 use Rattle.ledger_spec.specs.declared.outcomes.HeadOffered.TheVariants as head
 use Rattle.ledger_spec.specs.declared.outcomes.Offered.{Offered}
 use Rattle.ledger_spec.specs.declared.outcomes.Offered.TheVariants as offered
-use Rattle.ledger_machine.specs.declared.replies.WantReply.{WantReply}
-use Rattle.ledger_machine.specs.declared.replies.WantReply.TheVariants as want
+use Rattle.ledger_machine.specs.declared.commands.WantReply.{WantReply}
+use Rattle.ledger_machine.specs.declared.commands.WantReply.TheVariants as want
 use Rattle.ledger_spec.specs.declared.replies.PeerReply.{PeerReply}
 use Rattle.ledger_spec.specs.declared.replies.PeerReply.TheVariants as peer
 use Rattle.ledger_spec.specs.declared.replies.BaseReply.{BaseReply}
@@ -32,24 +32,24 @@ use Rattle.ledger_spec.specs.declared.replies.CheckReply.{CheckReply}
 use Rattle.ledger_spec.specs.declared.replies.CheckReply.TheVariants as check
 use Rattle.ledger_spec.specs.declared.replies.TickReply.{TickReply}
 use Rattle.ledger_spec.specs.declared.replies.TickReply.TheVariants as tick
-use Rattle.ledger_machine.specs.declared.replies.ViewReply.{ViewReply}
-use Rattle.ledger_machine.specs.declared.replies.ViewReply.TheVariants as view
-use Rattle.ledger_machine.specs.declared.replies.GetReply.{GetReply}
-use Rattle.ledger_machine.specs.declared.replies.GetReply.TheVariants as get
-use Rattle.ledger_machine.specs.declared.replies.PageReply.{PageReply}
-use Rattle.ledger_machine.specs.declared.replies.PageReply.TheVariants as page
-use Rattle.ledger_machine.specs.declared.replies.EditReply.{EditReply}
-use Rattle.ledger_machine.specs.declared.replies.EditReply.TheVariants as edit
-use Rattle.ledger_machine.specs.declared.replies.DelReply.{DelReply}
-use Rattle.ledger_machine.specs.declared.replies.DelReply.TheVariants as del
-use Rattle.ledger_machine.specs.declared.replies.CloseReply.{CloseReply}
-use Rattle.ledger_machine.specs.declared.replies.CloseReply.TheVariants as close
-use Rattle.ledger_machine.specs.declared.replies.BeginReply.{BeginReply}
-use Rattle.ledger_machine.specs.declared.replies.BeginReply.TheVariants as begin
-use Rattle.ledger_machine.specs.declared.replies.SwapReply.{SwapReply}
-use Rattle.ledger_machine.specs.declared.replies.SwapReply.TheVariants as swap
-use Rattle.ledger_machine.specs.declared.replies.Reply.{Reply}
-use Rattle.ledger_machine.specs.declared.replies.Reply.TheVariants as reply
+use Rattle.ledger_machine.specs.declared.commands.ViewReply.{ViewReply}
+use Rattle.ledger_machine.specs.declared.commands.ViewReply.TheVariants as view
+use Rattle.ledger_machine.specs.declared.commands.GetReply.{GetReply}
+use Rattle.ledger_machine.specs.declared.commands.GetReply.TheVariants as get
+use Rattle.ledger_machine.specs.declared.commands.PageReply.{PageReply}
+use Rattle.ledger_machine.specs.declared.commands.PageReply.TheVariants as page
+use Rattle.ledger_machine.specs.declared.commands.EditReply.{EditReply}
+use Rattle.ledger_machine.specs.declared.commands.EditReply.TheVariants as edit
+use Rattle.ledger_machine.specs.declared.commands.DelReply.{DelReply}
+use Rattle.ledger_machine.specs.declared.commands.DelReply.TheVariants as del
+use Rattle.ledger_machine.specs.declared.commands.CloseReply.{CloseReply}
+use Rattle.ledger_machine.specs.declared.commands.CloseReply.TheVariants as close
+use Rattle.ledger_machine.specs.declared.commands.BeginReply.{BeginReply}
+use Rattle.ledger_machine.specs.declared.commands.BeginReply.TheVariants as begin
+use Rattle.ledger_machine.specs.declared.commands.SwapReply.{SwapReply}
+use Rattle.ledger_machine.specs.declared.commands.SwapReply.TheVariants as swap
+use Rattle.ledger_machine.specs.declared.commands.Reply.{Reply}
+use Rattle.ledger_machine.specs.declared.commands.Reply.TheVariants as reply
 
 -- a hash's 64 digits
 abbrev pub hash_text : Hash → Bytes

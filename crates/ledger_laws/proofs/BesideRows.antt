@@ -5,8 +5,8 @@ use Rattle.ledger_spec.specs.Bytes.{Half}
 use Rattle.ledger_spec.specs.Forms.{Held}
 use Rattle.ledger_machine.specs.declared.commands.Command.{Command}
 use Rattle.ledger_machine.specs.declared.commands.Command.TheVariants as command
-use Rattle.ledger_machine.specs.declared.replies.Reply.{Reply}
-use Rattle.ledger_machine.specs.declared.replies.Reply.TheVariants as says
+use Rattle.ledger_machine.specs.declared.commands.Reply.{Reply}
+use Rattle.ledger_machine.specs.declared.commands.Reply.TheVariants as says
 use Rattle.ledger_machine.specs.State.{State, Session, with_forms}
 use Rattle.ledger_machine.specs.Commands.{IsBeside}
 use Rattle.ledger_machine.specs.Steps.{Does, Refused, IsRow, Outcomes}

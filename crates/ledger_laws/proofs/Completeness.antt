@@ -13,8 +13,8 @@ use Rattle.ledger_spec.specs.declared.replies.CheckReply.{CheckReply}
 use Rattle.ledger_spec.specs.declared.replies.CheckReply.TheVariants as check
 use Rattle.ledger_machine.specs.declared.commands.Command.{Command}
 use Rattle.ledger_machine.specs.declared.commands.Command.TheVariants as command
-use Rattle.ledger_machine.specs.declared.replies.Reply.{Reply}
-use Rattle.ledger_machine.specs.declared.replies.Reply.TheVariants as says
+use Rattle.ledger_machine.specs.declared.commands.Reply.{Reply}
+use Rattle.ledger_machine.specs.declared.commands.Reply.TheVariants as says
 use Rattle.ledger_machine.specs.State.{State, form_in}
 use Rattle.ledger_machine.specs.Check.{told_by, check_given, check_reply}
 use Rattle.ledger_spec.specs.Replies.{check_said}

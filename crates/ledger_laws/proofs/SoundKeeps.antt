@@ -20,7 +20,7 @@ use Rattle.ledger_laws.proofs.Charges.{AreCharges}
 use Rattle.ledger_laws.proofs.SoundTables.{set_rises, remove_rises, same_tables}
 use Rattle.ledger_laws.proofs.shared.SoundTables.{all_found}
 use Rattle.ledger_machine.specs.Steps.{IsAfter, Gives}
-use Rattle.ledger_machine.specs.declared.replies.Reply.{Reply}
+use Rattle.ledger_machine.specs.declared.commands.Reply.{Reply}
 use Rattle.ledger_laws.proofs.shared.SoundKeeps.{whole_ledger_grows}
 
 -- the charges of an acquisition are a finite map

@@ -17,14 +17,14 @@ use Rattle.ledger_spec.specs.Forms.{Held}
 use Rattle.ledger_spec.specs.declared.replies.TickReply.{TickReply}
 use Rattle.ledger_spec.specs.declared.replies.TickReply.TheVariants as tick
 use Rattle.ledger_spec.specs.Peers as peers
-use Rattle.ledger_machine.specs.declared.replies.Reply.{Reply}
-use Rattle.ledger_machine.specs.declared.replies.Reply.TheVariants as says
+use Rattle.ledger_machine.specs.declared.commands.Reply.{Reply}
+use Rattle.ledger_machine.specs.declared.commands.Reply.TheVariants as says
 use Rattle.ledger_machine.specs.State.{State, form_in, with_forms}
 use Rattle.ledger_machine.specs.Base.{after_base, node_forms, after_node, base_stores, node_stores}
 use Rattle.ledger_machine.specs.Scripts.{AreBytes, AreOffered}
 use Rattle.ledger_machine.specs.declared.commands.Command.TheVariants as command
-use Rattle.ledger_machine.specs.declared.replies.WantReply.{WantReply}
-use Rattle.ledger_machine.specs.declared.replies.WantReply.TheVariants as want
+use Rattle.ledger_machine.specs.declared.commands.WantReply.{WantReply}
+use Rattle.ledger_machine.specs.declared.commands.WantReply.TheVariants as want
 use Rattle.ledger_machine.specs.Want.{want_reply, after_want}
 use Rattle.ledger_machine.specs.Peer.{peer_reply, after_peer}
 use Rattle.ledger_machine.specs.Ticks.{tick_reply, after_tick}

@@ -17,16 +17,16 @@ use Rattle.ledger_spec.specs.Spots.{header_in}
 use Rattle.ledger_spec.specs.Forms.{Held}
 use Rattle.ledger_spec.proofs.shared.ReachLaws.{reach_joins}
 use Rattle.ledger_spec.proofs.shared.Storing.{in_one}
-use Rattle.ledger_machine.specs.declared.replies.BeginReply.{BeginReply}
-use Rattle.ledger_machine.specs.declared.replies.BeginReply.TheVariants as begins
+use Rattle.ledger_machine.specs.declared.commands.BeginReply.{BeginReply}
+use Rattle.ledger_machine.specs.declared.commands.BeginReply.TheVariants as begins
 use Rattle.ledger_machine.specs.State.{State, form_in, retained, roots, bases}
 use Rattle.ledger_machine.specs.Sound.{Sound}
 use Rattle.ledger_machine.specs.Rotation.{after_begin, Swapped, begin_reply}
 use Rattle.ledger_machine.specs.declared.commands.Command.TheVariants as command
-use Rattle.ledger_machine.specs.declared.replies.Reply.{Reply}
-use Rattle.ledger_machine.specs.declared.replies.Reply.TheVariants as says
+use Rattle.ledger_machine.specs.declared.commands.Reply.{Reply}
+use Rattle.ledger_machine.specs.declared.commands.Reply.TheVariants as says
 use Rattle.ledger_machine.specs.Steps.{Step, Swaps}
-use Rattle.ledger_machine.specs.declared.replies.SwapReply.TheVariants as swaps
+use Rattle.ledger_machine.specs.declared.commands.SwapReply.TheVariants as swaps
 use Rattle.ledger_laws.proofs.shared.SoundForms.{some_same, same_hash, in_head, in_tail, refused_none}
 use Rattle.ledger_laws.proofs.SoundTables.{filter_rises, same_tables}
 use Rattle.ledger_laws.proofs.Alike.{ledger_alike, header_in_alike}

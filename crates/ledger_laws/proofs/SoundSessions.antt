@@ -23,16 +23,16 @@ use Rattle.ledger_spec.specs.Tree.{Entry, IsByteEntry, AreItems}
 use Rattle.ledger_spec.specs.Findings.{items_of}
 use Rattle.tree_laws.proofs.shared.Trees.{same_key}
 use Rattle.tree_laws.proofs.shared.WholeLaw.{ledger_commits}
-use Rattle.ledger_machine.specs.declared.replies.EditReply.{EditReply}
-use Rattle.ledger_machine.specs.declared.replies.EditReply.TheVariants as edits
+use Rattle.ledger_machine.specs.declared.commands.EditReply.{EditReply}
+use Rattle.ledger_machine.specs.declared.commands.EditReply.TheVariants as edits
 use Rattle.ledger_machine.specs.State.{State, Session, form_in, retained, bases, stored_seq}
 use Rattle.ledger_machine.specs.Sound.{Sound, IsWholeLedger, AreStored}
 use Rattle.ledger_machine.specs.Views.{is_retained}
 use Rattle.ledger_machine.specs.Sessions.{edit_reply, session_on, after_edit, with_session, after_put, after_tx, after_del, without_session}
 use Rattle.ledger_machine.specs.Sessions.{has_session, del_reply}
 use Rattle.ledger_machine.specs.declared.commands.Command.TheVariants as command
-use Rattle.ledger_machine.specs.declared.replies.Reply.{Reply}
-use Rattle.ledger_machine.specs.declared.replies.Reply.TheVariants as says
+use Rattle.ledger_machine.specs.declared.commands.Reply.{Reply}
+use Rattle.ledger_machine.specs.declared.commands.Reply.TheVariants as says
 use Rattle.ledger_machine.specs.Commands.{IsInRange}
 use Rattle.ledger_machine.specs.Steps.{Step}
 use Rattle.ledger_laws.proofs.shared.SoundForms.{in_nothing, refused_none}

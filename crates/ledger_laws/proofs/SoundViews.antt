@@ -13,11 +13,11 @@ use Rattle.ledger_spec.specs.Forms.{Held}
 use Rattle.ledger_machine.specs.State.{State, form_in, retained, bases}
 use Rattle.ledger_machine.specs.Sound.{Sound, IsWholeLedger}
 use Rattle.ledger_machine.specs.Views.{is_retained, view_reply, after_view, after_unview, unview_reply}
-use Rattle.ledger_machine.specs.declared.replies.ViewReply.{ViewReply}
-use Rattle.ledger_machine.specs.declared.replies.ViewReply.TheVariants as view
+use Rattle.ledger_machine.specs.declared.commands.ViewReply.{ViewReply}
+use Rattle.ledger_machine.specs.declared.commands.ViewReply.TheVariants as view
 use Rattle.ledger_machine.specs.declared.commands.Command.TheVariants as command
-use Rattle.ledger_machine.specs.declared.replies.Reply.{Reply}
-use Rattle.ledger_machine.specs.declared.replies.Reply.TheVariants as says
+use Rattle.ledger_machine.specs.declared.commands.Reply.{Reply}
+use Rattle.ledger_machine.specs.declared.commands.Reply.TheVariants as says
 use Rattle.ledger_machine.specs.Steps.{Step}
 use Rattle.ledger_machine.specs.Reading.{view_root}
 use Rattle.ledger_laws.proofs.SoundTables.{insert_rises, remove_rises}

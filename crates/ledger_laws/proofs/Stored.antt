@@ -20,23 +20,23 @@ use Rattle.ledger_spec.specs.Acquiring.{Acquiring}
 use Rattle.ledger_spec.specs.Replies.{parts_said, node_said}
 use Rattle.ledger_machine.specs.declared.commands.Command.{Command}
 use Rattle.ledger_machine.specs.declared.commands.Command.TheVariants as command
-use Rattle.ledger_machine.specs.declared.replies.WantReply.{WantReply}
-use Rattle.ledger_machine.specs.declared.replies.WantReply.TheVariants as want
+use Rattle.ledger_machine.specs.declared.commands.WantReply.{WantReply}
+use Rattle.ledger_machine.specs.declared.commands.WantReply.TheVariants as want
 use Rattle.ledger_spec.specs.declared.replies.CheckReply.{CheckReply}
 use Rattle.ledger_spec.specs.declared.replies.CheckReply.TheVariants as check
 use Rattle.ledger_spec.specs.declared.replies.TickReply.{TickReply}
 use Rattle.ledger_spec.specs.declared.replies.TickReply.TheVariants as tick
-use Rattle.ledger_machine.specs.declared.replies.ViewReply.{ViewReply}
-use Rattle.ledger_machine.specs.declared.replies.ViewReply.TheVariants as view
-use Rattle.ledger_machine.specs.declared.replies.EditReply.{EditReply}
-use Rattle.ledger_machine.specs.declared.replies.EditReply.TheVariants as edits
-use Rattle.ledger_machine.specs.declared.replies.BeginReply.{BeginReply}
-use Rattle.ledger_machine.specs.declared.replies.BeginReply.TheVariants as begins
+use Rattle.ledger_machine.specs.declared.commands.ViewReply.{ViewReply}
+use Rattle.ledger_machine.specs.declared.commands.ViewReply.TheVariants as view
+use Rattle.ledger_machine.specs.declared.commands.EditReply.{EditReply}
+use Rattle.ledger_machine.specs.declared.commands.EditReply.TheVariants as edits
+use Rattle.ledger_machine.specs.declared.commands.BeginReply.{BeginReply}
+use Rattle.ledger_machine.specs.declared.commands.BeginReply.TheVariants as begins
 use Rattle.ledger_spec.specs.declared.replies.BaseReply.TheVariants as base
 use Rattle.ledger_spec.specs.declared.replies.NodeReply.TheVariants as node
-use Rattle.ledger_machine.specs.declared.replies.CloseReply.TheVariants as close
-use Rattle.ledger_machine.specs.declared.replies.Reply.{Reply}
-use Rattle.ledger_machine.specs.declared.replies.Reply.TheVariants as says
+use Rattle.ledger_machine.specs.declared.commands.CloseReply.TheVariants as close
+use Rattle.ledger_machine.specs.declared.commands.Reply.{Reply}
+use Rattle.ledger_machine.specs.declared.commands.Reply.TheVariants as says
 use Rattle.ledger_machine.specs.State.{State, Session, form_in, with_form, with_forms}
 use Rattle.ledger_machine.specs.Want.{after_want}
 use Rattle.ledger_machine.specs.Check.{after_check}

@@ -28,7 +28,7 @@ ghost use Rattle.ledger_machine.specs.declared.commands.Line.{Line};
 ghost use Rattle.ledger_machine.specs.declared.commands.Record.{Record};
 ghost use Rattle.ledger_machine.specs.declared.journal.Entry.{Entry};
 ghost use Rattle.ledger_spec.specs.declared.replies.CheckReply.{CheckReply};
-ghost use Rattle.ledger_machine.specs.declared.replies.Reply.{Reply};
+ghost use Rattle.ledger_machine.specs.declared.commands.Reply.{Reply};
 
 /// A store that has only records, each a form under its own hash, is sound.
 pub fn the_opening_is_sound()

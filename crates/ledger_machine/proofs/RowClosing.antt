@@ -10,9 +10,9 @@ use Rattle.ledger_spec.specs.Forms.{header_prefix}
 use Rattle.ledger_spec.specs.Header.{seq_of}
 use Rattle.ledger_spec.specs.Offers.{Clash}
 use Rattle.ledger_spec.specs.Spots.{header_in}
-use Rattle.ledger_machine.specs.declared.replies.CloseReply.TheVariants as close
-use Rattle.ledger_machine.specs.declared.replies.Reply.{Reply}
-use Rattle.ledger_machine.specs.declared.replies.Reply.TheVariants as says
+use Rattle.ledger_machine.specs.declared.commands.CloseReply.TheVariants as close
+use Rattle.ledger_machine.specs.declared.commands.Reply.{Reply}
+use Rattle.ledger_machine.specs.declared.commands.Reply.TheVariants as says
 use Rattle.ledger_machine.specs.State.{State, Session, with_forms, listed_with}
 use Rattle.ledger_machine.specs.Steps.{Gives}
 use Rattle.ledger_machine.specs.Sessions.{without_session}

@@ -10,7 +10,7 @@ use Rattle.half_hash.specs.Half.{byte_sum_half}
 use Rattle.ledger_spec.specs.Maps.{hash_cmp, numbered_cmp, get_in, has_in, insert_in}
 use Rattle.ledger_spec.specs.Bytes.{Bytes, Hash, Half, Lookup, zero_hash}
 use Rattle.ledger_machine.specs.declared.commands.Command.{Command}
-use Rattle.ledger_machine.specs.declared.replies.Reply.{Reply}
+use Rattle.ledger_machine.specs.declared.commands.Reply.{Reply}
 use Rattle.ledger_machine.specs.State.{State, Session, with_form, with_forms}
 use Rattle.ledger_machine.specs.Rotation.{Carries, WhileTurning}
 use Rattle.ledger_machine.specs.Steps.{Step, Outcomes, UsesNodes, own_hashes, Gives, IsAfter, Gets, Pages}
@@ -18,9 +18,9 @@ use Rattle.ledger_machine.specs.Sessions.{edit_reply, after_edit}
 use Rattle.ledger_spec.specs.declared.Kind.{Kind}
 use Rattle.ledger_machine.specs.Reading.{view_root, IsRead, IsPage}
 use Rattle.ledger_machine.specs.Views.{is_retained}
-use Rattle.ledger_machine.specs.declared.replies.EditReply.{EditReply}
-use Rattle.ledger_machine.specs.declared.replies.EditReply.TheVariants as edits
-use Rattle.ledger_machine.specs.declared.replies.Reply.TheVariants as says
+use Rattle.ledger_machine.specs.declared.commands.EditReply.{EditReply}
+use Rattle.ledger_machine.specs.declared.commands.EditReply.TheVariants as edits
+use Rattle.ledger_machine.specs.declared.commands.Reply.TheVariants as says
 use Rattle.ledger_spec.specs.declared.Kind.TheVariants as kinds
 use Rattle.ledger_spec.specs.Findings.{items_of}
 use Rattle.ledger_spec.specs.Header.{seq_of}

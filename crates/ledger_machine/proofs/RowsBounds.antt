@@ -11,11 +11,11 @@ use Rattle.ledger_spec.specs.Header.{header_bytes}
 use Rattle.ledger_spec.specs.Tree.{form_at, form_of_part, forms_of_part}
 use Rattle.ledger_machine.specs.declared.commands.Command.{Command}
 use Rattle.ledger_machine.specs.declared.commands.Command.TheVariants as command
-use Rattle.ledger_machine.specs.declared.replies.CloseReply.TheVariants as close
-use Rattle.ledger_machine.specs.declared.replies.EditReply.TheVariants as edits
-use Rattle.ledger_machine.specs.declared.replies.ViewReply.TheVariants as views
-use Rattle.ledger_machine.specs.declared.replies.WantReply.TheVariants as wants
-use Rattle.ledger_machine.specs.declared.replies.Reply.TheVariants as says
+use Rattle.ledger_machine.specs.declared.commands.CloseReply.TheVariants as close
+use Rattle.ledger_machine.specs.declared.commands.EditReply.TheVariants as edits
+use Rattle.ledger_machine.specs.declared.commands.ViewReply.TheVariants as views
+use Rattle.ledger_machine.specs.declared.commands.WantReply.TheVariants as wants
+use Rattle.ledger_machine.specs.declared.commands.Reply.TheVariants as says
 use Rattle.ledger_machine.specs.Closing.{closing_forms}
 use Rattle.ledger_machine.specs.Limits.{default_interval}
 use Rattle.ledger_machine.specs.State.{State, Session, opening}

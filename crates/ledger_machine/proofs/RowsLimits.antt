@@ -12,9 +12,9 @@ use Rattle.ledger_spec.specs.Header.{header_bytes}
 use Rattle.ledger_spec.specs.Tree.{form_at, form_of_part, forms_of_part}
 use Rattle.ledger_machine.specs.declared.commands.Command.{Command}
 use Rattle.ledger_machine.specs.declared.commands.Command.TheVariants as command
-use Rattle.ledger_machine.specs.declared.replies.EditReply.TheVariants as edits
+use Rattle.ledger_machine.specs.declared.commands.EditReply.TheVariants as edits
 use Rattle.ledger_spec.specs.declared.replies.TickReply.TheVariants as ticks
-use Rattle.ledger_machine.specs.declared.replies.Reply.TheVariants as says
+use Rattle.ledger_machine.specs.declared.commands.Reply.TheVariants as says
 use Rattle.ledger_machine.specs.Limits.{default_interval}
 use Rattle.ledger_machine.specs.State.{State, Session, opening}
 use Rattle.ledger_spec.specs.Acquiring.{Acquiring}

@@ -18,14 +18,14 @@ use Rattle.ledger_spec.specs.Reach.{Reach}
 use Rattle.ledger_spec.specs.Reads.{value}
 use Rattle.ledger_spec.specs.Tree.{form_at, form_of_part, forms_of_part}
 use Rattle.ledger_machine.specs.declared.commands.Command.TheVariants as command
-use Rattle.ledger_machine.specs.declared.replies.BeginReply.TheVariants as begins
-use Rattle.ledger_machine.specs.declared.replies.CloseReply.TheVariants as close
-use Rattle.ledger_machine.specs.declared.replies.DelReply.TheVariants as dels
-use Rattle.ledger_machine.specs.declared.replies.EditReply.TheVariants as edits
-use Rattle.ledger_machine.specs.declared.replies.GetReply.TheVariants as gets
-use Rattle.ledger_machine.specs.declared.replies.SwapReply.TheVariants as swaps
-use Rattle.ledger_machine.specs.declared.replies.ViewReply.TheVariants as views
-use Rattle.ledger_machine.specs.declared.replies.Reply.TheVariants as says
+use Rattle.ledger_machine.specs.declared.commands.BeginReply.TheVariants as begins
+use Rattle.ledger_machine.specs.declared.commands.CloseReply.TheVariants as close
+use Rattle.ledger_machine.specs.declared.commands.DelReply.TheVariants as dels
+use Rattle.ledger_machine.specs.declared.commands.EditReply.TheVariants as edits
+use Rattle.ledger_machine.specs.declared.commands.GetReply.TheVariants as gets
+use Rattle.ledger_machine.specs.declared.commands.SwapReply.TheVariants as swaps
+use Rattle.ledger_machine.specs.declared.commands.ViewReply.TheVariants as views
+use Rattle.ledger_machine.specs.declared.commands.Reply.TheVariants as says
 use Rattle.ledger_machine.specs.Closing.{closing_forms}
 use Rattle.ledger_machine.specs.Reading.{value_in}
 use Rattle.ledger_machine.specs.Rotation.{Swapped}

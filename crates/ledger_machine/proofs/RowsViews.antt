@@ -18,10 +18,10 @@ use Rattle.std.proofs.lemmas.List.Elements.{All-contains, All-nil, All-cons}
 use Rattle.ledger_spec.specs.Findings.{walk, walk_map, walk_ledger, findings, lacks, items_of}
 use Rattle.ledger_spec.specs.Forms.{Held, leaf, inner, header, form_of, hash_of, inner_of, header_of, keyed_leaf_of, bare_leaf_of}
 use Rattle.ledger_machine.specs.declared.commands.Command.TheVariants as command
-use Rattle.ledger_machine.specs.declared.replies.GetReply.TheVariants as gets
-use Rattle.ledger_machine.specs.declared.replies.PageReply.TheVariants as pages
-use Rattle.ledger_machine.specs.declared.replies.ViewReply.TheVariants as views
-use Rattle.ledger_machine.specs.declared.replies.Reply.TheVariants as says
+use Rattle.ledger_machine.specs.declared.commands.GetReply.TheVariants as gets
+use Rattle.ledger_machine.specs.declared.commands.PageReply.TheVariants as pages
+use Rattle.ledger_machine.specs.declared.commands.ViewReply.TheVariants as views
+use Rattle.ledger_machine.specs.declared.commands.Reply.TheVariants as says
 use Rattle.ledger_machine.specs.Reading.{value_in, leaf_entry}
 use Rattle.ledger_machine.specs.Limits.{default_interval}
 use Rattle.ledger_machine.specs.State.{State, opening, form_in}

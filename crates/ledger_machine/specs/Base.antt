@@ -12,8 +12,8 @@ use Rattle.ledger_spec.specs.Offers.{Clash, node_outcome, stored_by}
 use Rattle.ledger_spec.specs.Bases.{base_forms}
 use Rattle.ledger_spec.specs.Acquiring.{Acquiring, is_bad, after_outcome, after_judging}
 use Rattle.ledger_spec.specs.Replies.{base_given, base_stored, node_given, node_stored}
-use Rattle.ledger_machine.specs.declared.replies.Reply.{Reply}
-use Rattle.ledger_machine.specs.declared.replies.Reply.TheVariants as says
+use Rattle.ledger_machine.specs.declared.commands.Reply.{Reply}
+use Rattle.ledger_machine.specs.declared.commands.Reply.TheVariants as says
 use Rattle.ledger_machine.specs.State.{State, form_in, with_forms, with_peers}
 
 abbrev pub clash_reply : Clash → Reply

@@ -15,8 +15,8 @@ use Rattle.ledger_machine.specs.State.{State}
 use Rattle.ledger_machine.specs.Closing.{closes_into}
 use Rattle.ledger_machine.specs.Runs.{Run, IsRunOf, opening_of}
 use Rattle.ledger_machine.specs.Records.{forms_of}
-use Rattle.ledger_machine.specs.declared.replies.Reply.{Reply}
-use Rattle.ledger_machine.specs.declared.replies.Reply.TheVariants as says
+use Rattle.ledger_machine.specs.declared.commands.Reply.{Reply}
+use Rattle.ledger_machine.specs.declared.commands.Reply.TheVariants as says
 
 -- the form of what is read, where it is read
 abbrev pub form_read : Result Held ℕ → List Bytes

@@ -8,7 +8,7 @@ use Rattle.ledger_machine.specs.declared.commands.Command.{Command}
 use Rattle.ledger_machine.specs.declared.commands.Command.TheVariants as command
 use Rattle.ledger_machine.specs.declared.commands.Line.{Line}
 use Rattle.ledger_machine.specs.declared.journal.Entry.{Entry}
-use Rattle.ledger_machine.specs.declared.replies.Reply.{Reply}
+use Rattle.ledger_machine.specs.declared.commands.Reply.{Reply}
 use Rattle.ledger_machine.specs.State.{State}
 use Rattle.ledger_machine.specs.Reading.{view_root, outcome_of, page_of}
 use Rattle.ledger_machine.specs.Runs.{Run, used_by}

@@ -12,10 +12,10 @@ use Rattle.ledger_spec.specs.Pages.{after_key, IsPageOf, IsPageOrShows}
 use Rattle.ledger_spec.specs.Spots.{header_in, header_root}
 use Rattle.ledger_spec.specs.Reads.{Outcome, nothing, value, follow}
 use Rattle.shamap_node.specs.Nodes.{held}
-use Rattle.ledger_machine.specs.declared.replies.GetReply.TheVariants as gets
-use Rattle.ledger_machine.specs.declared.replies.PageReply.TheVariants as pages
-use Rattle.ledger_machine.specs.declared.replies.Reply.{Reply}
-use Rattle.ledger_machine.specs.declared.replies.Reply.TheVariants as says
+use Rattle.ledger_machine.specs.declared.commands.GetReply.TheVariants as gets
+use Rattle.ledger_machine.specs.declared.commands.PageReply.TheVariants as pages
+use Rattle.ledger_machine.specs.declared.commands.Reply.{Reply}
+use Rattle.ledger_machine.specs.declared.commands.Reply.TheVariants as says
 use Rattle.ledger_machine.specs.State.{State, form_in}
 
 -- the root of an open view's map

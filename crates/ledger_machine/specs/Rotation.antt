@@ -5,8 +5,8 @@ use Rattle.std.specs.FinSet as set
 use Rattle.ledger_spec.specs.Bytes.{Bytes, Hash}
 use Rattle.ledger_spec.specs.Reach.{Reach}
 use Rattle.ledger_spec.specs.Retaining.{floor_behind, listed_from}
-use Rattle.ledger_machine.specs.declared.replies.BeginReply.{BeginReply}
-use Rattle.ledger_machine.specs.declared.replies.BeginReply.TheVariants as begins
+use Rattle.ledger_machine.specs.declared.commands.BeginReply.{BeginReply}
+use Rattle.ledger_machine.specs.declared.commands.BeginReply.TheVariants as begins
 use Rattle.ledger_machine.specs.State.{State, form_in, roots, due, Kept}
 
 abbrev pub begin_given : State → Option ℕ → Option ℕ → BeginReply

@@ -6,10 +6,10 @@ use Rattle.ledger_spec.specs.declared.Kind.TheVariants as kinds
 use Rattle.ledger_spec.specs.Bytes.{Bytes, Hash, Half, zero_hash}
 use Rattle.ledger_spec.specs.Findings.{items_of}
 use Rattle.ledger_spec.specs.Spots.{header_in, header_root}
-use Rattle.ledger_machine.specs.declared.replies.EditReply.{EditReply}
-use Rattle.ledger_machine.specs.declared.replies.EditReply.TheVariants as edits
-use Rattle.ledger_machine.specs.declared.replies.DelReply.{DelReply}
-use Rattle.ledger_machine.specs.declared.replies.DelReply.TheVariants as dels
+use Rattle.ledger_machine.specs.declared.commands.EditReply.{EditReply}
+use Rattle.ledger_machine.specs.declared.commands.EditReply.TheVariants as edits
+use Rattle.ledger_machine.specs.declared.commands.DelReply.{DelReply}
+use Rattle.ledger_machine.specs.declared.commands.DelReply.TheVariants as dels
 use Rattle.ledger_machine.specs.Limits.{last_seq, most_sessions}
 use Rattle.ledger_machine.specs.State.{State, Session, form_in, stored_seq}
 use Rattle.ledger_machine.specs.Views.{is_retained}

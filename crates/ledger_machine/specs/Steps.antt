@@ -7,11 +7,11 @@ use Rattle.ledger_spec.specs.Bytes.{Bytes, Hash, Half, is_nonzero}
 use Rattle.ledger_spec.specs.Forms.{Held}
 use Rattle.ledger_machine.specs.declared.commands.Command.{Command}
 use Rattle.ledger_machine.specs.declared.commands.Command.TheVariants as command
-use Rattle.ledger_machine.specs.declared.replies.GetReply.TheVariants as gets
-use Rattle.ledger_machine.specs.declared.replies.PageReply.TheVariants as pages
-use Rattle.ledger_machine.specs.declared.replies.SwapReply.TheVariants as swaps
-use Rattle.ledger_machine.specs.declared.replies.Reply.{Reply}
-use Rattle.ledger_machine.specs.declared.replies.Reply.TheVariants as says
+use Rattle.ledger_machine.specs.declared.commands.GetReply.TheVariants as gets
+use Rattle.ledger_machine.specs.declared.commands.PageReply.TheVariants as pages
+use Rattle.ledger_machine.specs.declared.commands.SwapReply.TheVariants as swaps
+use Rattle.ledger_machine.specs.declared.commands.Reply.{Reply}
+use Rattle.ledger_machine.specs.declared.commands.Reply.TheVariants as says
 use Rattle.ledger_machine.specs.Commands.{MayBeRefused}
 use Rattle.ledger_machine.specs.State.{State, with_forms, stored_seq}
 use Rattle.ledger_machine.specs.Want.{want_reply, after_want}

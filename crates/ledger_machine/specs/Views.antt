@@ -3,8 +3,8 @@ use Rattle.std.specs.Prelude.{ℕ, ◌==◌, not, Bool, if◌then◌else◌, len
 use Rattle.std.specs.List.{list_any}
 use Rattle.ledger_spec.specs.Maps.{numbered_cmp, has_in, insert_in, remove_in}
 use Rattle.ledger_spec.specs.Bytes.{Hash, same_bytes}
-use Rattle.ledger_machine.specs.declared.replies.ViewReply.{ViewReply}
-use Rattle.ledger_machine.specs.declared.replies.ViewReply.TheVariants.{Fine, NotRetained, InUse, TooMany}
+use Rattle.ledger_machine.specs.declared.commands.ViewReply.{ViewReply}
+use Rattle.ledger_machine.specs.declared.commands.ViewReply.TheVariants.{Fine, NotRetained, InUse, TooMany}
 use Rattle.ledger_machine.specs.Limits.{most_views}
 use Rattle.ledger_machine.specs.State.{State, retained}
 

@@ -3,8 +3,8 @@ use Rattle.std.specs.Prelude.{ℕ, ◌==◌, ◌&&◌, not, nat_lt, if◌then◌
 use Rattle.ledger_spec.specs.Maps.{hash_cmp, has_in, insert_in}
 use Rattle.ledger_spec.specs.Bytes.{Hash}
 use Rattle.ledger_spec.specs.Acquiring.{acquiring}
-use Rattle.ledger_machine.specs.declared.replies.WantReply.{WantReply}
-use Rattle.ledger_machine.specs.declared.replies.WantReply.TheVariants.{Opened, Open, Listed, BelowFloor, TooMany}
+use Rattle.ledger_machine.specs.declared.commands.WantReply.{WantReply}
+use Rattle.ledger_machine.specs.declared.commands.WantReply.TheVariants.{Opened, Open, Listed, BelowFloor, TooMany}
 use Rattle.ledger_machine.specs.Limits.{most_wanted}
 use Rattle.ledger_machine.specs.State.{State}
 

@@ -4,15 +4,13 @@
 mod commands;
 mod journal;
 mod limits;
-mod replies;
 
-pub use commands::{Command, Line, Record, Script};
+pub use commands::{
+    BeginReply, CloseReply, Command, DelReply, EditReply, GetReply, Line, PageReply, Record, Reply,
+    Script, SwapReply, ViewReply, WantReply,
+};
 pub use journal::{Entry, Totals};
 pub use ledger_spec::{
     BaseReply, CheckReply, HeadOffered, NodeReply, Offered, PeerReply, Places, TickReply,
 };
 pub use limits::ACTORS;
-pub use replies::{
-    BeginReply, CloseReply, DelReply, EditReply, GetReply, PageReply, Reply, SwapReply, ViewReply,
-    WantReply,
-};

@@ -6,8 +6,8 @@ use Rattle.ledger_spec.specs.Maps.{ForActor}
 use Rattle.ledger_spec.specs.Bytes.{Half}
 use Rattle.edit_session.specs.Drafts.{Draft}
 use Rattle.ledger_machine.specs.State.{State, form_in}
-use Rattle.ledger_machine.specs.declared.replies.DelReply.{DelReply}
-use Rattle.ledger_machine.specs.declared.replies.DelReply.TheVariants as dels
+use Rattle.ledger_machine.specs.declared.commands.DelReply.{DelReply}
+use Rattle.ledger_machine.specs.declared.commands.DelReply.TheVariants as dels
 use Rattle.open_sessions.specs.Edited.{IsKept, with_drafts}
 
 -- each open draft is kept by what the state's store holds

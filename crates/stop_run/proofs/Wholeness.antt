@@ -25,9 +25,9 @@ use Rattle.ledger_machine.specs.declared.commands.Command.{Command}
 use Rattle.ledger_machine.specs.declared.commands.Command.TheVariants as command
 use Rattle.ledger_machine.specs.declared.commands.Line.{Line}
 use Rattle.ledger_machine.specs.declared.journal.Entry.{Entry}
-use Rattle.ledger_machine.specs.declared.replies.Reply.{Reply}
-use Rattle.ledger_machine.specs.declared.replies.Reply.TheVariants as says
-use Rattle.ledger_machine.specs.declared.replies.WantReply.TheVariants as want
+use Rattle.ledger_machine.specs.declared.commands.Reply.{Reply}
+use Rattle.ledger_machine.specs.declared.commands.Reply.TheVariants as says
+use Rattle.ledger_machine.specs.declared.commands.WantReply.TheVariants as want
 use Rattle.ledger_spec.specs.declared.replies.CheckReply.TheVariants as check
 use Rattle.ledger_machine.specs.Check.{verdict_of, check_given, check_reply, after_check, told_by}
 use Rattle.ledger_spec.specs.Replies.{check_said}

@@ -21,8 +21,8 @@ use Rattle.ledger_machine.specs.declared.commands.Command.{Command}
 use Rattle.ledger_machine.specs.declared.commands.Command.TheVariants as command
 use Rattle.ledger_spec.specs.declared.replies.BaseReply.TheVariants as base
 use Rattle.ledger_spec.specs.declared.replies.NodeReply.TheVariants as node
-use Rattle.ledger_machine.specs.declared.replies.Reply.{Reply}
-use Rattle.ledger_machine.specs.declared.replies.Reply.TheVariants as says
+use Rattle.ledger_machine.specs.declared.commands.Reply.{Reply}
+use Rattle.ledger_machine.specs.declared.commands.Reply.TheVariants as says
 use Rattle.ledger_machine.specs.State.{State, form_in, with_form, with_forms, changed}
 use Rattle.ledger_machine.specs.Base.{base_reply, after_base, node_reply, node_forms, after_node}
 use Rattle.ledger_machine.specs.Steps.{Step, Refused, Gives}

@@ -16,9 +16,9 @@ use Rattle.ledger_searches.proofs.shared.Running.{true_forgot, true_of_nothing, 
 use Rattle.ledger_machine.specs.declared.commands.Command.{Command}
 use Rattle.ledger_machine.specs.declared.commands.Command.TheVariants as command
 use Rattle.ledger_machine.specs.declared.journal.Entry.{Entry}
-use Rattle.ledger_machine.specs.declared.replies.SwapReply.TheVariants as swaps
-use Rattle.ledger_machine.specs.declared.replies.Reply.{Reply}
-use Rattle.ledger_machine.specs.declared.replies.Reply.TheVariants as says
+use Rattle.ledger_machine.specs.declared.commands.SwapReply.TheVariants as swaps
+use Rattle.ledger_machine.specs.declared.commands.Reply.{Reply}
+use Rattle.ledger_machine.specs.declared.commands.Reply.TheVariants as says
 use Rattle.ledger_machine.specs.State.{State, form_in}
 use Rattle.ledger_machine.specs.Steps.{Step, Swaps, Refused, Outcomes}
 use Rattle.ledger_laws.proofs.shared.Stored.{Goes, on, begun, swapped}

@@ -7,9 +7,9 @@ use Rattle.ledger_spec.specs.Bytes.{Half, Lookup}
 use Rattle.copy_walk.specs.Counts.{CopiesAtMost}
 use Rattle.ledger_machine.specs.declared.commands.Command.{Command}
 use Rattle.ledger_machine.specs.declared.commands.Command.TheVariants as command
-use Rattle.ledger_machine.specs.declared.replies.Reply.{Reply}
-use Rattle.ledger_machine.specs.declared.replies.Reply.TheVariants as says
-use Rattle.ledger_machine.specs.declared.replies.BeginReply.TheVariants as begins
+use Rattle.ledger_machine.specs.declared.commands.Reply.{Reply}
+use Rattle.ledger_machine.specs.declared.commands.Reply.TheVariants as says
+use Rattle.ledger_machine.specs.declared.commands.BeginReply.TheVariants as begins
 use Rattle.ledger_machine.specs.State.{State}
 use Rattle.store_core.specs.Journal.{CoreView}
 use Rattle.store_core.specs.Journal as journal

@@ -10,9 +10,9 @@ use Rattle.path_proof.specs.declared.answer.Answer.{Answer}
 use Rattle.path_proof.specs.declared.answer.ReadFault.{ReadFault}
 use Rattle.store_core.specs.declared.jobs.ReadJob.{ReadJob}
 use Rattle.path_proof.specs.Paths.{held_nodes}
-use Rattle.ledger_machine.specs.declared.replies.GetReply.{GetReply}
-use Rattle.ledger_machine.specs.declared.replies.Reply.{Reply}
-use Rattle.ledger_machine.specs.declared.replies.Reply.TheVariants as says
+use Rattle.ledger_machine.specs.declared.commands.GetReply.{GetReply}
+use Rattle.ledger_machine.specs.declared.commands.Reply.{Reply}
+use Rattle.ledger_machine.specs.declared.commands.Reply.TheVariants as says
 use Rattle.ledger_machine.specs.Reading.{IsRead}
 use Rattle.core_machine.specs.Reads.{IsFollowed}
 

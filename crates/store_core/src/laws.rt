@@ -4,7 +4,7 @@ ghost use Rattle.ledger_spec.specs.declared.Kind.{Kind};
 ghost use Rattle.ledger_spec.specs.Forms.{Held};
 ghost use Rattle.acquire_core.specs.Replies.{IsWanted, AreWanted};
 ghost use Rattle.ledger_machine.specs.declared.commands.Command.{Command};
-ghost use Rattle.ledger_machine.specs.declared.replies.Reply.{Reply};
+ghost use Rattle.ledger_machine.specs.declared.commands.Reply.{Reply};
 ghost use Rattle.ledger_machine.specs.State.{State, form_in};
 ghost use Rattle.ledger_machine.specs.Steps.{Step};
 

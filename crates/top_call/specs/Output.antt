@@ -7,8 +7,8 @@ use Rattle.ledger_spec.specs.Bytes.{Bytes}
 use Rattle.ledger_machine.specs.declared.commands.Line.{Line}
 use Rattle.ledger_machine.specs.declared.journal.Entry.{Entry}
 use Rattle.ledger_machine.specs.declared.journal.Totals.{Totals}
-use Rattle.ledger_machine.specs.declared.replies.Reply.{Reply}
-use Rattle.ledger_machine.specs.declared.replies.Reply.TheVariants as says
+use Rattle.ledger_machine.specs.declared.commands.Reply.{Reply}
+use Rattle.ledger_machine.specs.declared.commands.Reply.TheVariants as says
 use Rattle.ledger_machine.specs.Scripts.{line_of}
 use Rattle.ledger_machine.specs.Collisions.{is_clash}
 use Rattle.journal_text.specs.Text.{entry_text, summary_text}

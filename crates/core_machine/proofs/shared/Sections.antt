@@ -23,7 +23,7 @@ use Rattle.online_rotate.specs.Rotators.{Turning, AfterFinish}
 use Rattle.online_rotate.specs.Copying.{CopiesNothing}
 use Rattle.ledger_machine.specs.declared.commands.Command.{Command}
 use Rattle.ledger_machine.specs.declared.commands.Command.TheVariants as command
-use Rattle.ledger_machine.specs.declared.replies.Reply.TheVariants as says
+use Rattle.ledger_machine.specs.declared.commands.Reply.TheVariants as says
 use Rattle.ledger_machine.specs.State.{State}
 use Rattle.core_machine.specs.Machines.{with_open}
 use Rattle.core_machine.specs.Desks.{Desk, Grows, KeepsRest, KeepsState, OnlyReads, backs, behind, desk_of}

@@ -8,10 +8,10 @@ use Rattle.ledger_spec.specs.Maps.{ForHash}
 use Rattle.ledger_spec.specs.Acquiring.{Acquiring}
 use Rattle.ledger_machine.specs.declared.commands.Command.{Command}
 use Rattle.ledger_machine.specs.declared.commands.Command.TheVariants as command
-use Rattle.ledger_machine.specs.declared.replies.WantReply.{WantReply}
+use Rattle.ledger_machine.specs.declared.commands.WantReply.{WantReply}
 use Rattle.ledger_spec.specs.declared.replies.PeerReply.{PeerReply}
 use Rattle.ledger_spec.specs.declared.replies.CheckReply.{CheckReply}
-use Rattle.ledger_machine.specs.declared.replies.Reply.TheVariants as says
+use Rattle.ledger_machine.specs.declared.commands.Reply.TheVariants as says
 use Rattle.std.specs.FinMap as finite
 use Rattle.std.specs.FinSet as set
 use Rattle.ledger_machine.specs.State.{State, form_in, with_form, stored_seq}

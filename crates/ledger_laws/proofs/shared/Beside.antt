@@ -6,16 +6,16 @@ use Rattle.ledger_spec.specs.Maps.{ForActor}
 use Rattle.ledger_spec.specs.declared.Kind.{Kind}
 use Rattle.ledger_spec.specs.Bytes.{Bytes, Hash, Half}
 use Rattle.ledger_spec.specs.Forms.{Held}
-use Rattle.ledger_machine.specs.declared.replies.WantReply.{WantReply}
-use Rattle.ledger_machine.specs.declared.replies.WantReply.TheVariants as want
+use Rattle.ledger_machine.specs.declared.commands.WantReply.{WantReply}
+use Rattle.ledger_machine.specs.declared.commands.WantReply.TheVariants as want
 use Rattle.ledger_spec.specs.declared.replies.CheckReply.{CheckReply}
 use Rattle.ledger_spec.specs.declared.replies.CheckReply.TheVariants as check
 use Rattle.ledger_spec.specs.declared.replies.TickReply.{TickReply}
 use Rattle.ledger_spec.specs.declared.replies.TickReply.TheVariants as tick
 use Rattle.ledger_spec.specs.declared.replies.BaseReply.TheVariants as base
 use Rattle.ledger_spec.specs.declared.replies.NodeReply.TheVariants as node
-use Rattle.ledger_machine.specs.declared.replies.Reply.{Reply}
-use Rattle.ledger_machine.specs.declared.replies.Reply.TheVariants as says
+use Rattle.ledger_machine.specs.declared.commands.Reply.{Reply}
+use Rattle.ledger_machine.specs.declared.commands.Reply.TheVariants as says
 use Rattle.ledger_spec.specs.Bases.{base_forms}
 use Rattle.ledger_spec.specs.Acquiring.{is_bad, after_outcome, after_judging}
 use Rattle.ledger_machine.specs.State.{State, Session, form_in, with_form, with_forms, with_peers}

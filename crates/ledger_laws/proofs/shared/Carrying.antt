@@ -7,7 +7,7 @@ use Rattle.ledger_spec.specs.Forms.{Held}
 use Rattle.ledger_spec.specs.Reach.{Reach, root, kid, Stored, kids}
 use Rattle.ledger_spec.proofs.shared.ReachLaws.{Grows, reach_grows, reach_joins}
 use Rattle.ledger_machine.specs.declared.commands.Command.{Command}
-use Rattle.ledger_machine.specs.declared.replies.Reply.{Reply}
+use Rattle.ledger_machine.specs.declared.commands.Reply.{Reply}
 use Rattle.ledger_machine.specs.State.{State, form_in, roots, Kept}
 use Rattle.ledger_machine.specs.Rotation.{Carries, AreShaded, Tells, WhileTurning}
 use Rattle.ledger_machine.specs.Steps.{Does, Step, own_forms, own_hashes, want_target}

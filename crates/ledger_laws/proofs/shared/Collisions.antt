@@ -19,8 +19,8 @@ use Rattle.ledger_machine.specs.declared.commands.Line.{Line}
 use Rattle.ledger_machine.specs.declared.commands.Record.{Record}
 use Rattle.ledger_machine.specs.Records.{AreRecords, forms_of}
 use Rattle.ledger_machine.specs.declared.journal.Entry.{Entry}
-use Rattle.ledger_machine.specs.declared.replies.Reply.{Reply}
-use Rattle.ledger_machine.specs.declared.replies.Reply.TheVariants as says
+use Rattle.ledger_machine.specs.declared.commands.Reply.{Reply}
+use Rattle.ledger_machine.specs.declared.commands.Reply.TheVariants as says
 use Rattle.ledger_machine.specs.State.{State, Session, form_in, with_form, with_forms}
 use Rattle.ledger_spec.specs.Bases.{given, root_forms, behind_header, behind_state, base_outcome}
 use Rattle.ledger_spec.specs.Offers.{Clash, head_outcome, node_outcome}
@@ -30,7 +30,7 @@ use Rattle.ledger_machine.specs.Steps.{Step, IsRow}
 use Rattle.ledger_machine.specs.Runs.{Run, IsRunOf, used_by, opening_of}
 use Rattle.ledger_machine.specs.Collisions.{part_form, head_form, offered_by, offered_in, Clashes, made_by, made_along}
 use Rattle.ledger_machine.specs.Collisions.{brought_by, ShowsIn}
-use Rattle.ledger_machine.specs.declared.replies.CloseReply.TheVariants as close
+use Rattle.ledger_machine.specs.declared.commands.CloseReply.TheVariants as close
 use Rattle.ledger_machine.specs.Closing.{new_header, closing_forms, clash_under, first_clash, closed_or_clash, zero_or, close_given}
 use Rattle.ledger_machine.specs.Closing.{closes_into}
 use Rattle.ledger_laws.proofs.shared.SoundForms.{in_head, in_tail, forms_looked_up}

@@ -6,7 +6,7 @@ use Rattle.ledger_spec.specs.Bytes.{Bytes, Hash, Half}
 use Rattle.ledger_spec.specs.Forms.{Held}
 use Rattle.ledger_spec.proofs.shared.ReachLaws.{Grows}
 use Rattle.ledger_machine.specs.declared.commands.Command.{Command}
-use Rattle.ledger_machine.specs.declared.replies.Reply.{Reply}
+use Rattle.ledger_machine.specs.declared.commands.Reply.{Reply}
 use Rattle.ledger_machine.specs.State.{State, form_in}
 use Rattle.ledger_machine.specs.Commands.{IsBeside}
 use Rattle.ledger_machine.specs.Steps.{Outcomes, own_forms}

@@ -16,8 +16,8 @@ use Rattle.ledger_spec.specs.declared.outcomes.Offered.{Offered}
 use Rattle.ledger_spec.specs.declared.outcomes.HeadOffered.{HeadOffered}
 use Rattle.ledger_spec.specs.declared.replies.BaseReply.TheVariants as base
 use Rattle.ledger_spec.specs.declared.replies.NodeReply.TheVariants as node
-use Rattle.ledger_machine.specs.declared.replies.Reply.{Reply}
-use Rattle.ledger_machine.specs.declared.replies.Reply.TheVariants as says
+use Rattle.ledger_machine.specs.declared.commands.Reply.{Reply}
+use Rattle.ledger_machine.specs.declared.commands.Reply.TheVariants as says
 use Rattle.ledger_machine.specs.State.{State, form_in, roots, with_forms}
 use Rattle.ledger_spec.specs.Offers.{Clash, head_outcome, head_forms, node_outcome}
 use Rattle.ledger_spec.specs.Bases as lookup

@@ -25,9 +25,9 @@ use Rattle.tree_laws.proofs.shared.Trees.{size_or_zero}
 use Rattle.ledger_header.specs.declared.Header.{Header as Head}
 use Rattle.ledger_header.specs.Fields.{fields, Reads}
 use Rattle.ledger_header.proofs.shared.Joined.{parted, length-header_bytes}
-use Rattle.ledger_machine.specs.declared.replies.CloseReply.TheVariants as close
-use Rattle.ledger_machine.specs.declared.replies.Reply.{Reply}
-use Rattle.ledger_machine.specs.declared.replies.Reply.TheVariants as says
+use Rattle.ledger_machine.specs.declared.commands.CloseReply.TheVariants as close
+use Rattle.ledger_machine.specs.declared.commands.Reply.{Reply}
+use Rattle.ledger_machine.specs.declared.commands.Reply.TheVariants as says
 use Rattle.ledger_machine.specs.State.{State, Session, form_in, with_forms, listed_with}
 use Rattle.ledger_machine.specs.Sound.{Sound, IsWholeLedger, AreStored}
 use Rattle.ledger_machine.specs.Scripts.{AreFields, drops_in, close_in, resolution_in, flags_in}

@@ -14,7 +14,7 @@ use Rattle.edit_session.specs.Drafts.{Draft, Edits, LeavesToParent}
 use Rattle.edit_session.specs.Changes.{ChangesState, ChangesTxs, SetsAccount, RemovesAccount, SetsTx}
 use Rattle.cow_map.specs.Edits.{IsSub}
 use Rattle.ledger_machine.specs.State.{State, Session, form_in}
-use Rattle.ledger_machine.specs.declared.replies.DelReply.TheVariants as dels
+use Rattle.ledger_machine.specs.declared.commands.DelReply.TheVariants as dels
 use Rattle.ledger_machine.specs.Sessions.{after_put, after_tx, after_del, has_session, del_given, del_reply, without_session, with_session}
 use Rattle.open_sessions.specs.Changed.{Changed}
 use Rattle.open_sessions.specs.Edited.{IsKept, items_in, session_in, with_drafts}

@@ -1,7 +1,7 @@
 -- the search is forgotten, and the generation turns
 use Rattle.std.proofs.Common.{sym, ap, ◌∙◌, subst}
-use Rattle.ledger_machine.specs.declared.replies.Reply.{Reply}
-use Rattle.ledger_machine.specs.declared.replies.Reply.TheVariants as says
+use Rattle.ledger_machine.specs.declared.commands.Reply.{Reply}
+use Rattle.ledger_machine.specs.declared.commands.Reply.TheVariants as says
 use Rattle.core_machine.specs.Checking.{TurnsBy}
 use Rattle.store_core.proofs.core_calls.end_search.Goals as goal
 

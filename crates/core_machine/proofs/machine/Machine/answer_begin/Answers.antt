@@ -2,7 +2,7 @@
 use Rattle.std.proofs.Common.{rules}
 use Rattle.std.proofs.Common.{ap}
 use Rattle.ledger_machine.specs.declared.commands.Command.TheVariants as command
-use Rattle.ledger_machine.specs.declared.replies.Reply.TheVariants as says
+use Rattle.ledger_machine.specs.declared.commands.Reply.TheVariants as says
 use Rattle.core_machine.specs.Desks.{Desk}
 use Rattle.core_machine.proofs.Rotations.{begun_does, begun_told, same_told}
 use Rattle.core_machine.proofs.shared.States.{does_memory}

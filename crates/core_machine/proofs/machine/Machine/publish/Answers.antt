@@ -3,8 +3,8 @@ use Rattle.std.proofs.Common.{rules}
 use Rattle.std.proofs.Common.{◌∷◌, sym, ap, ◌∙◌, subst, map, List, Err, arith}
 use Rattle.ledger_spec.specs.Maps.{hash_cmp, has_in}
 use Rattle.cow_map.specs.declared.seal.FormOf.{FormOf}
-use Rattle.ledger_machine.specs.declared.replies.CloseReply.TheVariants as close
-use Rattle.ledger_machine.specs.declared.replies.Reply.TheVariants as says
+use Rattle.ledger_machine.specs.declared.commands.CloseReply.TheVariants as close
+use Rattle.ledger_machine.specs.declared.commands.Reply.TheVariants as says
 use Rattle.ledger_machine.specs.State.{with_forms}
 use Rattle.ledger_machine.specs.Steps.{IsAfter}
 use Rattle.core_machine.specs.Closing.{MayKeepAll}

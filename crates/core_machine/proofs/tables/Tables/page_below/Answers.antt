@@ -3,8 +3,8 @@ use Rattle.std.proofs.Common.{◌≡◌, IsTrue, refl, subst}
 use Rattle.ledger_spec.specs.Findings.{items_of}
 use Rattle.ledger_spec.specs.Pages.{after_key}
 use Rattle.map_cursor.specs.Shown.{items_in}
-use Rattle.ledger_machine.specs.declared.replies.PageReply.TheVariants as pages
-use Rattle.ledger_machine.specs.declared.replies.Reply.TheVariants as says
+use Rattle.ledger_machine.specs.declared.commands.PageReply.TheVariants as pages
+use Rattle.ledger_machine.specs.declared.commands.Reply.TheVariants as says
 use Rattle.ledger_machine.specs.Reading.{IsPage}
 use Rattle.ledger_machine.specs.State.{State}
 use Rattle.path_proof.specs.Paths.{held_nodes}
