@@ -1,5 +1,8 @@
 //! What a script says: commands, the lines in which actors give them, and the records that a store begins with. What is answered: `Reply`
 //! has a case for each command, and what any command may come to beside it.
+ghost use Rattle.std.specs.Prelude.{◌≡◌};
+ghost use Rattle.ledger_machine.specs.Commands.{nature_of};
+
 use half_hash::{Blob, Hash32};
 use ledger_spec::{BaseReply, CheckReply, NodeReply, PeerReply, TickReply};
 use nib_path::NodeId;
@@ -99,6 +102,55 @@ pub enum Command {
     Begin,
     /// Ends the rotation that is under way.
     Swap,
+}
+
+/// What the core does for a command.
+#[derive(Clone, Copy)]
+pub enum Nature {
+    /// It changes the tables of acquisitions, and what is stored.
+    Table,
+    /// It searches a ledger, in slices.
+    Check,
+    /// It reads nodes below a view.
+    Read,
+    /// It opens a view, which a session's ledger may have.
+    View,
+    /// It ends a view.
+    Unview,
+    /// It opens, changes or ends a session.
+    Session,
+    /// It begins a rotation.
+    Begin,
+    /// It ends a rotation, in slices.
+    Swap,
+}
+
+impl Command {
+    /// What the core does for it.
+    pub fn nature(&self) -> Nature
+        ensures { result ≡ nature_of self.now }
+    {
+        match self {
+            Command::Want { .. } => Nature::Table,
+            Command::Peer { .. } => Nature::Table,
+            Command::Base { .. } => Nature::Table,
+            Command::Node { .. } => Nature::Table,
+            Command::Check { .. } => Nature::Check,
+            Command::Tick { .. } => Nature::Table,
+            Command::View { .. } => Nature::View,
+            Command::Unview { .. } => Nature::Unview,
+            Command::Get { .. } => Nature::Read,
+            Command::Page { .. } => Nature::Read,
+            Command::Edit { .. } => Nature::Session,
+            Command::Put { .. } => Nature::Session,
+            Command::Del { .. } => Nature::Session,
+            Command::Tx { .. } => Nature::Session,
+            Command::Close { .. } => Nature::Session,
+            Command::Abandon { .. } => Nature::Session,
+            Command::Begin => Nature::Begin,
+            Command::Swap => Nature::Swap,
+        }
+    }
 }
 
 /// The answers to `want`.

@@ -6,8 +6,8 @@ mod journal;
 mod limits;
 
 pub use commands::{
-    BeginReply, CloseReply, Command, DelReply, EditReply, GetReply, Line, PageReply, Record, Reply,
-    Script, SwapReply, ViewReply, WantReply,
+    BeginReply, CloseReply, Command, DelReply, EditReply, GetReply, Line, Nature, PageReply,
+    Record, Reply, Script, SwapReply, ViewReply, WantReply,
 };
 pub use journal::{Entry, Totals};
 pub use ledger_spec::{
