@@ -21,13 +21,13 @@ use Rattle.ledger_machine.specs.declared.commands.Reply.{Reply}
 use Rattle.ledger_machine.specs.declared.commands.Reply.TheVariants as says
 use Rattle.ledger_machine.specs.Rotation.{after_begin}
 use Rattle.ledger_machine.specs.Rotation.{Tells}
-use Rattle.ledger_machine.specs.Commands.{IsBeside}
+use Rattle.ledger_machine.specs.Commands.{IsBeside, IsSteady}
 use Rattle.ledger_machine.specs.State.{State, Session, form_in, roots, bases, with_sessions}
 use Rattle.ledger_machine.specs.Steps.{IsAfter, own_hashes}
 use Rattle.open_sessions.specs.Edited.{sessions_in}
 use Rattle.core_machine.specs.Machines.{told_forms, with_open, KeepsDrafts}
 use Rattle.core_machine.specs.Desks.{Desk, KeepsRest}
-use Rattle.core_machine.specs.Commands.{IsSteady, TellsRoot}
+use Rattle.core_machine.specs.Commands.{TellsRoot}
 use Rattle.core_machine.specs.Telling.{AreTold, BeginsBy, AfterSwap, CopiesBy, CountsSlice}
 use Rattle.copy_walk.specs.declared.walk.Left.{Left}
 use Rattle.ledger_searches.specs.declared.searches.Searches.{Searches}
@@ -41,7 +41,7 @@ use Rattle.core_machine.specs.declared.rotating.Part.{Part}
 use Rattle.core_machine.proofs.Machines.{keeps_same, reads_beside}
 use Rattle.core_machine.proofs.Rotations.{open_kept, open_swapped}
 use Rattle.core_machine.proofs.shared.Sections.{open_rest}
-use Rattle.core_machine.proofs.Roots.{listed_among, viewed_among, wanted_among, each_stands}
+use Rattle.ledger_laws.proofs.shared.Roots.{listed_among, viewed_among, wanted_among, each_stands}
 
 pub beside_steady : (c : Command) → IsBeside c → IsSteady c
 beside_steady command.Begin is = absurd is

@@ -12,7 +12,7 @@ use Rattle.core_machine.proofs.shared.States.{after_on, form_after}
 use Rattle.cow_map.specs.declared.seal.FormOf.{FormOf}
 use Rattle.node_offer.specs.declared.fault.OfferFault.{OfferFault}
 use Rattle.node_offer.specs.declared.fault.OfferFault.TheVariants as faults
-use Rattle.core_machine.proofs.Roots.{imaged}
+use Rattle.ledger_laws.proofs.shared.Roots.{imaged}
 use Rattle.core_machine.specs.Closing.{MayKeep, MayKeepAll, KeptSome}
 
 -- the next form

@@ -46,7 +46,7 @@ use Rattle.ledger_machine.specs.State.{State}
 use Rattle.ledger_machine.specs.Rotation.{AreShaded}
 use Rattle.core_machine.specs.Machines.{with_open}
 use Rattle.core_machine.specs.Telling.{AreTold, AreWantedTold}
-use Rattle.core_machine.proofs.Roots.{wanted_among}
+use Rattle.ledger_laws.proofs.shared.Roots.{wanted_among}
 use Rattle.core_machine.proofs.Turns.{forms_add, forms_grow, walking_adds, walking_heeded}
 
 -- ---- heeding

@@ -21,7 +21,7 @@ use Rattle.core_machine.specs.Desks.{Desk}
 use Rattle.ledger_machine.specs.Rotation.{Tells}
 use Rattle.core_machine.specs.Telling.{Hears}
 use Rattle.core_machine.specs.Wanting.{judged_by, settled, told_at}
-use Rattle.core_machine.proofs.Roots.{listed_among, wanted_among, found_key}
+use Rattle.ledger_laws.proofs.shared.Roots.{listed_among, wanted_among, found_key}
 
 -- but for what a rotation was told
 pub after_any : (t s' : State) (z : List Hash) → s' ≡ record t { shaded = z } → IsAfter t s'

@@ -54,7 +54,7 @@ use Rattle.core_machine.specs.Machines.{told_forms, with_open}
 use Rattle.core_machine.specs.Refusals.{read_refusal}
 use Rattle.core_machine.specs.Telling.{AreTold, Carried, BeginsBy, SwapsTold, AfterSwap}
 use Rattle.core_machine.proofs.shared.States.{same_shaded, refused_nothing}
-use Rattle.core_machine.proofs.Roots.{imaged, based_among}
+use Rattle.ledger_laws.proofs.shared.Roots.{imaged, based_among}
 use Rattle.core_machine.proofs.Turns.{reach_wider, still, quiet}
 
 -- ---- commands that changed nothing

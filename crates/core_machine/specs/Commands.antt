@@ -1,5 +1,5 @@
--- What each command is to the core: whether it is done in one section, begins or ends a rotation, reads nodes, or sees sessions, and which
--- root a rotation is told of.
+-- What each command is to the core: whether it is done in one section, reads nodes, or sees sessions, and which root a rotation is told
+-- of.
 use Rattle.std.specs.Prelude.{IsSome}
 use Rattle.std.specs.List.{Contains}
 use Rattle.ledger_machine.specs.declared.commands.Command.{Command}
@@ -51,27 +51,6 @@ IsQuiet (command.Tx x item) = Unit {0}
 IsQuiet (command.Close x fields) = Unit {0}
 IsQuiet (command.Abandon x) = Unit {0}
 IsQuiet command.Begin = Unit {0}
-
--- the commands that neither begin nor end a rotation
-abbrev pub IsSteady : Command → Type 0
-IsSteady command.Begin = ⊥
-IsSteady command.Swap = ⊥
-IsSteady (command.Want t seq) = Unit {0}
-IsSteady (command.Peer p t) = Unit {0}
-IsSteady (command.Base p t head state tx) = Unit {0}
-IsSteady (command.Node p t kind path blob) = Unit {0}
-IsSteady (command.Check t) = Unit {0}
-IsSteady (command.Tick t) = Unit {0}
-IsSteady (command.View v t) = Unit {0}
-IsSteady (command.Unview v) = Unit {0}
-IsSteady (command.Get v kind key) = Unit {0}
-IsSteady (command.Page v kind key n) = Unit {0}
-IsSteady (command.Edit x t) = Unit {0}
-IsSteady (command.Put x item) = Unit {0}
-IsSteady (command.Del x key) = Unit {0}
-IsSteady (command.Tx x item) = Unit {0}
-IsSteady (command.Close x fields) = Unit {0}
-IsSteady (command.Abandon x) = Unit {0}
 
 -- the commands that read nothing of nodes
 abbrev pub ReadsNothing : Command → Type 0

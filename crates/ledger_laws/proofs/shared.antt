@@ -8,6 +8,7 @@ pub mod EveryMaps
 pub mod Going
 pub mod Openings
 pub mod Receipts
+pub mod Roots
 pub mod RunLaws
 pub mod SoundCheck
 pub mod SoundClosing
@@ -22,5 +23,6 @@ pub mod Stored
 pub mod StoringAll
 pub mod Sweeping
 pub mod Throughout
+pub mod Views
 pub mod Ways
 pub mod WholeMaps

@@ -43,7 +43,8 @@ use Rattle.open_sessions.proofs.shared.Tables.{over_get, over_has, over_insert, 
 use Rattle.core_machine.specs.Machines.{IsHeaderOf}
 use Rattle.store_core.specs.Halls.{AreViews, root_of, root_by}
 use Rattle.store_core.specs.declared.jobs.View.{View}
-use Rattle.store_core.proofs.Sighting.{LeavesViews, row_views, refused_view}
+use Rattle.ledger_laws.proofs.shared.Views.{LeavesViews}
+use Rattle.store_core.proofs.Sighting.{row_views, refused_view}
 
 abbrev target_of : View → Hash
 target_of v = v.target

@@ -12,7 +12,7 @@ use Rattle.ledger_machine.specs.declared.commands.Reply.{Reply}
 use Rattle.ledger_machine.specs.declared.commands.Reply.TheVariants as says
 use Rattle.ledger_machine.specs.Rotation.{AreShaded, Tells, WhileTurning}
 use Rattle.ledger_machine.specs.State.{State}
-use Rattle.ledger_machine.specs.Commands.{MayBeRefused}
+use Rattle.ledger_machine.specs.Commands.{IsSteady, MayBeRefused}
 use Rattle.ledger_machine.specs.Steps.{Step, Outcomes, UsesNodes, own_hashes}
 use Rattle.ledger_laws.proofs.shared.Carrying.{step_told}
 use Rattle.node_backend.specs.declared.back.BackFault.{BackFault}
@@ -23,7 +23,7 @@ use Rattle.ledger_searches.specs.declared.hunt.Hunt.{Hunt}
 use Rattle.ledger_searches.specs.declared.searches.Searches.{Searches}
 use Rattle.ledger_searches.specs.Hunting.{hunt_of}
 use Rattle.rotating_store.specs.Stores.{merged}
-use Rattle.core_machine.specs.Commands.{IsNoCheck, IsOfSessions, IsSteady, TellsRoot}
+use Rattle.core_machine.specs.Commands.{IsNoCheck, IsOfSessions, TellsRoot}
 use Rattle.core_machine.specs.Checking.{AreKept, AsksFew, IsOpen, IsSliced, IsSought, LeavesSearch, SearchesBy}
 use Rattle.core_machine.specs.Checking.{Shares}
 use Rattle.core_machine.specs.Desks.{Desk, KeepsState, OnlyReads}

@@ -19,7 +19,7 @@ use Rattle.core_machine.proofs.Parts.{does_node, same_blob}
 use Rattle.core_machine.proofs.shared.Entries.{IsOver, filed_over}
 use Rattle.core_machine.proofs.Copies.{stored_backs}
 use Rattle.core_machine.proofs.Turns.{keeps_taken, answers_forms, wanted_told, walked_state}
-use Rattle.core_machine.proofs.Roots.{found_key}
+use Rattle.ledger_laws.proofs.shared.Roots.{found_key}
 use Rattle.core_machine.specs.Telling.{AreWantedTold}
 use Rattle.ledger_spec.specs.Bytes.{Hash}
 use Rattle.std.specs.Map.{keys_of}

@@ -1,7 +1,7 @@
 use Rattle.std.proofs.Common.{map, sym, subst, rules}
 use Rattle.shamap_node.specs.Nodes.{held}
 use Rattle.core_machine.specs.Commands.{IsQuiet}
-use Rattle.store_core.proofs.Sighting.{LeavesViews}
+use Rattle.ledger_laws.proofs.shared.Views.{LeavesViews}
 use Rattle.store_core.proofs.Pinning.{views_kept}
 use Rattle.store_core.proofs.Serving.{answers_quiet, section_same, section_step}
 use Rattle.store_core.proofs.hall.Hall.serve.Goals as goal
