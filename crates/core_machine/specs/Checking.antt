@@ -1,5 +1,5 @@
 -- What a section leaves of what searches share, and what a check asks of the store.
-use Rattle.std.specs.Prelude.{◌≡◌, ◌⊎◌, ◌+◌, ◌≤◌, ℕ, Bool, IsTrue, true, List, [], length, Option, None, Some, IfSome, IsSomeAnd}
+use Rattle.std.specs.Prelude.{◌≡◌, ◌⊎◌, ◌+◌, ◌≤◌, ℕ, Bool, IsTrue, true, List, [], length, Option, None, Some, IfSome, OnSome, MatchOption, IsSomeAnd}
 use Rattle.std.specs.Bool.{⊤}
 use Rattle.ledger_spec.specs.Bytes.{Hash, Half}
 use Rattle.ledger_spec.specs.Findings.{Whole}
@@ -16,11 +16,14 @@ use Rattle.ledger_searches.specs.Hunting.{GoesOn, IsRunWhole, IsUnbegun, hunt_of
 use Rattle.ledger_searches.specs.Sharing.{IsPaired, AreTrueOf, IsTurned, LeavesOthers, Forgets}
 use Rattle.ledger_machine.specs.declared.commands.Command.{Command}
 use Rattle.ledger_machine.specs.declared.commands.Command.TheVariants as command
+use Rattle.ledger_machine.specs.declared.commands.Nature.{Nature}
+use Rattle.ledger_machine.specs.declared.commands.Nature.TheVariants as natures
 use Rattle.ledger_machine.specs.declared.journal.Entry.{Entry}
 use Rattle.ledger_machine.specs.declared.commands.Reply.{Reply}
 use Rattle.ledger_machine.specs.declared.commands.Reply.TheVariants as says
 use Rattle.ledger_machine.specs.declared.commands.SwapReply.TheVariants as swaps
 use Rattle.ledger_machine.specs.State.{State, form_in}
+use Rattle.ledger_machine.specs.Commands.{nature_of, searched_by}
 use Rattle.core_machine.specs.Commands.{IsNoCheck}
 use Rattle.core_machine.specs.Desks.{Desk}
 use Rattle.core_machine.specs.Refusals.{IsRefusal}
@@ -36,14 +39,12 @@ IsOpen s t = has_in hash_cmp s.wanted t ≡ true
 
 -- what a check is answered by: where its acquisition is open, what is found of the ledger in the state
 abbrev pub HasFound : Half → Bool → State → Command → Option Found → Type 0
-HasFound half told s (command.Check t) found =
-    IsOpen s t → IsSomeAnd found (λ f. IsFound f × (IsTrue told → Finds half (form_in s) t f))
-HasFound half told s _ found = ⊤
+HasFound half told s c found = IfSome (searched_by c) (λ t.
+    IsOpen s t → IsSomeAnd found (λ f. IsFound f × (IsTrue told → Finds half (form_in s) t f)))
 
 -- what is found is found before the reply: a check that is answered by it asks the backends nothing
 abbrev pub AsksNothing : Command → ℕ → ℕ → Type 0
-AsksNothing (command.Check t) gets gets' = gets' ≡ gets
-AsksNothing _ gets gets' = ⊤
+AsksNothing c gets gets' = OnSome (searched_by c) (gets' ≡ gets)
 
 -- A check of an open acquisition that isn't refused and finds nothing missing and nothing broken leaves the roots that the stored header
 -- names marked, unless their maps are empty. Where they were marked before, and no search of the ledger was begun, the backends are asked
@@ -55,8 +56,7 @@ pub record ChecksByMarks (half : Half) (s : State) (t : Hash) (reply : Reply) (o
 
 -- the same of a command that is a check
 abbrev pub SearchesBy : Half → State → Command → Reply → Option Hunt → Marks → ℕ → Marks → ℕ → Type 0
-SearchesBy half s (command.Check t) reply o m gets m' gets' = ChecksByMarks half s t reply o m gets m' gets'
-SearchesBy half s _ reply o m gets m' gets' = ⊤
+SearchesBy half s c reply o m gets m' gets' = IfSome (searched_by c) (λ t. ChecksByMarks half s t reply o m gets m' gets')
 
 -- A section of a check that isn't answered: its acquisition is open, its search goes on, and the roots weren't marked as it began.
 pub record SlicesSearch (half : Half) (s : State) (t : Hash) (o : Option Hunt) (m : Marks) (o' : Option Hunt) : Type 0 where
@@ -66,8 +66,7 @@ pub record SlicesSearch (half : Half) (s : State) (t : Hash) (o : Option Hunt) (
 
 -- a section of a check asks the backends at most 2,048 times, but where its search is run whole
 abbrev pub AsksFew : Command → Option Hunt → ℕ → ℕ → ℕ → Type 0
-AsksFew (command.Check t) o now gets gets' = IsRunWhole now o t ⊎ (gets' ≤ gets + most_asked)
-AsksFew _ o now gets gets' = ⊤
+AsksFew c o now gets gets' = IfSome (searched_by c) (λ t. IsRunWhole now o t ⊎ (gets' ≤ gets + most_asked))
 
 -- what searches share is of one generation, and where the store tells what it holds it is true of that
 pub record AreKept (half : Half) (told : Bool) (s : State) (x : Searches) : Type 0 where
@@ -98,12 +97,22 @@ abbrev pub LeavesSearch : Half → State → Hash → Option Hunt → Marks → 
 LeavesSearch half s t o m o' m' (sought.Ended found) = IfSome found (λ f. IsClean f → HasMarkedRoots (form_in s) t m')
 LeavesSearch half s t o m o' m' sought.More = SlicesSearch half s t o m o'
 
--- A section that leaves its command for another one: a slice of a swap leaves what searches share, and one of a check is as said above.
+-- A slice of a command that searches nothing, which is of a swap, leaves what searches share.
+abbrev pub IsSwapSliced : Nature → Part → Desk → Searches → Desk → Searches → Type 0
+IsSwapSliced natures.Swap part d x d' x' = IsSlice command.Swap part d d' × (x' ≡ x)
+IsSwapSliced natures.Table part d x d' x' = ⊥
+IsSwapSliced natures.Check part d x d' x' = ⊥
+IsSwapSliced natures.Read part d x d' x' = ⊥
+IsSwapSliced natures.View part d x d' x' = ⊥
+IsSwapSliced natures.Unview part d x d' x' = ⊥
+IsSwapSliced natures.Session part d x d' x' = ⊥
+IsSwapSliced natures.Begin part d x d' x' = ⊥
+
+-- A section that leaves its command for another one: a slice of a swap, or one of a check, which is as said above.
 abbrev pub IsSliced : Half → Bool → ℕ → Command → Part → Desk → Searches → Desk → Searches → Type 0
-IsSliced half told a command.Swap part d x d' x' = IsSlice command.Swap part d d' × (x' ≡ x)
-IsSliced half told a (command.Check t) part d x d' x' = (part ≡ parts.Slice) × (d'.slices ≡ d.slices)
-    × (IsTrue told → SlicesSearch half d.state t (hunt_of x.hunts.items a) x.marks (hunt_of x'.hunts.items a))
-IsSliced half told a _ part d x d' x' = ⊥
+IsSliced half told a c part d x d' x' = MatchOption (searched_by c) (IsSwapSliced (nature_of c) part d x d' x') (λ t.
+    (part ≡ parts.Slice) × (d'.slices ≡ d.slices)
+    × (IsTrue told → SlicesSearch half d.state t (hunt_of x.hunts.items a) x.marks (hunt_of x'.hunts.items a)))
 
 -- behind an entry no search of its actor is kept; behind a swap, which may have lost what is marked, the next generation begins too
 pub record ForgetsAndTurns (a : ℕ) (x x' : Searches) : Type 0 where

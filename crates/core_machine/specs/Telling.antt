@@ -22,6 +22,9 @@ use Rattle.rotating_store.specs.declared.outcome.StoreFault.{StoreFault}
 use Rattle.rotating_store.specs.declared.outcome.StoreFault.TheVariants as faults
 use Rattle.ledger_machine.specs.declared.commands.Command.{Command}
 use Rattle.ledger_machine.specs.declared.commands.Command.TheVariants as command
+use Rattle.ledger_machine.specs.declared.commands.Nature.{Nature}
+use Rattle.ledger_machine.specs.declared.commands.Nature.TheVariants as natures
+use Rattle.ledger_machine.specs.Commands.{nature_of}
 use Rattle.ledger_machine.specs.declared.commands.BeginReply.{BeginReply}
 use Rattle.ledger_machine.specs.declared.commands.BeginReply.TheVariants as begins
 use Rattle.ledger_machine.specs.declared.commands.SwapReply.{SwapReply}
@@ -92,9 +95,18 @@ abbrev pub most_copied : ℕ
 most_copied = 256
 
 -- nothing is copied, also where a swap is refused, but by a swap whose walk has something to take still
+abbrev pub CopiesAs : Nature → Desk → Desk → Type 0
+CopiesAs natures.Swap d d' = d.grey ≡ [] → behind d d' ≡ finite.get d.written
+CopiesAs natures.Table d d' = backs d' ≡ backs d
+CopiesAs natures.Check d d' = backs d' ≡ backs d
+CopiesAs natures.Read d d' = backs d' ≡ backs d
+CopiesAs natures.View d d' = backs d' ≡ backs d
+CopiesAs natures.Unview d d' = backs d' ≡ backs d
+CopiesAs natures.Session d d' = backs d' ≡ backs d
+CopiesAs natures.Begin d d' = backs d' ≡ backs d
+
 abbrev pub CopiesBy : Command → Desk → Desk → Type 0
-CopiesBy command.Swap d d' = d.grey ≡ [] → behind d d' ≡ finite.get d.written
-CopiesBy _ d d' = backs d' ≡ backs d
+CopiesBy c d d' = CopiesAs (nature_of c) d d'
 
 -- at most 256 hashes are copied, but by a swap whose rotation has done its slices
 abbrev pub CopiesFew : Command → Desk → Desk → Type 0
@@ -103,9 +115,19 @@ CopiesFew c d d' = ((c ≡ command.Swap) × (most_slices ≤ d.slices))
 
 -- how many slices of the rotation under way left something, behind the answer to a command: none where one begins, and else as many as
 -- before
+abbrev pub CountsAs : Nature → Reply → ℕ → ℕ → Type 0
+CountsAs natures.Begin (says.Begin (begins.Begun seq floor)) n n' = n' ≡ 0
+CountsAs natures.Begin reply n n' = n' ≡ n
+CountsAs natures.Swap reply n n' = n' ≡ n
+CountsAs natures.Table reply n n' = n' ≡ n
+CountsAs natures.Check reply n n' = n' ≡ n
+CountsAs natures.Read reply n n' = n' ≡ n
+CountsAs natures.View reply n n' = n' ≡ n
+CountsAs natures.Unview reply n n' = n' ≡ n
+CountsAs natures.Session reply n n' = n' ≡ n
+
 abbrev pub CountsFrom : Command → Reply → ℕ → ℕ → Type 0
-CountsFrom command.Begin (says.Begin (begins.Begun seq floor)) n n' = n' ≡ 0
-CountsFrom c reply n n' = n' ≡ n
+CountsFrom c reply n n' = CountsAs (nature_of c) reply n n'
 
 -- a slice is counted where it left something
 abbrev pub CountsSlice : Result Left BackFault → Desk → Desk → Type 0

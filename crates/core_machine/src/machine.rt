@@ -26,7 +26,7 @@ use crate::tables::Tables;
 use edit_session::a_session_stays_over_its_ledger;
 use half_hash::{Blob, Hash32, Memory, NodeHash};
 use ledger_laws::a_row_is_one_beside_any_sessions;
-use ledger_machine::{Command, Record, Reply, Totals, ViewReply};
+use ledger_machine::{Command, Nature, Record, Reply, Totals, ViewReply};
 use ledger_searches::Searches;
 use missing_walk::{Found, SearchFault};
 use node_backend::{BackFault, Shelf};
@@ -137,25 +137,15 @@ impl<H: NodeHash, Sh: Shelf> Machine<H, Sh> {
         requires found { HasFound H.half Sh.B.tells self.old.state command.now found.now }
         ensures { Steps H.half Sh.B.tells self.old actor command.now result.0 (map (λ a. held a.value) result.1.items) self.new }
     {
-        match command {
-            Command::View { .. }
-            | Command::Edit { .. }
-            | Command::Put { .. }
-            | Command::Del { .. }
-            | Command::Tx { .. }
-            | Command::Close { .. }
-            | Command::Abandon { .. } => (self.change(alloc, actor, command), Vec::new(alloc)),
-            Command::Begin => (self.answer_begin(alloc, actor), Vec::new(alloc)),
-            Command::Swap => (self.answer_swap(alloc, actor), Vec::new(alloc)),
-            Command::Want { .. }
-            | Command::Peer { .. }
-            | Command::Base { .. }
-            | Command::Node { .. }
-            | Command::Check { .. }
-            | Command::Tick { .. }
-            | Command::Unview { .. }
-            | Command::Get { .. }
-            | Command::Page { .. } => self.beside(alloc, actor, command, found),
+        match command.nature() {
+            Nature::View | Nature::Session => {
+                (self.change(alloc, actor, command), Vec::new(alloc))
+            }
+            Nature::Begin => (self.answer_begin(alloc, actor), Vec::new(alloc)),
+            Nature::Swap => (self.answer_swap(alloc, actor), Vec::new(alloc)),
+            Nature::Table | Nature::Check | Nature::Read | Nature::Unview => {
+                self.beside(alloc, actor, command, found)
+            }
         }
     }
 

@@ -1,5 +1,5 @@
 -- a slice first, and then the step
-use Rattle.std.proofs.Common.{Ok, map, ap, ◌∙◌}
+use Rattle.std.proofs.Common.{None, Ok, map, ap, ◌∙◌}
 use Rattle.shamap_node.specs.Nodes.{held}
 use Rattle.core_machine.proofs.shared.Checks.{found_none}
 use Rattle.core_machine.proofs.shared.Serving.{turn_done, turn_may, turn_more, turn_refused}
@@ -13,7 +13,7 @@ answer-requires-clause-may g c κs within =
 -- it is no check
 pub answer-requires-clause-found : goal.answer-requires-clause-found
 answer-requires-clause-found g c κs within =
-    found_none g.H.NodeHash.half g.Sh.B.Backend.tells c.slice_first.new.self.state c.args.command.now _ c.requires.no_check
+    found_none g.H.NodeHash.half g.Sh.B.Backend.tells c.slice_first.new.self.state c.args.command.now None c.requires.no_check
 
 pub returns-in-Ok-More : goal.returns-in-Ok-More
 returns-in-Ok-More g c x kept =
