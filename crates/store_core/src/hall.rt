@@ -253,7 +253,7 @@ impl<H: NodeHash, Sh: Shelf> Hall<H, Sh> {
         }
     }
 
-    // One section of a command, read here.
+    // One section of a command, read here. Only a view's commands change which views are kept, and only a check searches.
     fn serve(
         &mut self,
         alloc: Global,
@@ -281,21 +281,7 @@ impl<H: NodeHash, Sh: Shelf> Hall<H, Sh> {
                 self.machine
                     .search_section(alloc, searches, actor, command, target, part)
             }
-            Command::Want { .. }
-            | Command::Peer { .. }
-            | Command::Base { .. }
-            | Command::Node { .. }
-            | Command::Tick { .. }
-            | Command::Get { .. }
-            | Command::Page { .. }
-            | Command::Edit { .. }
-            | Command::Put { .. }
-            | Command::Del { .. }
-            | Command::Tx { .. }
-            | Command::Close { .. }
-            | Command::Abandon { .. }
-            | Command::Begin
-            | Command::Swap => self.machine.turn_section(alloc, actor, command, part),
+            _ => self.machine.turn_section(alloc, actor, command, part),
         }
     }
 

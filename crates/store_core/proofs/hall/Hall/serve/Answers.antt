@@ -1,10 +1,26 @@
-use Rattle.std.proofs.Common.{map, sym, subst, rules}
+use Rattle.std.proofs.Common.{◌≡◌, ℕ, map, refl, sym, subst}
+use Rattle.ledger_spec.specs.Bytes.{Hash}
+use Rattle.ledger_machine.specs.declared.commands.Command.{Command}
+use Rattle.ledger_machine.specs.declared.commands.Command.TheVariants as command
 use Rattle.shamap_node.specs.Nodes.{held}
-use Rattle.core_machine.specs.Commands.{IsQuiet}
+use Rattle.core_machine.specs.Commands.{IsNoCheck, IsQuiet}
 use Rattle.ledger_laws.proofs.shared.Views.{LeavesViews}
 use Rattle.store_core.proofs.Pinning.{views_kept}
 use Rattle.store_core.proofs.Serving.{answers_quiet, section_same, section_step}
 use Rattle.store_core.proofs.hall.Hall.serve.Goals as goal
+
+-- what is neither `view` nor `unview` leaves the views, and what is no check searches nothing
+leaves_views : (c : Command) → ((v : ℕ) (t : Hash) → c ≡ command.View v t → ⊥) → ((v : ℕ) → c ≡ command.Unview v → ⊥) → LeavesViews c
+leaves_views (command.View v t) view unview = absurd (view v t refl)
+leaves_views (command.Unview v) view unview = absurd (unview v refl)
+leaves_views c view unview = tt
+
+no_check : (c : Command) → ((t : Hash) → c ≡ command.Check t → ⊥) → IsNoCheck c
+no_check (command.Check t) other = absurd (other t refl)
+no_check c other = tt
+
+pub turn_section-requires-clause-no_check : goal.turn_section-requires-clause-no_check
+turn_section-requires-clause-no_check g c κs within = no_check c.args.command.now c.in_default.not-Check
 
 -- any other command leaves the views, and what is stored under their ledgers' hashes
 pub invariant_of-self : goal.invariant_of-self
@@ -22,11 +38,11 @@ invariant_of-self g c told =
     c.search_section.ensures told)
     (c.self.invariant told)
 
-pub invariant_of-self-in-Want : goal.invariant_of-self-in-Want
-invariant_of-self-in-Want g c told =
+pub invariant_of-self-in_default : goal.invariant_of-self-in_default
+invariant_of-self-in_default g c told =
     views_kept c.turn_section.result (λ r. r.0) (λ r. map (λ a. held a.value) r.1.items) g.H.NodeHash.half
     c.self.inside.machine.state c.turn_section.new.self.state c.args.actor c.args.command.now c.self.inside.views.entries
-    (let is : LeavesViews c.args.command.now = search rules in is)
+    (leaves_views c.args.command.now c.in_default.not-View c.in_default.not-Unview)
     (section_step c.turn_section.result (λ r. r.0) (λ r. map (λ a. held a.value) r.1.items) g.H.NodeHash.half g.Sh.B.Backend.tells _
     c.self.inside.machine c.args.actor c.args.command.now c.args.part c.args.searches.now c.args.searches.now c.turn_section.new.self
     (c.turn_section.ensures c.args.searches.now (rw (← c.self.view_is) at c.requires.searches)) told)
@@ -51,6 +67,8 @@ returns-in-Unview-clause-does g c =
 pub returns-in-Check-clause-does : goal.returns-in-Check-clause-does
 returns-in-Check-clause-does g c = rw (← c.self.view_is) c.search_section.ensures
 
-pub returns-in-Want-clause-does : goal.returns-in-Want-clause-does
-returns-in-Want-clause-does g c = rw (← c.self.view_is) (c.turn_section.ensures c.args.searches.now (rw (← c.self.view_is) at
-    c.requires.searches))
+pub returns-in_default : goal.returns-in_default
+returns-in_default g c = record {
+  does = rw (← c.self.view_is) (c.turn_section.ensures c.args.searches.now (rw (← c.self.view_is) at c.requires.searches));
+  views = λ none. rw (← c.self.view_is) refl;
+}
