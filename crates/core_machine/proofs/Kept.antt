@@ -1,6 +1,6 @@
 -- A form that a close puts into the store.
 use Rattle.std.proofs.Common.{◌≡◌, ◌⊎◌, inl, inr, ⊎_elim, Bool, true, false, if◌then◌else◌, is_some}
-use Rattle.std.proofs.Common.{◌≢◌, [], ◌∷◌, Option, None, Some, Result, Ok, Err, refl, sym, ap, ◌∙◌, subst}
+use Rattle.std.proofs.Common.{◌≢◌, [], ◌∷◌, Option, None, Some, Result, Ok, Err, IfErr, refl, sym, ap, ◌∙◌, subst}
 use Rattle.std.specs.FinMap as finite
 use Rattle.std.specs.FinSet as set
 use Rattle.std.specs.Cmp.Lexicographic.{same_text}
@@ -16,11 +16,19 @@ use Rattle.rotating_store.specs.declared.outcome.Put.{Put}
 use Rattle.rotating_store.specs.declared.outcome.Put.TheVariants as put
 use Rattle.rotating_store.specs.declared.outcome.StoreFault.{StoreFault}
 use Rattle.rotating_store.specs.declared.outcome.StoreFault.TheVariants as fault
-use Rattle.core_machine.specs.Closing.{MayKeep, kept_by}
+use Rattle.core_machine.specs.Closing.{IsUnderOwn, MayKeep, kept_by}
 use Rattle.core_machine.specs.Desks.{over}
 use Rattle.ledger_machine.specs.Steps.{IsAfter}
 use Rattle.core_machine.proofs.shared.States.{same_shaded, after_on, form_after}
 use Rattle.core_machine.proofs.shared.Entries.{IsOver, same_over, stored_over}
+
+-- what refuses a form that was put under its own hash
+pub under_own : (half : Half) (form : Bytes) (r : Result Put StoreFault) → TellsWrongHash half (half form) form r → IfErr r IsUnderOwn
+under_own half form (Ok p) wrong = tt
+under_own half form (Err (fault.WrongHash h found)) wrong = wrong.0 refl
+under_own half form (Err (fault.Clash h old new)) wrong = tt
+under_own half form (Err fault.Fault) wrong = tt
+under_own half form (Err fault.Memory) wrong = tt
 
 -- other bytes aren't the same
 apart : (old form : Bytes) → old ≢ form → same_bytes old form ≡ false

@@ -19,7 +19,7 @@ use Rattle.ledger_spec.specs.Acquiring.{Acquiring}
 use Rattle.ledger_spec.proofs.shared.ReachLaws.{Grows, reach_grows}
 use Rattle.ledger_spec.proofs.shared.Storing.{in_one}
 use Rattle.rotating_store.specs.Stores.{Store, merged, nodes_of, born_of, Counted, with_pair}
-use Rattle.rotating_store.specs.Puts.{Puts, MayStore}
+use Rattle.rotating_store.specs.Puts.{Puts, MayStore, IsPlain}
 use Rattle.rotating_store.specs.declared.outcome.Put.{Put}
 use Rattle.rotating_store.specs.declared.outcome.Put.TheVariants as put
 use Rattle.rotating_store.specs.declared.outcome.StoreFault.{StoreFault}
@@ -576,6 +576,14 @@ finish_fault (Err fault.Fault) st st' cause = λ e. cause
 finish_fault (Err fault.Memory) st st' cause = λ e. cc
 finish_fault (Err (fault.Clash h old new)) st st' cause = absurd cause
 finish_fault (Err (fault.WrongHash h found)) st st' cause = absurd cause
+
+-- nothing else refuses the end of a rotation
+pub finish_plain : (result : Result ℕ StoreFault) (st st' : Store) → IfErr result (λ e. RefusedBy st e st') → IfErr result IsPlain
+finish_plain (Ok epoch) st st' cause = tt
+finish_plain (Err fault.Fault) st st' cause = tt
+finish_plain (Err fault.Memory) st st' cause = tt
+finish_plain (Err (fault.Clash h old new)) st st' cause = cause
+finish_plain (Err (fault.WrongHash h found)) st st' cause = cause
 
 -- a hash that was told just now, and the walk takes it
 pub just_told : (r r' : Turning) (h : Hash) → (r.turning ≡ true → Shades r h r') → (r.turning ≡ false → r' ≡ r) → r'.turning ≡ true

@@ -59,6 +59,11 @@ pub record KeepsForms {X : Type 0} (half : Half) (tells : Bool) (d : Desk) (name
   pub stays : Stays tells d d'
   pub fault : IfErr result (λ e. e ≡ faults.Fault → Rose d.faults d'.faults)
 
+-- why a form isn't stored under its own hash: no other one is found
+abbrev pub IsUnderOwn : StoreFault → Type 0
+IsUnderOwn (causes.WrongHash h found) = ⊥
+IsUnderOwn _ = Unit {0}
+
 -- why a form isn't stored that was put under its own hash
 abbrev pub unkept_by : StoreFault → OfferFault
 unkept_by (causes.Clash h old new) = faults.Clash h old new

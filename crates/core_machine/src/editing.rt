@@ -15,6 +15,7 @@ use crate::limits::{LAST_SEQ, MOST_SESSIONS};
 use crate::machine::Machine;
 use crate::refusals::unedited;
 use crate::tables::Tables;
+use cow_map::MapFault;
 use edit_session::Session;
 use half_hash::{Hash32, Memory, NodeHash, known_half};
 use ledger_header::Header;
@@ -243,7 +244,8 @@ impl<H: NodeHash, Sh: Shelf> Tables<H, Sh> {
     {
         match sessions.tx::<H, Sh>(alloc, &mut self.store, id, item) {
             Ok(was) => Ok(was),
-            Err(_) => Err(Memory),
+            Err(MapFault::Memory) => Err(Memory),
+            Err(_) => unreachable!(),
         }
     }
 }

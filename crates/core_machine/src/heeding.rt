@@ -22,7 +22,7 @@ use node_backend::{BackFault, Shelf};
 use node_offer::OfferFault;
 use node_wire::{WireFault, decode_wire};
 use online_rotate::Rotator;
-use rotating_store::{RotStore, StoreFault};
+use rotating_store::RotStore;
 use shamap_node::{Kind, hash_of};
 use std::alloc::Global;
 
@@ -174,7 +174,6 @@ fn heed_hash<Sh: Shelf>(
             Ok(()) => Ok(()),
             Err(_) => Err(BackFault::Memory),
         },
-        Err(StoreFault::Fault) => Err(BackFault::Fault),
-        Err(_) => Err(BackFault::Memory),
+        Err(fault) => Err(fault.plain()),
     }
 }

@@ -104,8 +104,7 @@ fn next_hash<Sh: Shelf>(
     match store.next(alloc, after) {
         Ok(Some(hash)) => Ok(if_after(hash, after)),
         Ok(None) => Ok(None),
-        Err(StoreFault::Fault) => Err(BackFault::Fault),
-        Err(_) => Err(BackFault::Memory),
+        Err(fault) => Err(fault.plain()),
     }
 }
 

@@ -1,7 +1,9 @@
 //! The replies, and the causes, that faults of the store, of an offer, a search, a session or a rotation come to.
-ghost use Rattle.std.specs.Prelude.{◌≡◌};
+ghost use Rattle.std.specs.Prelude.{◌≡◌, IfErr};
+ghost use Rattle.cow_map.specs.Sealing.{IsSealFault};
 ghost use Rattle.open_sessions.specs.Changed.{unedited as no_edit};
-ghost use Rattle.core_machine.specs.Closing.{kept_by, unkept_by, unsealed_by};
+ghost use Rattle.rotating_store.specs.Puts.{IsPlain};
+ghost use Rattle.core_machine.specs.Closing.{IsUnderOwn, kept_by, unkept_by, unsealed_by};
 ghost use Rattle.core_machine.specs.Refusals.{read_refusal, refusal_of, search_refusal};
 ghost use Rattle.core_machine.specs.Telling as turns;
 
@@ -45,26 +47,27 @@ pub(crate) fn unsearched(fault: SearchFault) -> Reply
 
 /// Why a rotation goes on.
 pub(crate) fn unended(fault: StoreFault) -> BackFault
+    requires { IsPlain fault }
     ensures { result ≡ turns.unended fault }
 {
-    match fault {
-        StoreFault::Fault => BackFault::Fault,
-        _ => BackFault::Memory,
-    }
+    fault.plain()
 }
 
 /// The reply where a ledger wasn't made: a form of it has the zero hash, or memory was wanted.
 pub(crate) fn unsealed(fault: MapFault) -> Reply
+    requires { IsSealFault fault }
     ensures { result ≡ unsealed_by fault }
 {
     match fault {
         MapFault::ZeroHash(form) => Reply::ZeroHash(form),
-        _ => Reply::Memory,
+        MapFault::Memory => Reply::Memory,
+        MapFault::Fault | MapFault::Absent(_) | MapFault::Shape { .. } => unreachable!(),
     }
 }
 
 /// Whether a form is stored now. A form that is put under its own hash isn't found under a wrong one.
 pub(crate) fn kept(put: Result<Put, StoreFault>) -> Result<(), OfferFault>
+    requires { IfErr put IsUnderOwn }
     ensures { result ≡ kept_by put }
 {
     match put {
@@ -75,12 +78,14 @@ pub(crate) fn kept(put: Result<Put, StoreFault>) -> Result<(), OfferFault>
 
 // Why a form isn't stored.
 fn unkept(fault: StoreFault) -> OfferFault
+    requires { IsUnderOwn fault }
     ensures { result ≡ unkept_by fault }
 {
     match fault {
         StoreFault::Clash { hash, old, new } => OfferFault::Clash { hash, old, new },
         StoreFault::Fault => OfferFault::Fault,
-        StoreFault::Memory | StoreFault::WrongHash { .. } => OfferFault::Memory,
+        StoreFault::Memory => OfferFault::Memory,
+        StoreFault::WrongHash { .. } => unreachable!(),
     }
 }
 

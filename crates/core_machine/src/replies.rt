@@ -1,5 +1,6 @@
 //! The machine's replies to what an acquisition and a rotation answer.
-ghost use Rattle.std.specs.Prelude.{◌≡◌};
+ghost use Rattle.std.specs.Prelude.{◌≡◌, IfErr};
+ghost use Rattle.rotating_store.specs.Puts.{IsPlain};
 ghost use Rattle.core_machine.specs.Wanting as told;
 ghost use Rattle.core_machine.specs.Telling as turns;
 
@@ -43,6 +44,7 @@ pub(crate) fn begin_told(begun: Begun) -> BeginReply
 
 /// What the end of a rotation comes to.
 pub(crate) fn swap_told(ended: Result<u64, StoreFault>) -> Result<SwapReply, BackFault>
+    requires { IfErr ended IsPlain }
     ensures { result ≡ turns.swap_told ended }
 {
     match ended {
@@ -53,6 +55,7 @@ pub(crate) fn swap_told(ended: Result<u64, StoreFault>) -> Result<SwapReply, Bac
 
 /// What a slice of a rotation comes to.
 pub(crate) fn slice_told(sliced: Result<Left, StoreFault>) -> Result<Left, BackFault>
+    requires { IfErr sliced IsPlain }
     ensures { result ≡ turns.slice_told sliced }
 {
     match sliced {

@@ -181,7 +181,9 @@ fn bytes_at<H: NodeHash, Sh: Shelf>(
     match store.get(alloc, h) {
         Ok(form) => Ok(form),
         Err(StoreFault::Fault) => Err(FetchFault::Fault),
-        Err(_) => Err(FetchFault::Memory),
+        Err(StoreFault::Memory) => Err(FetchFault::Memory),
+        Err(StoreFault::Clash { .. }) => unreachable!(),
+        Err(StoreFault::WrongHash { .. }) => unreachable!(),
     }
 }
 

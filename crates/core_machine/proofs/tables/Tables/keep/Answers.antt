@@ -7,7 +7,7 @@ use Rattle.rotating_store.specs.Puts.{Puts, TellsWrongHash}
 use Rattle.core_machine.specs.Desks.{state_of}
 use Rattle.core_machine.specs.Telling.{KeepsTurning}
 use Rattle.core_machine.proofs.Copies.{put_backs}
-use Rattle.core_machine.proofs.Kept.{keeps_by, told_keeps}
+use Rattle.core_machine.proofs.Kept.{keeps_by, told_keeps, under_own}
 use Rattle.core_machine.proofs.Turns.{keeps_shaded, keeps_put, just_told, hears_shaded, shaded_slices, told_shaded, on_ok}
 use Rattle.core_machine.proofs.tables.Tables.keep.Goals as goal
 
@@ -24,6 +24,12 @@ invariant_of-self-2 g c =
           c.put_hashed-put.ensures.puts
           (just_told c.self.inside.rotator c.shade.new.self h c.in-Ok.ensures.told (λ e. (c.in-Ok.ensures.idle e).1)),
     )
+
+-- the form's hash is the one that it is put under
+pub kept-requires : goal.kept-requires
+kept-requires g c =
+    under_own g.H.NodeHash.half c.args.form.now.form c.put_hashed-put.result
+    (rw (← c.requires, ← c.bytes.ensures) c.put_hashed-put.ensures.wrong)
 
 -- the store's put, over the state in which the rotation was told
 pub returns-clause-keeps : goal.returns-clause-keeps

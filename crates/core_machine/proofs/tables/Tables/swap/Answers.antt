@@ -3,7 +3,7 @@ use Rattle.std.proofs.Common.{rules}
 use Rattle.std.proofs.Common.{◌≡◌, true, [], sym, ◌∙◌, subst}
 use Rattle.core_machine.specs.Desks.{Desk}
 use Rattle.core_machine.proofs.shared.Sections.{finish_still}
-use Rattle.core_machine.proofs.Turns.{finish_keeps, finish_swaps, finish_stays, finish_grows, finish_fault}
+use Rattle.core_machine.proofs.Turns.{finish_keeps, finish_swaps, finish_stays, finish_grows, finish_fault, finish_plain}
 use Rattle.core_machine.proofs.tables.Tables.swap.Goals as goal
 
 pub invariant_of-self : goal.invariant_of-self
@@ -17,6 +17,10 @@ invariant_of-self g c =
           (λ told. c.finish-ended.ensures.ends.fit told (k.walks told) (k.fit told))
           (λ told. c.finish-ended.ensures.ends.walks told (k.walks told)),
     )
+
+pub swap_told-requires : goal.swap_told-requires
+swap_told-requires g c =
+    finish_plain c.finish-ended.result c.self.inside.store c.finish-ended.new.store c.finish-ended.ensures.ends.counts.cause
 
 pub returns : goal.returns
 returns g c = record {
