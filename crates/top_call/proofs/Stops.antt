@@ -17,7 +17,7 @@ use Rattle.stop_run.specs.declared.ended.StopEnd.{StopEnd}
 use Rattle.stop_run.specs.declared.ended.StopEnd.TheVariants as ends
 use Rattle.stop_run.specs.Ending.{MatchEnd, HasFailed, wanted_memory}
 use Rattle.top_call.specs.declared.status.TheConstants.{FINE, USAGE, SOURCE_FAILED, SINK_FAILED, STORE_FAILED, CLASHED, NO_MEMORY}
-use Rattle.top_call.specs.Asking.{Asks, AreCommand, IsScriptOf, WasRead, interval_in, quiet_in}
+use Rattle.top_call.specs.Asking.{Asks, AreCommand, IsRead, IsScriptOf, WasRead, interval_in, quiet_in}
 use Rattle.top_call.specs.Output.{met_fault, shows_clash, status_of}
 use Rattle.top_call.specs.Output as output
 use Rattle.top_call.specs.Stopping.{IsStop, HasNotRun, HasStopped, HasStopEnd, IsRunOf, at_in, pick_in}
@@ -37,12 +37,14 @@ no_source e = absurd (cc)
 
 -- the words are a command where there was a run
 pub run_usage : (words : List (Bor (List ℕ))) (status : ℕ) (held now : Option Bytes) (before after : ℕ) (Unread : Type 0)
-    → AreCommand words → OfRun status → IsUsage words status held now before after Unread
-run_usage words status held now before after Unread command one = record {
+    → AreCommand words → OfRun status → ((w : Words) → Asks words w → (IsRead w → ⊥) → Unread)
+    → IsUsage words status held now before after Unread
+run_usage words status held now before after Unread command one unasked = record {
   exact = (λ e. absurd (other e), λ no. absurd (no command));
   command = λ e. command;
   printed = λ e. absurd (other e);
   unread = λ e. absurd (other e);
+  unasked = unasked;
 }
   where
     other : status ≡ USAGE → ⊥

@@ -12,7 +12,7 @@ use Rattle.script_form.specs.Grammar.{IsRefused, most_read}
 use Rattle.run_words.specs.declared.words.Words.{Words}
 use Rattle.run_io.specs.Bytes.{Rose, Took, TookPart, Wrote, WrotePart}
 use Rattle.top_call.specs.Asking.{Asks, AreCommand, IsRead, IsRefusedAt, IsScriptOf, WasRead, HasScript}
-use Rattle.top_call.specs.Asking.{interval_in}
+use Rattle.top_call.specs.Asking.{interval_in, quiet_in, dump_in}
 use Rattle.top_call.specs.declared.status.TheConstants.{FINE, USAGE, REFUSED, SOURCE_FAILED, SINK_FAILED, STORE_FAILED}
 use Rattle.top_call.specs.declared.status.TheConstants.{CLASHED, NO_MEMORY}
 use Rattle.top_call.specs.declared.dump.DumpEnd.{DumpEnd}
@@ -115,6 +115,19 @@ IsCalm handed c = (c.faults ≡ handed) × (c.faults < 2 ^ 64 - 1)
 abbrev pub CountsFrom : ℕ → CoreView → Type 0
 CountsFrom handed c = (handed ≤ c.opened) × (c.opened ≤ c.faults)
 
+-- What a run says of the core that it left. `held` and `now` are what the sink held and holds, where it tells it; `handed` is the shelf's
+-- count of faults as it was handed in.
+pub record TellsOfRun (half : Half) (told : Bool) (words : List (Bor (List ℕ))) (left rest held now : Option Bytes) (handed status : ℕ)
+    (dump : DumpEnd) (c : CoreView) : Type 0 where
+  -- it is a run of the input
+  pub run : IsRunOfInput half told words left rest c
+  -- its journal was printed, as the words say
+  pub printed : (w : Words) → Asks words w → HasPrinted told (quiet_in w) (dump_in w) held now status dump c
+  -- the status is its own
+  pub ended : HasStatus half told status c
+  -- no count of faults went back
+  pub counts : CountsFrom handed c
+
 -- Completeness: how a run ends whose words are the command, which has a script, and in which no count of faults rose.
 pub record EndsWell (half : Half) (told : Bool) (words : List (Bor (List ℕ))) (left : Option Bytes) (status : ℕ)
     (core : Option CoreView) : Type 0 where
@@ -124,7 +137,7 @@ pub record EndsWell (half : Half) (told : Bool) (words : List (Bor (List ℕ))) 
   pub fine : IsTrue told → (w : Words) → Asks words w → HasScript half w left → IfSome core (HasNoCollision half)
       → IsOneOf status (FINE ∷ NO_MEMORY ∷ [])
 
--- Other words than the command's. `Unread` says that the source is as it was.
+-- Other words than the command's, and words for which nothing is read. `Unread` says that the source is as it was.
 pub record IsUsage (words : List (Bor (List ℕ))) (status : ℕ) (held now : Option Bytes) (before after : ℕ) (Unread : Type 0) : Type 0 where
   -- exactly these give the usage
   pub exact : (status ≡ USAGE) ↔ (AreCommand words → ⊥)
@@ -134,6 +147,8 @@ pub record IsUsage (words : List (Bor (List ℕ))) (status : ℕ) (held now : Op
   pub printed : status ≡ USAGE → WroteOrFailed held now before after usage_text
   -- nothing is read
   pub unread : status ≡ USAGE → Unread
+  -- nor where the words ask for no script that is read
+  pub unasked : (w : Words) → Asks words w → (IsRead w → ⊥) → Unread
 
 -- A refused script.
 pub record IsScriptRefusal (half : Half) (words : List (Bor (List ℕ))) (status : ℕ) (left rest held now : Option Bytes) (before after : ℕ)

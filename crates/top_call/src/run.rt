@@ -5,9 +5,8 @@ ghost use Rattle.run_io.specs.Bytes.{Rose};
 ghost use Rattle.rotating_store.specs.Stores.{Store};
 ghost use Rattle.run_words.specs.declared.words.Words.{Words as Said};
 ghost use Rattle.top_call.specs.declared.status.TheConstants.{NO_MEMORY};
-ghost use Rattle.top_call.specs.Asking.{Asks, quiet_in, dump_in, IsRead, WasRead};
-ghost use Rattle.top_call.specs.Top.{IsRunOfInput, HasPrinted};
-ghost use Rattle.top_call.specs.Top.{HasStatus, CountsFrom, IsCalm, EndsWell};
+ghost use Rattle.top_call.specs.Asking.{Asks, WasRead};
+ghost use Rattle.top_call.specs.Top.{TellsOfRun, IsCalm, EndsWell};
 ghost use Rattle.top_call.specs.Top.{IsUsage, IsScriptRefusal, HasCause, HasNotOpened};
 ghost use Rattle.stop_run.specs.Leaving.{AreLeft};
 ghost use Rattle.top_call.specs.Stopping.{HasStopEnd};
@@ -123,17 +122,11 @@ pub fn ledger_run<R: Threads + Wait + Sync, H: NodeHash, S: Source, K: Sink, Sh:
     shelf: Sh,
     gate: &G,
 ) -> Ended<H, Sh>
-    ensures run { IfSome result.core (IsRunOfInput H.half Sh.B.tells words.now (S.left source.old) (S.left source.new)) }
-    ensures printed { MatchOption result.core (result.dump ≡ DumpEnd.NotAsked)
-        (λ c. (w : Said) → Asks words.now w
-        → HasPrinted Sh.B.tells (quiet_in w) (dump_in w) (K.held sink.old) (K.held sink.new) result.status result.dump c) }
-    ensures status { IfSome result.core (HasStatus H.half Sh.B.tells result.status) }
+    ensures run { MatchOption result.core (result.dump ≡ DumpEnd.NotAsked) (TellsOfRun H.half Sh.B.tells words.now
+        (S.left source.old) (S.left source.new) (K.held sink.old) (K.held sink.new) (Sh.faults shelf) result.status result.dump) }
     ensures complete { (Rose (S.faults source.old) (S.faults source.new) → ⊥) → (Rose (K.faults sink.old) (K.faults sink.new) → ⊥)
         → IsNone result.stopped → IfSome result.core (IsCalm (Sh.faults shelf)) → IfSome result.unopened (λ u. u ≡ Unopened.Memory)
         → EndsWell H.half Sh.B.tells words.now (S.left source.old) result.status result.core }
-    ensures counts { IfSome result.core (CountsFrom (Sh.faults shelf)) }
-    // Where the words ask for no script that is read, nothing is read.
-    ensures unread { (w : Said) → Asks words.now w → (IsRead w → ⊥) → source.new ≡ source.old }
     ensures usage { IsUsage words.now result.status (K.held sink.old) (K.held sink.new) (K.faults sink.old) (K.faults sink.new)
         (source.new ≡ source.old) }
     ensures refusal { IsScriptRefusal H.half words.now result.status (S.left source.old) (S.left source.new)

@@ -14,71 +14,62 @@ use Rattle.top_call.proofs.run.ledger_run.Goals as goal
 -- running and printing keep the script's records and lines, so the full journal is a run of the script that was asked for; the interval is
 -- the one that the core was opened with. The words ask for nothing else.
 pub returns-clause-run : goal.returns-clause-run
-returns-clause-run g c =
-    let same = c.run_actors-core.ensures.same in
-    let listed = c.print_all-status.ensures.lists in
-    let lines = listed.lines ∙ same.lines ∙ c.in-Ok-open.ensures.script.lines in
-    let records = listed.records ∙ same.records ∙ c.in-Ok-open.ensures.script.records in
-    let script = script_as g.H.NodeHash.half c.in-Some.asked (g.S.Source.left c.args.source.now) _ _ _ _ (sym records) (sym lines)
-    c.in-Ok.ensures.script in
-    record {
-      script = λ w asks. asked_as g.H.NodeHash.half c.in-Some.asked w (g.S.Source.left c.args.source.now)
-          c.print_all-status.new.core.records c.print_all-status.new.core.lines (c.in-Some.ensures.only w asks) script;
-      read = λ w asks. subst (λ (x : Words). WasRead x (g.S.Source.left c.args.source.now) (g.S.Source.left c.script_for.new.source))
-          (sym (c.in-Some.ensures.only w asks)) c.in-Ok.ensures.read;
-      interval = λ w asks.
-          listed.interval ∙ same.interval ∙ c.in-Ok-open.ensures.script.interval ∙ c.interval_of.ensures
-          ∙ sym (ap interval_in (c.in-Some.ensures.only w asks));
-      whole = record {
-        kept = c.journal.ensures.kept;
-        full = full_as _ _ _ _ (sym listed.lines)
-            (sym listed.journal) c.run_actors-core.ensures.full;
+returns-clause-run g c = record {
+  run =
+      let same = c.run_actors-core.ensures.same in
+      let listed = c.print_all-status.ensures.lists in
+      let lines = listed.lines ∙ same.lines ∙ c.in-Ok-open.ensures.script.lines in
+      let records = listed.records ∙ same.records ∙ c.in-Ok-open.ensures.script.records in
+      let script = script_as g.H.NodeHash.half c.in-Some.asked (g.S.Source.left c.args.source.now) _ _ _ _ (sym records) (sym lines)
+      c.in-Ok.ensures.script in
+      record {
+        script = λ w asks. asked_as g.H.NodeHash.half c.in-Some.asked w (g.S.Source.left c.args.source.now)
+            c.print_all-status.new.core.records c.print_all-status.new.core.lines (c.in-Some.ensures.only w asks) script;
+        read = λ w asks. subst (λ (x : Words). WasRead x (g.S.Source.left c.args.source.now) (g.S.Source.left c.script_for.new.source))
+            (sym (c.in-Some.ensures.only w asks)) c.in-Ok.ensures.read;
+        interval = λ w asks.
+            listed.interval ∙ same.interval ∙ c.in-Ok-open.ensures.script.interval ∙ c.interval_of.ensures
+            ∙ sym (ap interval_in (c.in-Some.ensures.only w asks));
+        whole = record {
+          kept = c.journal.ensures.kept;
+          full = full_as _ _ _ _ (sym listed.lines)
+              (sym listed.journal) c.run_actors-core.ensures.full;
+        };
       };
-    }
-
--- the words ask for one run
-pub returns-clause-printed : goal.returns-clause-printed
-returns-clause-printed g c w asks =
-    let only = c.in-Some.ensures.only w asks in
-    let quiet : c.is_quiet.result ≡ quiet_in w = c.is_quiet.ensures ∙ sym (ap quiet_in only) in
-    let dump : c.has_dump.result ≡ dump_in w = c.has_dump.ensures ∙ sym (ap dump_in only) in
-    subst (λ (q : Bool). HasPrinted g.Sh.B.Backend.tells q (dump_in w) (g.K.Sink.held c.args.sink.now)
-    (g.K.Sink.held c.print_all-status.new.sink) c.print_all-status.result.0 c.print_all-status.result.1 c.print_all-status.new.core) quiet
-    (subst (λ (d : Bool). HasPrinted g.Sh.B.Backend.tells c.is_quiet.result d (g.K.Sink.held c.args.sink.now)
-    (g.K.Sink.held c.print_all-status.new.sink) c.print_all-status.result.0 c.print_all-status.result.1 c.print_all-status.new.core) dump
-    c.print_all-status.ensures.printed)
-
-pub returns-clause-status : goal.returns-clause-status
-returns-clause-status g c =
-    status_from g.H.NodeHash.half g.Sh.B.Backend.tells c.print_all-status.result.0 c.print_all-status.new.core
-    (g.K.Sink.faults c.args.sink.now) (g.K.Sink.faults c.print_all-status.new.sink) c.journal.ensures.kept c.print_all-status.ensures.said
+  -- the words ask for one run
+  printed = λ w asks.
+      let only = c.in-Some.ensures.only w asks in
+      let quiet : c.is_quiet.result ≡ quiet_in w = c.is_quiet.ensures ∙ sym (ap quiet_in only) in
+      let dump : c.has_dump.result ≡ dump_in w = c.has_dump.ensures ∙ sym (ap dump_in only) in
+      subst (λ (q : Bool). HasPrinted g.Sh.B.Backend.tells q (dump_in w) (g.K.Sink.held c.args.sink.now)
+      (g.K.Sink.held c.print_all-status.new.sink) c.print_all-status.result.0 c.print_all-status.result.1 c.print_all-status.new.core) quiet
+      (subst (λ (d : Bool). HasPrinted g.Sh.B.Backend.tells c.is_quiet.result d (g.K.Sink.held c.args.sink.now)
+      (g.K.Sink.held c.print_all-status.new.sink) c.print_all-status.result.0 c.print_all-status.result.1 c.print_all-status.new.core) dump
+      c.print_all-status.ensures.printed);
+  ended = status_from g.H.NodeHash.half g.Sh.B.Backend.tells c.print_all-status.result.0 c.print_all-status.new.core
+      (g.K.Sink.faults c.args.sink.now) (g.K.Sink.faults c.print_all-status.new.sink) c.journal.ensures.kept
+      c.print_all-status.ensures.said;
+  -- the store was opened with a count that isn't below the shelf's, and its count never falls
+  counts = (
+    omega (
+      arith,
+      c.print_all-status.ensures.lists.opened,
+      c.run_actors-core.ensures.same.opened,
+      c.in-Ok-open.ensures.opened.since,
+    ),
+    c.journal.ensures.kept.since,
+  );
+}
 
 pub returns-clause-refusal : goal.returns-clause-refusal
-returns-clause-refusal g c = run_refusal g.H.NodeHash.half _ _ _ _ _ _ _ _ _ _ _ _ (returns-clause-run g c).script
-    (returns-clause-status g c).one_of
-
--- the store was opened with a count that isn't below the shelf's, and its count never falls
-pub returns-clause-counts : goal.returns-clause-counts
-returns-clause-counts g c = (
-  omega (
-    arith,
-    c.print_all-status.ensures.lists.opened,
-    c.run_actors-core.ensures.same.opened,
-    c.in-Ok-open.ensures.opened.since,
-  ),
-  c.journal.ensures.kept.since,
-)
-
--- the words ask for nothing else
-pub returns-clause-unread : goal.returns-clause-unread
-returns-clause-unread g c w asks none =
-    c.script_for.ensures.unread (λ read. none (subst IsRead (sym (c.in-Some.ensures.only w asks)) read))
+returns-clause-refusal g c = run_refusal g.H.NodeHash.half _ _ _ _ _ _ _ _ _ _ _ _ (returns-clause-run g c).run.script
+    (returns-clause-run g c).ended.one_of
 
 pub returns-clause-complete : goal.returns-clause-complete
 returns-clause-complete g c _ calm _ still _ =
     ends_from g.H.NodeHash.half g.Sh.B.Backend.tells c.args.words.now (g.S.Source.left c.args.source.now) c.print_all-status.result.0
     (g.Sh.Shelf.faults c.args.shelf) c.print_all-status.new.core (g.K.Sink.faults c.args.sink.now)
-    (g.K.Sink.faults c.print_all-status.new.sink) c.journal.ensures.kept (returns-clause-counts g c) still calm
+    (g.K.Sink.faults c.print_all-status.new.sink) c.journal.ensures.kept (returns-clause-run g c).counts still calm
     c.print_all-status.ensures.said
 
 -- without a store there is no core and nothing is written, and the status tells a failure from want of memory
@@ -117,7 +108,9 @@ returns-in-Some-stop_of-clause-stopped g c =
     c.in-Some-stop_of.ensures.asked c.in-Some.ensures.only c.in-Ok.ensures.script c.in-Ok.ensures.read c.run_stop-status.ensures.ended)))
 
 pub returns-clause-usage : goal.returns-clause-usage
-returns-clause-usage g c = run_usage _ _ _ _ _ _ _ c.in-Some.ensures.command (returns-clause-status g c).one_of
+returns-clause-usage g c =
+    run_usage _ _ _ _ _ _ _ c.in-Some.ensures.command (returns-clause-run g c).ended.one_of
+    (λ w asks none. c.script_for.ensures.unread (λ read. none (subst IsRead (sym (c.in-Some.ensures.only w asks)) read)))
 
 -- other words ask for no such run
 pub returns-clause-stopped : goal.returns-clause-stopped
