@@ -1,4 +1,4 @@
-//! The bench, and beside it the open views with the headers of their ledgers, so that the root of a view's map is known without the store.
+//! The machine, and beside it the open views with their ledgers' headers, so that the root of a view's map is known without the store.
 ghost use Rattle.std.specs.Prelude.{◌≡◌, ◌≢◌, ◌⊎◌, ◌<◌, ◌^◌, [], None, Some, true, false, IsTrue, IfOk};
 ghost use Rattle.std.specs.Prelude.{IfSome, IsNone, IsSome, IsSomeAnd, MatchBool, MatchOption, length, map};
 ghost use Rattle.std.specs.FinMap as finite;
