@@ -1,5 +1,6 @@
 -- What a section leaves of what searches share, and what a check asks of the store.
-use Rattle.std.specs.Prelude.{◌≡◌, ◌⊎◌, ◌+◌, ◌≤◌, ℕ, Bool, IsTrue, true, List, [], length, Option, None, Some, IfSome, OnSome, MatchOption, IsSomeAnd}
+use Rattle.std.specs.Prelude.{◌≡◌, ◌⊎◌, ◌+◌, ◌≤◌, ℕ, Bool, IsTrue, true, List, [], length}
+use Rattle.std.specs.Prelude.{Option, None, Some, IfSome, OnSome, MatchOption, IsSomeAnd}
 use Rattle.std.specs.Bool.{⊤}
 use Rattle.ledger_spec.specs.Bytes.{Hash, Half}
 use Rattle.ledger_spec.specs.Findings.{Whole}
