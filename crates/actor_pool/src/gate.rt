@@ -20,6 +20,12 @@ pub enum Point {
 pub trait Gate: Sync {
     /// The actor comes to the point, and goes on as this call returns.
     fn pass(&self, actor: u8, point: Point);
+
+    /// Whether every call of `pass` returns at once and does nothing. An actor then needn't stop at its points, so that it may do several
+    /// lines in one section.
+    fn is_open(&self) -> bool {
+        false
+    }
 }
 
 /// A gate that lets every actor pass at once.
@@ -28,4 +34,8 @@ pub struct OpenGate;
 
 impl Gate for OpenGate {
     fn pass(&self, _actor: u8, _point: Point) {}
+
+    fn is_open(&self) -> bool {
+        true
+    }
 }

@@ -2,11 +2,9 @@
 //! would wait for the same few locks, and count the owners of the same few nodes, at each of their reads.
 ghost use Rattle.std.specs.Prelude.{◌≡◌, IfSome};
 ghost use Rattle.ledger_spec.specs.Forms.{hash_of};
-ghost use Rattle.path_proof.specs.Sources.{HasHash};
 ghost use Rattle.shamap_node.specs.Nodes.{held};
 
 use half_hash::{Hash32, NodeHash};
-use path_proof::FetchFault;
 use read_cache::Shard;
 use shamap_node::Node;
 use std::alloc::Global;
@@ -15,34 +13,23 @@ use std::sync::Arc;
 /// How many levels are kept, of at most 1, 16 and 256 nodes.
 const LEVELS: u8 = 3;
 
-/// A shard round which no lock is, and how many levels below a root its reader has come.
+/// A shard round which no lock is.
 #[derive(Drop)]
 pub(crate) struct Near<H: NodeHash> {
     shard: Shard<H>,
-    depth: u8,
 }
 
 impl<H: NodeHash> Near<H> {
     /// Without nodes.
     pub(crate) fn new(shard: Shard<H>) -> Near<H> {
-        Near { shard, depth: 0 }
+        Near { shard }
     }
 
-    /// A read begins at a root.
-    pub(crate) fn begin(&mut self) {
-        self.depth = 0;
-    }
-
-    /// A read goes on one level below.
-    pub(crate) fn descend(&mut self) {
-        self.depth = self.depth.saturating_add(1);
-    }
-
-    /// The copy that is kept of the node with this hash; want of memory is passed over.
-    pub(crate) fn find(&mut self, h: &Hash32) -> Option<Arc<Node>>
+    /// The copy that is kept of the node with this hash, which stands at this depth; want of memory is passed over.
+    pub(crate) fn find(&mut self, depth: u8, h: &Hash32) -> Option<Arc<Node>>
         ensures { IfSome result (λ a. hash_of H.half (held a.value) ≡ h.now) }
     {
-        if self.depth >= LEVELS {
+        if depth >= LEVELS {
             return None;
         }
         match self.shard.find(h) {
@@ -51,22 +38,14 @@ impl<H: NodeHash> Near<H> {
         }
     }
 
-    /// Keeps a copy of an inner node that was given for this hash; want of memory is passed over.
-    pub(crate) fn keep(
-        &mut self,
-        alloc: Global,
-        h: &Hash32,
-        given: &Result<Option<Arc<Node>>, FetchFault>,
-    )
-        requires { HasHash H.half h.now given.now }
+    /// Keeps a copy of an inner node with this hash, which stands at this depth; want of memory is passed over.
+    pub(crate) fn keep(&mut self, alloc: Global, depth: u8, h: &Hash32, node: &Node)
+        requires { hash_of H.half (held node.now) ≡ h.now }
     {
-        if self.depth >= LEVELS {
+        if depth >= LEVELS {
             return;
         }
-        let Ok(Some(node)) = given else {
-            return;
-        };
-        let Node::Inner(inner) = &**node else {
+        let Node::Inner(inner) = node else {
             return;
         };
         if let Ok(own) = Arc::new(alloc, Node::Inner(*inner)) {

@@ -9,9 +9,10 @@ use crate::gate::{Gate, Point};
 use crate::near::Near;
 use crate::reading::read_outside;
 use crate::shared::{
-    Pinned, Section, Shared, answered_locked, commit_locked, is_left_locked, job_locked,
+    Pinned, Section, Shared, Stride, answered_locked, commit_locked, is_left_locked, reads_locked,
     step_locked, unlocked,
 };
+use crate::worker::Worker;
 use half_hash::NodeHash;
 use ledger_machine::Line;
 use node_backend::Shelf;
@@ -28,6 +29,12 @@ const ACTORS: u8 = 64;
 
 /// The most sections of a line that is done in slices, more than a store can make needful.
 const SECTIONS: u32 = u32::MAX;
+
+/// How many lines of an actor a section answers at most, where no gate is passed between them.
+const LINES: u32 = 64;
+
+/// For how many reads an actor goes down before it hands in what it got, where no gate is passed between them.
+const READS: usize = 4;
 
 /// How often a worker tries a line that waits before it leaves it to the next round.
 const TRIES: u32 = 64;
@@ -147,38 +154,63 @@ fn work<R: Wait, H: NodeHash, Sh: Shelf, G: Gate, J: Pinned>(
         return;
     };
     let mut near = Near::new(shard);
-    let mut job = job_locked(rt, shared, actor);
+    let worker = Worker {
+        rt,
+        alloc,
+        shared,
+        cache,
+        gate,
+        actor,
+        stride: stride_of(gate),
+    };
+    let mut jobs = reads_locked(rt, alloc, shared, actor, worker.stride);
     for _ in 0..lines {
-        match answer(rt, alloc, shared, cache, &mut near, gate, actor, job) {
-            Some(next) => job = next,
+        match answer(&worker, &mut near, jobs) {
+            Some(next) => jobs = next,
             None => break,
         }
     }
 }
 
-/// Tries the actor's next line until it is answered, at first as the read that it is known to ask for. It gives the read that the line
-/// behind it asks for, if any; none where there is no line, or it still waits.
+// One line and one read at a time where a gate is passed between them.
+fn stride_of<G: Gate>(gate: &G) -> Stride {
+    if gate.is_open() {
+        Stride {
+            lines: LINES,
+            reads: READS,
+        }
+    } else {
+        Stride { lines: 1, reads: 1 }
+    }
+}
+
+/// Tries the actor's next line until it is answered, at first as the reads that it and those behind it are known to ask for. It gives the
+/// reads that the lines behind ask for, if any; none where there is no line, or it still waits.
 fn answer<R: Wait, H: NodeHash, Sh: Shelf, G: Gate, J: Pinned>(
-    rt: &R,
-    alloc: Global,
-    shared: &Mutex<Shared<H, Sh, J>>,
-    cache: &ReadCache<H>,
+    worker: &Worker<R, H, Sh, G, J>,
     near: &mut Near<H>,
-    gate: &G,
-    actor: u8,
-    job: Option<ReadJob>,
-) -> Option<Option<ReadJob>> {
-    let mut job = job;
+    jobs: Vec<ReadJob>,
+) -> Option<Vec<ReadJob>> {
+    let mut jobs = jobs;
     for _ in 0..TRIES {
-        let Section { stepped, next } = try_line(rt, alloc, shared, cache, near, gate, actor, job);
+        let Section {
+            stepped,
+            jobs: next,
+        } = try_line(worker, near, jobs);
         match stepped {
             Stepped::Answered => {
-                gate.pass(actor, Point::Answered);
+                worker.gate.pass(worker.actor, Point::Answered);
                 return Some(next);
             }
             Stepped::Blocked | Stepped::More => {
                 thread::yield_now();
-                job = job_locked(rt, shared, actor);
+                jobs = reads_locked(
+                    worker.rt,
+                    worker.alloc,
+                    worker.shared,
+                    worker.actor,
+                    worker.stride,
+                );
             }
             Stepped::Finished => return None,
         }
@@ -188,48 +220,59 @@ fn answer<R: Wait, H: NodeHash, Sh: Shelf, G: Gate, J: Pinned>(
 
 /// Does sections of the actor's next line as long as each is a slice of a swap or of a check.
 fn try_line<R: Wait, H: NodeHash, Sh: Shelf, G: Gate, J: Pinned>(
-    rt: &R,
-    alloc: Global,
-    shared: &Mutex<Shared<H, Sh, J>>,
-    cache: &ReadCache<H>,
+    worker: &Worker<R, H, Sh, G, J>,
     near: &mut Near<H>,
-    gate: &G,
-    actor: u8,
-    job: Option<ReadJob>,
+    jobs: Vec<ReadJob>,
 ) -> Section {
-    let mut job = job;
+    let mut jobs = jobs;
     for _ in 0..SECTIONS {
-        let done = section(rt, alloc, shared, cache, near, gate, actor, job);
-        match done.stepped {
-            Stepped::More => gate.pass(actor, Point::BetweenSlices),
-            _ => return done,
+        let Section {
+            stepped,
+            jobs: next,
+        } = section(worker, near, jobs);
+        match stepped {
+            Stepped::More => worker.gate.pass(worker.actor, Point::BetweenSlices),
+            _ => {
+                return Section {
+                    stepped,
+                    jobs: next,
+                };
+            }
         }
-        job = done.next;
+        jobs = next;
     }
     Section {
         stepped: Stepped::More,
-        next: None,
+        jobs: Vec::new(worker.alloc),
     }
 }
 
-/// One section of the actor's next line. A read is done outside of the core's lock, and what that gives is handed in.
+/// One section of the actor's next lines. Reads are done outside of the core's lock, and what they give is handed in.
 fn section<R: Wait, H: NodeHash, Sh: Shelf, G: Gate, J: Pinned>(
-    rt: &R,
-    alloc: Global,
-    shared: &Mutex<Shared<H, Sh, J>>,
-    cache: &ReadCache<H>,
+    worker: &Worker<R, H, Sh, G, J>,
     near: &mut Near<H>,
-    gate: &G,
-    actor: u8,
-    job: Option<ReadJob>,
+    jobs: Vec<ReadJob>,
 ) -> Section {
-    let Some(job) = job else {
-        gate.pass(actor, Point::BeforeCommit);
-        return step_locked(rt, alloc, shared, actor);
-    };
-    let handed = read_outside(rt, alloc, shared, cache, near, gate, actor, job);
-    gate.pass(actor, Point::BeforeCommit);
-    commit_locked(rt, alloc, shared, actor, handed)
+    if jobs.is_empty() {
+        worker.gate.pass(worker.actor, Point::BeforeCommit);
+        return step_locked(
+            worker.rt,
+            worker.alloc,
+            worker.shared,
+            worker.actor,
+            worker.stride,
+        );
+    }
+    let handed = read_outside(worker, near, jobs);
+    worker.gate.pass(worker.actor, Point::BeforeCommit);
+    commit_locked(
+        worker.rt,
+        worker.alloc,
+        worker.shared,
+        worker.actor,
+        handed,
+        worker.stride,
+    )
 }
 
 /// Answers every line that has no entry yet, in line order.

@@ -10,121 +10,194 @@ ghost use Rattle.shamap_node.specs.Nodes.{held};
 ghost use Rattle.store_core.specs.Reads.{IsSaid};
 
 use crate::gate::{Gate, Point};
+use crate::given::{Given, Lack};
 use crate::near::Near;
-use crate::shared::{Pinned, Shared, form_locked};
-use half_hash::{Hash32, NodeHash};
+use crate::shared::{Pinned, form_locked, forms_below_locked};
+use crate::worker::Worker;
+use half_hash::{Blob, Hash32, NodeHash};
+use nib_path::nibble;
 use node_backend::{Backend, Shelf};
 use path_proof::{Answer, FetchFault, Outcome, Progress, ReadFault, Reading, node_of_form};
-use read_cache::ReadCache;
 use shamap_node::Node;
 use std::alloc::Global;
-use std::sync::{Arc, Mutex, Wait};
+use std::sync::{Arc, Wait};
 use store_core::{Followed, ReadJob};
 
-/// What a reader gets for a job: the nodes from the root on by the key's nibbles, and what they say; or why there are none.
+/// What a reader gets for each of these jobs: the nodes from the root on by the key's nibbles, and what they say; or why there are none.
+/// The nodes that it lacks are given in one section, where no gate is passed. Where memory is refused the last jobs are left out.
 pub(crate) fn read_outside<R: Wait, H: NodeHash, Sh: Shelf, G: Gate, J: Pinned>(
-    rt: &R,
-    alloc: Global,
-    shared: &Mutex<Shared<H, Sh, J>>,
-    cache: &ReadCache<H>,
+    worker: &Worker<R, H, Sh, G, J>,
     near: &mut Near<H>,
-    gate: &G,
-    actor: u8,
+    jobs: Vec<ReadJob>,
+) -> Vec<Followed<H>> {
+    let given = given_to(worker, near, &jobs);
+    let mut got = Vec::new(worker.alloc);
+    for job in jobs {
+        if got.push(followed(worker, near, job, &given)).is_err() {
+            break;
+        }
+    }
+    got
+}
+
+// The bytes that are lacking for these jobs, where they may be given together.
+fn given_to<R: Wait, H: NodeHash, Sh: Shelf, G: Gate, J: Pinned>(
+    worker: &Worker<R, H, Sh, G, J>,
+    near: &mut Near<H>,
+    jobs: &[ReadJob],
+) -> Vec<Given<H, Sh>> {
+    if jobs.len() < 2 {
+        return Vec::new(worker.alloc);
+    }
+    let mut lacks = Vec::new(worker.alloc);
+    for job in jobs {
+        if let Some(lack) = lack_of(worker, near, job) {
+            let _ = lacks.push(lack);
+        }
+    }
+    if lacks.is_empty() {
+        return Vec::new(worker.alloc);
+    }
+    forms_below_locked(worker.rt, worker.alloc, worker.shared, worker.actor, &lacks)
+}
+
+// The first node on the way to a job's key that isn't kept, if one isn't.
+fn lack_of<R: Wait, H: NodeHash, Sh: Shelf, G: Gate, J: Pinned>(
+    worker: &Worker<R, H, Sh, G, J>,
+    near: &mut Near<H>,
+    job: &ReadJob,
+) -> Option<Lack> {
+    let mut hash = job.root;
+    for depth in 0..64 {
+        if hash.is_zero() {
+            return None;
+        }
+        let Some(node) = kept(worker, near, depth, &hash) else {
+            return Some(Lack {
+                hash,
+                depth,
+                key: job.key,
+            });
+        };
+        match &*node {
+            Node::Inner(inner) => hash = inner.branch(nibble(&job.key.bytes, depth)),
+            Node::Leaf(_) => return None,
+        }
+    }
+    None
+}
+
+// What the reader gets for one job, with the bytes that are given for nodes.
+fn followed<R: Wait, H: NodeHash, Sh: Shelf, G: Gate, J: Pinned>(
+    worker: &Worker<R, H, Sh, G, J>,
+    near: &mut Near<H>,
     job: ReadJob,
+    given: &[Given<H, Sh>],
 ) -> Followed<H> {
     let got = if job.root.is_zero() {
         Ok(Answer {
             outcome: Outcome::Nothing,
-            used: Vec::new(alloc),
+            used: Vec::new(worker.alloc),
         })
     } else {
-        go_down(rt, alloc, shared, cache, near, gate, actor, &job)
+        go_down(worker, near, &job, given)
     };
     Followed::new(job, got)
 }
 
 // The same below a root whose hash isn't zero.
 fn go_down<R: Wait, H: NodeHash, Sh: Shelf, G: Gate, J: Pinned>(
-    rt: &R,
-    alloc: Global,
-    shared: &Mutex<Shared<H, Sh, J>>,
-    cache: &ReadCache<H>,
+    worker: &Worker<R, H, Sh, G, J>,
     near: &mut Near<H>,
-    gate: &G,
-    actor: u8,
     job: &ReadJob,
+    given: &[Given<H, Sh>],
 ) -> Result<Answer, ReadFault>
     requires { is_zero job.now.root ≡ false }
     ensures { IsSaid H.half job.now result }
 {
-    let mut reading = Reading::at_root(alloc, &job.root);
-    near.begin();
+    let mut reading = Reading::at_root(worker.alloc, &job.root);
+    let mut depth: u8 = 0;
     loop {
-        let given = node_near(
-            rt,
-            alloc,
-            shared,
-            cache,
-            near,
-            gate,
-            actor,
-            reading.wanted(),
-        );
-        near.descend();
-        match reading.go_on::<H>(given, job.kind, &job.key)? {
+        let node = node_of(worker, near, depth, reading.wanted(), given);
+        depth = depth.saturating_add(1);
+        match reading.go_on::<H>(node, job.kind, &job.key)? {
             Progress::More(next) => reading = next,
             Progress::Done(answer) => return Ok(answer),
         }
     }
 }
 
-// The node of a hash: the copy that the reader keeps for itself, or the one that all readers get.
-fn node_near<R: Wait, H: NodeHash, Sh: Shelf, G: Gate, J: Pinned>(
-    rt: &R,
-    alloc: Global,
-    shared: &Mutex<Shared<H, Sh, J>>,
-    cache: &ReadCache<H>,
+// The node of a hash, where the reader keeps a copy of it or the cache has it; want of memory is passed over.
+fn kept<R: Wait, H: NodeHash, Sh: Shelf, G: Gate, J: Pinned>(
+    worker: &Worker<R, H, Sh, G, J>,
     near: &mut Near<H>,
-    gate: &G,
-    actor: u8,
+    depth: u8,
     h: &Hash32,
-) -> Result<Option<Arc<Node>>, FetchFault>
-    ensures { HasHash H.half h.now result }
+) -> Option<Arc<Node>>
+    ensures { IfSome result (λ a. hash_of H.half (held a.value) ≡ h.now) }
 {
-    if let Some(node) = near.find(h) {
-        return Ok(Some(node));
+    if let Some(node) = near.find(depth, h) {
+        return Some(node);
     }
-    let given = node_of(rt, alloc, shared, cache, gate, actor, h);
-    near.keep(alloc, h, &given);
-    given
+    let node = match worker.cache.get(worker.rt, h) {
+        Ok(found) => found?,
+        Err(_) => return None,
+    };
+    near.keep(worker.alloc, depth, h, &node);
+    Some(node)
 }
 
-// The node of a hash: the one that the cache has, or that of the bytes which the core gives, which is put into the cache.
+// The node of a hash: one that is kept, or that of the bytes which are given for it, which is kept then.
 fn node_of<R: Wait, H: NodeHash, Sh: Shelf, G: Gate, J: Pinned>(
-    rt: &R,
-    alloc: Global,
-    shared: &Mutex<Shared<H, Sh, J>>,
-    cache: &ReadCache<H>,
-    gate: &G,
-    actor: u8,
+    worker: &Worker<R, H, Sh, G, J>,
+    near: &mut Near<H>,
+    depth: u8,
+    h: &Hash32,
+    given: &[Given<H, Sh>],
+) -> Result<Option<Arc<Node>>, FetchFault>
+    ensures { HasHash H.half h.now result }
+{
+    if let Some(node) = kept(worker, near, depth, h) {
+        return Ok(Some(node));
+    }
+    let node = match given_for(given, h) {
+        Some(form) => decoded::<H, Sh>(worker.alloc, h, form.bytes())?,
+        None => fetched(worker, h)?,
+    };
+    let Some(node) = node else {
+        return Ok(None);
+    };
+    near.keep(worker.alloc, depth, h, &node);
+    keep(worker, h, &node);
+    Ok(Some(node))
+}
+
+// The bytes that are given for a hash, if there are any.
+fn given_for<'a, H: NodeHash, Sh: Shelf>(given: &'a [Given<H, Sh>], h: &Hash32) -> Option<&'a Blob>
+    ensures { IfSome result (λ form. IsTrue Sh.B.tells → H.half form.now ≡ h.now) }
+{
+    for one in given {
+        if one.hash.equals(h) {
+            return Some(&one.form);
+        }
+    }
+    None
+}
+
+// The node of the bytes that the core gives for a hash in a section of its own.
+fn fetched<R: Wait, H: NodeHash, Sh: Shelf, G: Gate, J: Pinned>(
+    worker: &Worker<R, H, Sh, G, J>,
     h: &Hash32,
 ) -> Result<Option<Arc<Node>>, FetchFault>
     ensures { HasHash H.half h.now result }
 {
-    if let Some(node) = cached(rt, cache, h) {
-        return Ok(Some(node));
+    worker.gate.pass(worker.actor, Point::BeforeFetch);
+    let form = form_locked(worker.rt, worker.alloc, worker.shared, worker.actor, h);
+    worker.gate.pass(worker.actor, Point::AfterFetch);
+    match form? {
+        Some(form) => decoded::<H, Sh>(worker.alloc, h, form.bytes()),
+        None => Ok(None),
     }
-    gate.pass(actor, Point::BeforeFetch);
-    let form = form_locked(rt, alloc, shared, actor, h);
-    gate.pass(actor, Point::AfterFetch);
-    let Some(form) = form? else {
-        return Ok(None);
-    };
-    let node = decoded::<H, Sh>(alloc, h, form.bytes());
-    if let Ok(Some(node)) = &node {
-        keep(rt, cache, h, node);
-    }
-    node
 }
 
 // The node of the bytes that are stored under a hash. They are hashed where the store doesn't tell what it holds; where it does they have
@@ -144,21 +217,15 @@ fn decoded<H: NodeHash, Sh: Shelf>(
     }
 }
 
-// The node that the cache has; want of memory is passed over.
-fn cached<R: Wait, H: NodeHash>(rt: &R, cache: &ReadCache<H>, h: &Hash32) -> Option<Arc<Node>>
-    ensures { IfSome result (λ a. hash_of H.half (held a.value) ≡ h.now) }
-{
-    match cache.get(rt, h) {
-        Ok(found) => found,
-        Err(_) => None,
-    }
-}
-
 // Puts a node that was fetched under this hash into the cache; want of memory is passed over.
-fn keep<R: Wait, H: NodeHash>(rt: &R, cache: &ReadCache<H>, h: &Hash32, node: &Arc<Node>)
+fn keep<R: Wait, H: NodeHash, Sh: Shelf, G: Gate, J: Pinned>(
+    worker: &Worker<R, H, Sh, G, J>,
+    h: &Hash32,
+    node: &Arc<Node>,
+)
     requires { hash_of H.half (held node.now.value) ≡ h.now }
 {
     if let Ok(node) = Arc::try_clone(node) {
-        let _ = cache.put_hashed(rt, h, node);
+        let _ = worker.cache.put_hashed(worker.rt, h, node);
     }
 }

@@ -2,10 +2,14 @@
 ghost use Rattle.std.specs.Prelude.{◌≡◌, IfOk, IfSome, IsTrue};
 ghost use Rattle.actor_pool.specs.Order.{IsOf};
 
+use crate::ahead::reads_from;
+use crate::given::{Given, Lack};
 use half_hash::{Blob, Hash32, NodeHash};
+use nib_path::nibble;
 use node_backend::{Backend, Shelf};
 use path_proof::FetchFault;
 use read_cache::take_lock;
+use shamap_node::branch_of_form;
 use std::alloc::Global;
 use std::marker::{Brand, Model, PhantomData};
 use std::sync::{Mutex, Wait};
@@ -25,12 +29,19 @@ impl Pinned for Brand {
     ghost run = { record { records = []; lines = []; interval = 0; opened = 0; missed = 0 } };
 }
 
-/// What a section of an actor's next line came to, and the read that the line behind it asks for, if it asks for one. That is taken in
-/// the same section, so that a reader needs no other one for it.
+/// How many lines of an actor a section answers at most, and for how many reads an actor goes down before it hands in what it got.
 #[derive(Clone, Copy, Debug)]
+pub(crate) struct Stride {
+    pub(crate) lines: u32,
+    pub(crate) reads: usize,
+}
+
+/// What the last line of a section came to, and the reads that the actor's lines behind it ask for, if they ask for any. Those are taken
+/// in the same section, so that a reader needs no other one for them.
+#[derive(Drop)]
 pub(crate) struct Section {
     pub(crate) stepped: Stepped,
-    pub(crate) next: Option<ReadJob>,
+    pub(crate) jobs: Vec<ReadJob>,
 }
 
 /// A core of the pinned run.
@@ -66,23 +77,47 @@ impl<H: NodeHash, Sh: Shelf, J: Pinned> Shared<H, Sh, J> {
         }
     }
 
-    /// One section for the actor's next line.
-    pub(crate) fn step(&mut self, alloc: Global, actor: u8) -> Section {
-        let stepped = self.core.step(alloc, actor);
-        self.section(actor, stepped)
+    /// One section for the actor's next lines. It ends behind one that isn't answered, and before one that asks for a read.
+    pub(crate) fn step(&mut self, alloc: Global, actor: u8, stride: Stride) -> Section {
+        let mut stepped = self.line(alloc, actor);
+        for _ in 1..stride.lines {
+            if !is_answered(stepped) || self.asks(actor) {
+                break;
+            }
+            stepped = self.line(alloc, actor);
+        }
+        self.section(alloc, actor, stepped, stride)
     }
 
-    // A section that came to this, with the read that is asked for behind it.
-    fn section(&self, actor: u8, stepped: Stepped) -> Section {
+    // One step of the actor.
+    fn line(&mut self, alloc: Global, actor: u8) -> Stepped {
+        self.core.step(alloc, actor)
+    }
+
+    // One step of the actor, with what a reader got for it.
+    fn take(&mut self, alloc: Global, actor: u8, handed: Followed<H>) -> Stepped {
+        self.core.commit_followed(alloc, actor, handed)
+    }
+
+    // Whether the actor's next line asks for a read.
+    fn asks(&self, actor: u8) -> bool {
+        self.core.read_job(actor).is_some()
+    }
+
+    // A section that came to this, with the reads that are asked for behind it.
+    fn section(&self, alloc: Global, actor: u8, stepped: Stepped, stride: Stride) -> Section {
         Section {
             stepped,
-            next: self.core.read_job(actor),
+            jobs: self.reads(alloc, actor, stride),
         }
     }
 
-    /// The read that the actor's next line asks for.
-    pub(crate) fn read_job(&self, actor: u8) -> Option<ReadJob> {
-        self.core.read_job(actor)
+    /// The reads that the actor's next lines ask for.
+    pub(crate) fn reads(&self, alloc: Global, actor: u8, stride: Stride) -> Vec<ReadJob> {
+        match self.core.read_job(actor) {
+            Some(first) => reads_from(alloc, &self.core.script().lines, actor, first, stride.reads),
+            None => Vec::new(alloc),
+        }
     }
 
     /// The bytes that are stored under a hash.
@@ -97,10 +132,65 @@ impl<H: NodeHash, Sh: Shelf, J: Pinned> Shared<H, Sh, J> {
         self.core.form_at(alloc, actor, h)
     }
 
-    /// One section for the actor's next line, with what a reader got for it.
-    pub(crate) fn commit(&mut self, alloc: Global, actor: u8, handed: Followed<H>) -> Section {
-        let stepped = self.core.commit_followed(alloc, actor, handed);
-        self.section(actor, stepped)
+    /// The bytes that these reads lack, each down to the end of its path. Where memory is refused, or the device fails, some are left out.
+    pub(crate) fn forms_below(
+        &mut self,
+        alloc: Global,
+        actor: u8,
+        lacks: &[Lack],
+    ) -> Vec<Given<H, Sh>> {
+        let mut given = Vec::new(alloc);
+        for lack in lacks {
+            self.path_below(alloc, actor, lack, &mut given);
+        }
+        given
+    }
+
+    // The bytes below a place on the way to a key.
+    fn path_below(&mut self, alloc: Global, actor: u8, lack: &Lack, given: &mut Vec<Given<H, Sh>>) {
+        let mut hash = lack.hash;
+        for depth in lack.depth..64 {
+            let Ok(Some(form)) = self.form_at(alloc, actor, &hash) else {
+                return;
+            };
+            let below = branch_of_form(form.bytes(), nibble(&lack.key.bytes, depth));
+            let one = Given {
+                hash,
+                form,
+                of: PhantomData,
+            };
+            if given.push(one).is_err() {
+                return;
+            }
+            match below {
+                Some(next) if !next.is_zero() => hash = next,
+                _ => return,
+            }
+        }
+    }
+
+    /// One section for the actor's next lines, with what a reader got for the first of them.
+    pub(crate) fn commit(
+        &mut self,
+        alloc: Global,
+        actor: u8,
+        handed: Vec<Followed<H>>,
+        stride: Stride,
+    ) -> Section {
+        if handed.is_empty() {
+            return self.step(alloc, actor, stride);
+        }
+        let mut last = Stepped::Answered;
+        for one in handed {
+            last = self.take(alloc, actor, one);
+            if !is_answered(last) {
+                break;
+            }
+        }
+        if is_answered(last) && stride.lines > 1 && !self.asks(actor) {
+            return self.step(alloc, actor, stride);
+        }
+        self.section(alloc, actor, last, stride)
     }
 
     /// How many lines have their entries.
@@ -121,23 +211,34 @@ impl<H: NodeHash, Sh: Shelf, J: Pinned> Shared<H, Sh, J> {
     }
 }
 
-/// One section for the actor's next line.
+// Whether a section came to an entry.
+fn is_answered(stepped: Stepped) -> bool {
+    match stepped {
+        Stepped::Answered => true,
+        _ => false,
+    }
+}
+
+/// One section for the actor's next lines.
 pub(crate) fn step_locked<H: NodeHash, Sh: Shelf, J: Pinned>(
     rt: &impl Wait,
     alloc: Global,
     shared: &Mutex<Shared<H, Sh, J>>,
     actor: u8,
+    stride: Stride,
 ) -> Section {
-    take_lock(rt, shared).step(alloc, actor)
+    take_lock(rt, shared).step(alloc, actor, stride)
 }
 
-/// The read that the actor's next line asks for.
-pub(crate) fn job_locked<H: NodeHash, Sh: Shelf, J: Pinned>(
+/// The reads that the actor's next lines ask for.
+pub(crate) fn reads_locked<H: NodeHash, Sh: Shelf, J: Pinned>(
     rt: &impl Wait,
+    alloc: Global,
     shared: &Mutex<Shared<H, Sh, J>>,
     actor: u8,
-) -> Option<ReadJob> {
-    take_lock(rt, shared).read_job(actor)
+    stride: Stride,
+) -> Vec<ReadJob> {
+    take_lock(rt, shared).reads(alloc, actor, stride)
 }
 
 /// The bytes that are stored under a hash, in a section of its own.
@@ -153,15 +254,27 @@ pub(crate) fn form_locked<H: NodeHash, Sh: Shelf, J: Pinned>(
     take_lock(rt, shared).form_at(alloc, actor, h)
 }
 
-/// One section for the actor's next line, with what a reader got for it.
+/// The bytes that these reads lack, each down to the end of its path, in one section.
+pub(crate) fn forms_below_locked<H: NodeHash, Sh: Shelf, J: Pinned>(
+    rt: &impl Wait,
+    alloc: Global,
+    shared: &Mutex<Shared<H, Sh, J>>,
+    actor: u8,
+    lacks: &[Lack],
+) -> Vec<Given<H, Sh>> {
+    take_lock(rt, shared).forms_below(alloc, actor, lacks)
+}
+
+/// One section for the actor's next lines, with what a reader got for the first of them.
 pub(crate) fn commit_locked<H: NodeHash, Sh: Shelf, J: Pinned>(
     rt: &impl Wait,
     alloc: Global,
     shared: &Mutex<Shared<H, Sh, J>>,
     actor: u8,
-    handed: Followed<H>,
+    handed: Vec<Followed<H>>,
+    stride: Stride,
 ) -> Section {
-    take_lock(rt, shared).commit(alloc, actor, handed)
+    take_lock(rt, shared).commit(alloc, actor, handed, stride)
 }
 
 /// How many lines have their entries.

@@ -13,8 +13,8 @@ loop-next-init g c =
 -- a node of the hash that is wanted leads on to the next place
 pub loop-next-preserved : goal.loop-next-preserved
 loop-next-preserved g c =
-    let fetched = fetched_as g.H.NodeHash.half false (λ h. None) (λ h. None) c.wanted.result.now _ c.node_near-given.result c.wanted.ensures
-    (λ told. refl) c.node_near-given.ensures (λ told. absurd (false≢true told)) in
+    let fetched = fetched_as g.H.NodeHash.half false (λ h. None) (λ h. None) c.wanted.result.now _ c.node_of-node.result c.wanted.ensures
+    (λ told. refl) c.node_of-node.ensures (λ told. absurd (false≢true told)) in
     let came = c.in_ok-next.ensures.comes c.args.job.now.root false (λ h. None) c.requires c.loop-next.invariant fetched in
     subst (λ (p : Progress). Comes g.H.NodeHash.half c.args.job.now.kind c.args.job.now.root c.args.job.now.key false (λ h. None) (Ok p))
     c.in-More.is came
@@ -22,8 +22,8 @@ loop-next-preserved g c =
 -- or ends the path
 pub returns-in-Done : goal.returns-in-Done
 returns-in-Done g c =
-    let fetched = fetched_as g.H.NodeHash.half false (λ h. None) (λ h. None) c.wanted.result.now _ c.node_near-given.result c.wanted.ensures
-    (λ told. refl) c.node_near-given.ensures (λ told. absurd (false≢true told)) in
+    let fetched = fetched_as g.H.NodeHash.half false (λ h. None) (λ h. None) c.wanted.result.now _ c.node_of-node.result c.wanted.ensures
+    (λ told. refl) c.node_of-node.ensures (λ told. absurd (false≢true told)) in
     let came = c.in_ok-next.ensures.comes c.args.job.now.root false (λ h. None) c.requires c.loop-next.invariant fetched in
     (subst (λ (p : Progress). Comes g.H.NodeHash.half c.args.job.now.kind c.args.job.now.root c.args.job.now.key false (λ h. None) (Ok p))
     c.in-Done.is came).0
