@@ -31,7 +31,7 @@ fn branches_of(alloc: Global, form: &[u8]) -> Result<Vec<Hash32>, Memory>
         → IfOk result (λ kept. kept.items ≡ filter is_nonzero hashes) }
     ensures few { IfOk result (λ kept. length kept.items ≤ 16) }
 {
-    let mut kept = Vec::new(alloc);
+    let mut kept = Vec::with_capacity(alloc, 16)?;
     for b in 0..16u8 {
         let hash = inner_branch(form, b);
         if !hash.is_zero() {

@@ -1,5 +1,6 @@
 //! The prefixes of what is hashed: four bytes that keep an object of one kind from being read as one of another.
-ghost use Rattle.std.specs.Prelude.{◌≡◌};
+ghost use Rattle.std.specs.Prelude.{◌≡◌, nat_eq};
+ghost use Rattle.std.specs.List.{starts_with};
 
 /// What a hash is the hash of, told by the four bytes before it (XRP Ledger documentation, "Hash
 /// prefixes").
@@ -30,6 +31,17 @@ impl Prefix {
             Prefix::Mln => *b"MLN\0",
             Prefix::Min => *b"MIN\0",
             Prefix::Lwr => *b"LWR\0",
+        }
+    }
+
+    /// Whether the bytes begin with it.
+    pub fn begins(self, bytes: &[u8]) -> bool
+        ensures { result ≡ starts_with nat_eq bytes.now (prefix_of self) }
+    {
+        let [w, x, y, z] = self.bytes();
+        match bytes {
+            [a, b, c, d, ..] => *a == w && *b == x && *c == y && *d == z,
+            _ => false,
         }
     }
 }

@@ -112,7 +112,7 @@ impl Header {
         ensures exact { option_map (λ h. header_bytes (fields h)) result ≡ header_of bytes.now }
         ensures reads { IfSome result (λ h. Reads (header_bytes (fields h)) h) }
     {
-        if bytes.len() != 122 || !bytes.starts_with(&Prefix::Lwr.bytes()) {
+        if bytes.len() != 122 || !Prefix::Lwr.begins(bytes) {
             return None;
         }
         let (_prefix, header) = bytes.split_at(4);

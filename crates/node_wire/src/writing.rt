@@ -14,6 +14,12 @@ use std::alloc::Global;
 /// The fewest branches that aren't empty of an inner node that is written in full.
 const FULL_FROM: u8 = 12;
 
+/// How many bytes a chunk has: a hash and its position.
+const CHUNK: usize = 33;
+
+/// How many bytes the wire form of an inner node has that is written in full: sixteen hashes and the type byte.
+const FULL_WIRE: usize = 513;
+
 /// The wire form of a node: data, and the key behind it unless it is a bare transaction, of a leaf; the chunks of an inner node
 /// with fewer than twelve branches that aren't empty, positions rising, or else its sixteen hashes; and last the type byte.
 pub fn encode_wire(alloc: Global, node: &Node) -> Result<Blob, Memory>
@@ -65,7 +71,7 @@ fn inner_wire(alloc: Global, inner: &Inner) -> Result<Blob, Memory>
 fn compressed(alloc: Global, inner: &Inner) -> Result<Blob, Memory>
     ensures { IfOk result (λ blob. blob ≡ flat_map chunk_bytes (chunks_of inner.now.hashes) ++ 3 ∷ []) }
 {
-    let mut bytes = Vec::new(alloc);
+    let mut bytes = Vec::with_capacity(alloc, CHUNK * inner.count() as usize + 1)?;
     for b in 0..16u8 {
         add_chunk(&mut bytes, &inner.branch(b), b)?;
     }
@@ -90,7 +96,7 @@ fn add_chunk(bytes: &mut Vec<u8>, hash: &Hash32, position: u8) -> Result<(), Mem
 fn full(alloc: Global, inner: &Inner) -> Result<Blob, Memory>
     ensures { IfOk result (λ blob. blob ≡ concat inner.now.hashes ++ 2 ∷ []) }
 {
-    let mut bytes = Vec::new(alloc);
+    let mut bytes = Vec::with_capacity(alloc, FULL_WIRE)?;
     for b in 0..16u8 {
         bytes.extend_from_slice(&inner.branch(b).bytes)?;
     }

@@ -57,7 +57,7 @@ fn decode_under(alloc: Global, own: &Hash32, form: &[u8]) -> Result<Node, FormFa
 fn is_bare(form: &[u8]) -> bool
     ensures { result ≡ starts_with nat_eq form.now (leaf_prefix kinds.Set) }
 {
-    form.starts_with(&Kind::Set.prefix().bytes())
+    Kind::Set.prefix().begins(form)
 }
 
 // The bare transaction whose form the bytes are.

@@ -1,10 +1,9 @@
 //! Prefix forms: written, read and hashed.
 ghost use Rattle.std.specs.Prelude.{◌≡◌, ◌≢◌, ◌++◌, ◌+◌, ◌-◌, ◌<◌, ◌≤◌, length, take, drop, IfErr, IfOk, IsTrue, MatchResult, None};
-ghost use Rattle.std.specs.Prelude.{OnOk, Some, nat_eq};
-ghost use Rattle.std.specs.List.{concat, list_any, slice_index_or, starts_with};
+ghost use Rattle.std.specs.Prelude.{OnOk, Some};
+ghost use Rattle.std.specs.List.{concat, list_any, slice_index_or};
 ghost use Rattle.std.specs.Option.{is_some, option_map};
 ghost use Rattle.std.specs.Int.{w32, from_be_bytes};
-ghost use Rattle.half_hash.specs.Prefix.{prefix_of};
 ghost use Rattle.half_hash.specs.Zero.{zero_hash, is_nonzero};
 ghost use Rattle.ledger_spec.specs.Bytes.{hashes_of};
 ghost use Rattle.ledger_spec.specs.Forms.{Held, IsItem, IsInner, Form, form_of, inner_of as inner_hashes_of};
@@ -56,13 +55,6 @@ impl From<Memory> for FormFault {
     fn from(_: Memory) -> FormFault {
         FormFault::Memory
     }
-}
-
-// Whether the bytes begin with the prefix.
-fn begins(bytes: &[u8], prefix: Prefix) -> bool
-    ensures { result ≡ starts_with nat_eq bytes.now (prefix_of prefix) }
-{
-    bytes.starts_with(&prefix.bytes())
 }
 
 // The sixteen hashes, joined.
@@ -122,7 +114,7 @@ fn hashes_in(body: &[u8]) -> [Hash32; 16]
 pub fn inner_of(form: &[u8]) -> Option<Inner>
     ensures { option_map (λ inner. inner.hashes) result ≡ inner_hashes_of form.now }
 {
-    if form.len() != 516 || !begins(form, Prefix::Min) {
+    if form.len() != 516 || !Prefix::Min.begins(form) {
         return None;
     }
     let (_prefix, body) = form.split_at(4);
@@ -133,7 +125,7 @@ pub fn inner_of(form: &[u8]) -> Option<Inner>
 pub fn is_inner_form(form: &[u8]) -> bool
     ensures { result ≡ is_some (inner_hashes_of form.now) }
 {
-    if form.len() != 516 || !begins(form, Prefix::Min) {
+    if form.len() != 516 || !Prefix::Min.begins(form) {
         return false;
     }
     let (_prefix, body) = form.split_at(4);
@@ -257,24 +249,24 @@ fn node_from<H: NodeHash>(alloc: Global, bytes: &[u8]) -> Result<Node, FormFault
     if bytes.len() < 4 {
         return Err(FormFault::Short(bytes.len()));
     }
-    if begins(bytes, Prefix::Min) {
+    if Prefix::Min.begins(bytes) {
         return Ok(Node::Inner(inner_behind(bytes)?));
     }
-    if begins(bytes, Prefix::Mln) {
+    if Prefix::Mln.begins(bytes) {
         let item = keyed_item(alloc, bytes)?;
         return Ok(Node::Leaf(Leaf {
             kind: Kind::State,
             item,
         }));
     }
-    if begins(bytes, Prefix::Snd) {
+    if Prefix::Snd.begins(bytes) {
         let item = keyed_item(alloc, bytes)?;
         return Ok(Node::Leaf(Leaf {
             kind: Kind::Tx,
             item,
         }));
     }
-    if begins(bytes, Prefix::Txn) {
+    if Prefix::Txn.begins(bytes) {
         let item = bare_item::<H>(alloc, bytes)?;
         return Ok(Node::Leaf(Leaf {
             kind: Kind::Set,

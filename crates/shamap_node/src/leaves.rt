@@ -55,12 +55,12 @@ fn is_keyed(form: &[u8], kind: Kind) -> bool
     ensures { result
         ≡ (starts_with nat_eq form.now (leaf_prefix kind) && nat_le 36 (length form.now) && nat_le (length form.now) (36 + data_limit)) }
 {
-    form.starts_with(&kind.prefix().bytes()) && form.len() >= 36 && form.len() <= 36 + DATA_LIMIT
+    kind.prefix().begins(form) && form.len() >= 36 && form.len() <= 36 + DATA_LIMIT
 }
 
 // The same of a bare transaction.
 fn is_bare(form: &[u8]) -> bool
     ensures { result ≡ (starts_with nat_eq form.now (leaf_prefix kinds.Set) && nat_le (length form.now) (4 + data_limit)) }
 {
-    form.starts_with(&Kind::Set.prefix().bytes()) && form.len() <= 4 + DATA_LIMIT
+    Kind::Set.prefix().begins(form) && form.len() <= 4 + DATA_LIMIT
 }
