@@ -16,7 +16,7 @@ use Rattle.script_form.specs.declared.cause.Cause.{Cause}
 use Rattle.script_form.specs.declared.cause.Cause.TheVariants as cause
 use Rattle.script_form.specs.Words.{IsBlob, IsCount, IsNumber}
 use Rattle.script_form.specs.Commands.{word_in, arguments_in, ArgumentsOf, SayArguments, Makes, CallSays, FormSays, SaysHead, SaysItem}
-use Rattle.script_form.specs.Commands.{HasWrong, CallHas}
+use Rattle.script_form.specs.Commands.{IsSaid, SaysNone, IsReadAs, HasWrong, CallHas}
 use Rattle.script_form.proofs.Right.{said_count}
 use Rattle.script_form.proofs.Shapes.{one_form}
 
@@ -24,15 +24,17 @@ use Rattle.script_form.proofs.Shapes.{one_form}
 abbrev pub CallWasRead : List Bytes → Result (Option Command) Memory → Type 0
 CallWasRead call r = IfOk r (λ found. MatchOption found ((c : Command) → CallSays call c → ⊥) (CallSays call))
 
+-- what was read of a form's words
+abbrev pub WasRead : Form → List Bytes → Result (Option Command) Memory → Type 0
+WasRead f words r = IfOk r (IsReadAs f words)
+
 -- the one form of a word and a number of arguments says what the call says
 pub by_form : (f : Form) (word : Bytes) (args : List Bytes) → word ≡ word_in f → length args ≡ length (arguments_in f)
-    → (r : Result (Option Command) Memory)
-    → IfOk r (λ found. MatchOption found ((c : Command) → FormSays f args c → ⊥) (FormSays f args))
-    → CallWasRead (word ∷ args) r
-by_form f word args is count (Ok (Some c)) says = (f, is, says)
+    → (r : Result (Option Command) Memory) → WasRead f args r → CallWasRead (word ∷ args) r
+by_form f word args is count (Ok (Some c)) said = (f, is, said.says)
 by_form f word args is count (Ok None) none = λ c says.
     let same : says.0 ≡ f = one_form says.0 f (sym says.1 ∙ is) (sym (said_count says.0 args c says.2) ∙ count) in
-    none c (subst (λ (g : Form). FormSays g args c) same says.2)
+    none.none c (subst (λ (g : Form). FormSays g args c) same says.2)
 by_form f word args is count (Err e) says = tt
 
 -- without a form nothing is said
@@ -92,13 +94,11 @@ five_words (a ∷ b ∷ c ∷ e ∷ f ∷ []) d0 d1 d2 d3 d4 size = refl
 five_words (a ∷ b ∷ c ∷ e ∷ f ∷ g ∷ more) d0 d1 d2 d3 d4 size = absurd (omega (arith, size))
 
 pub says_as : (f : Form) (words ws : List Bytes) (v : ArgumentsOf (arguments_in f)) (c : Command) → words ≡ ws
-    → SayArguments (arguments_in f) ws v → Makes f v c → FormSays f words c
-says_as f words ws v c same says makes = (v, subst (λ (x : List Bytes). SayArguments (arguments_in f) x v) (sym same) says, makes)
+    → SayArguments (arguments_in f) ws v → Makes f v c → IsSaid f words c
+says_as f words ws v c same says makes =
+    record { says = (v, subst (λ (x : List Bytes). SayArguments (arguments_in f) x v) (sym same) says, makes) }
 
--- what was read of a form's words
-abbrev pub WasRead : Form → List Bytes → Result (Option Command) Memory → Type 0
-WasRead f words r = IfOk r (λ found. MatchOption found ((c : Command) → FormSays f words c → ⊥) (FormSays f words))
-
+-- what was read of a form is read of another name of it
 pub read_as : (f g : Form) (words : List Bytes) (r : Result (Option Command) Memory) → f ≡ g → WasRead g words r → WasRead f words r
 read_as f g words r same was = subst (λ (x : Form). WasRead x words r) (sym same) was
 
@@ -116,8 +116,10 @@ no_header (a ∷ b ∷ c ∷ more) d none p t head says = none head says.2
 
 pub base_read : (words : List (Bor Bytes)) → length words ≡ 3 → (r : Result (Option Command) Memory)
     → HeadWasRead (texts words) None None r → WasRead form.Base (texts words) r
-base_read (a ∷ b ∷ c ∷ []) size (Ok (Some x)) is = ((is.0, (is.1, (is.2, tt))), (is.3.0, (is.3.1, (is.3.2, tt))), is.4)
-base_read (a ∷ b ∷ c ∷ []) size (Ok None) none = λ x says. none says.0.0 says.0.1.0 says.0.1.1.0 (says.1.0, says.1.1.0, says.1.1.1.0)
+base_read (a ∷ b ∷ c ∷ []) size (Ok (Some x)) is =
+    record { says = ((is.0, (is.1, (is.2, tt))), (is.3.0, (is.3.1, (is.3.2, tt))), is.4) }
+base_read (a ∷ b ∷ c ∷ []) size (Ok None) none =
+    record { none = λ x says. none says.0.0 says.0.1.0 says.0.1.1.0 (says.1.0, says.1.1.0, says.1.1.1.0) }
 base_read words size (Err e) is = tt
 base_read [] size (Ok x) is = absurd (omega (arith, size))
 base_read (a ∷ []) size (Ok x) is = absurd (omega (arith, size))
@@ -127,9 +129,9 @@ base_read (a ∷ b ∷ c ∷ e ∷ more) size (Ok x) is = absurd (omega (arith, 
 pub base_state_read : (words : List (Bor Bytes)) (d : Bor Bytes) (state : Bytes) → length words ≡ 4 → IsBlob (get_or words 3 d).now state
     → (r : Result (Option Command) Memory) → HeadWasRead (texts words) (Some state) None r → WasRead form.BaseState (texts words) r
 base_state_read (a ∷ b ∷ c ∷ s ∷ []) d state size blob (Ok (Some x)) is =
-    ((is.0, (is.1, (is.2, (state, tt)))), (is.3.0, (is.3.1, (is.3.2, (blob, tt)))), is.4)
+    record { says = ((is.0, (is.1, (is.2, (state, tt)))), (is.3.0, (is.3.1, (is.3.2, (blob, tt)))), is.4) }
 base_state_read (a ∷ b ∷ c ∷ s ∷ []) d state size blob (Ok None) none =
-    λ x says. none says.0.0 says.0.1.0 says.0.1.1.0 (says.1.0, says.1.1.0, says.1.1.1.0)
+    record { none = λ x says. none says.0.0 says.0.1.0 says.0.1.1.0 (says.1.0, says.1.1.0, says.1.1.1.0) }
 base_state_read words d state size blob (Err e) is = tt
 base_state_read [] d state size blob (Ok x) is = absurd (omega (arith, size))
 base_state_read (a ∷ []) d state size blob (Ok x) is = absurd (omega (arith, size))
@@ -138,13 +140,13 @@ base_state_read (a ∷ b ∷ c ∷ []) d state size blob (Ok x) is = absurd (ome
 base_state_read (a ∷ b ∷ c ∷ s ∷ e ∷ more) d state size blob (Ok x) is = absurd (omega (arith, size))
 
 pub no_state : (words : List (Bor Bytes)) (d : Bor Bytes) → length words ≡ 4 → ((bytes : Bytes) → IsBlob (get_or words 3 d).now bytes → ⊥)
-    → (x : Command) → FormSays form.BaseState (texts words) x → ⊥
-no_state (a ∷ b ∷ c ∷ s ∷ []) d size none x says = none says.0.1.1.1.0 says.1.1.1.1.0
-no_state [] d size none x says = absurd (omega (arith, size))
-no_state (a ∷ []) d size none x says = absurd (omega (arith, size))
-no_state (a ∷ b ∷ []) d size none x says = absurd (omega (arith, size))
-no_state (a ∷ b ∷ c ∷ []) d size none x says = absurd (omega (arith, size))
-no_state (a ∷ b ∷ c ∷ s ∷ e ∷ more) d size none x says = absurd (omega (arith, size))
+    → SaysNone form.BaseState (texts words)
+no_state (a ∷ b ∷ c ∷ s ∷ []) d size none = record { none = λ x says. none says.0.1.1.1.0 says.1.1.1.1.0 }
+no_state [] d size none = absurd (omega (arith, size))
+no_state (a ∷ []) d size none = absurd (omega (arith, size))
+no_state (a ∷ b ∷ []) d size none = absurd (omega (arith, size))
+no_state (a ∷ b ∷ c ∷ []) d size none = absurd (omega (arith, size))
+no_state (a ∷ b ∷ c ∷ s ∷ e ∷ more) d size none = absurd (omega (arith, size))
 
 pub base_tx_read : (words : List (Bor Bytes)) (d e : Bor Bytes) (state tx : Bytes) → length words ≡ 5
     → IsBlob (get_or words 3 d).now state → IsBlob (get_or words 4 e).now tx
@@ -160,8 +162,9 @@ base_tx_read words d e state tx size one two r is =
     at : (a b c s x : Bytes) → IsBlob s state → IsBlob x tx → (r : Result (Option Command) Memory)
         → HeadWasRead (a ∷ b ∷ c ∷ s ∷ x ∷ []) (Some state) (Some tx) r → WasRead form.BaseTx (a ∷ b ∷ c ∷ s ∷ x ∷ []) r
     at a b c s x one two (Ok (Some y)) is =
-        ((is.0, (is.1, (is.2, (state, (tx, tt))))), (is.3.0, (is.3.1, (is.3.2, (one, (two, tt))))), is.4)
-    at a b c s x one two (Ok None) none = λ y says. none says.0.0 says.0.1.0 says.0.1.1.0 (says.1.0, says.1.1.0, says.1.1.1.0)
+        record { says = ((is.0, (is.1, (is.2, (state, (tx, tt))))), (is.3.0, (is.3.1, (is.3.2, (one, (two, tt))))), is.4) }
+    at a b c s x one two (Ok None) none =
+        record { none = λ y says. none says.0.0 says.0.1.0 says.0.1.1.0 (says.1.0, says.1.1.0, says.1.1.1.0) }
     at a b c s x one two (Err f) is = tt
 
 -- the last two words of a base reply with both roots
@@ -186,28 +189,30 @@ last_word words d size x says =
 
 -- the last word of a page line
 pub no_count : (words : List (Bor Bytes)) (d : Bor Bytes) → length words ≡ 4 → ((n : ℕ) → IsCount (get_or words 3 d).now 256 n → ⊥)
-    → (x : Command) → FormSays form.Page (texts words) x → ⊥
-no_count (a ∷ b ∷ c ∷ n ∷ []) d size none x says = none says.0.1.1.1.0 says.1.1.1.1.0
-no_count [] d size none x says = absurd (omega (arith, size))
-no_count (a ∷ []) d size none x says = absurd (omega (arith, size))
-no_count (a ∷ b ∷ []) d size none x says = absurd (omega (arith, size))
-no_count (a ∷ b ∷ c ∷ []) d size none x says = absurd (omega (arith, size))
-no_count (a ∷ b ∷ c ∷ n ∷ e ∷ more) d size none x says = absurd (omega (arith, size))
+    → SaysNone form.Page (texts words)
+no_count (a ∷ b ∷ c ∷ n ∷ []) d size none = record { none = λ x says. none says.0.1.1.1.0 says.1.1.1.1.0 }
+no_count [] d size none = absurd (omega (arith, size))
+no_count (a ∷ []) d size none = absurd (omega (arith, size))
+no_count (a ∷ b ∷ []) d size none = absurd (omega (arith, size))
+no_count (a ∷ b ∷ c ∷ []) d size none = absurd (omega (arith, size))
+no_count (a ∷ b ∷ c ∷ n ∷ e ∷ more) d size none = absurd (omega (arith, size))
 
 -- what words say of a session and an item, a put says, and so does a transaction
 pub put_says : (words : List Bytes) (x : ℕ) (item : Item) → SaysItem words x item.key item.value
-    → FormSays form.Put words (command.Put x item)
-put_says (s ∷ k ∷ v ∷ []) x item says =
-    ((x, (item.key, (item.value, tt))), (says.0, (says.1, (says.2, tt))), (item, record { key_is = refl; data_is = refl }, refl))
+    → IsSaid form.Put words (command.Put x item)
+put_says (s ∷ k ∷ v ∷ []) x item says = record {
+  says = ((x, (item.key, (item.value, tt))), (says.0, (says.1, (says.2, tt))), (item, record { key_is = refl; data_is = refl }, refl));
+}
 put_says [] x item says = absurd says
 put_says (s ∷ []) x item says = absurd says
 put_says (s ∷ k ∷ []) x item says = absurd says
 put_says (s ∷ k ∷ v ∷ e ∷ more) x item says = absurd says
 
 pub tx_says : (words : List Bytes) (x : ℕ) (item : Item) → SaysItem words x item.key item.value
-    → FormSays form.Tx words (command.Tx x item)
-tx_says (s ∷ k ∷ v ∷ []) x item says =
-    ((x, (item.key, (item.value, tt))), (says.0, (says.1, (says.2, tt))), (item, record { key_is = refl; data_is = refl }, refl))
+    → IsSaid form.Tx words (command.Tx x item)
+tx_says (s ∷ k ∷ v ∷ []) x item says = record {
+  says = ((x, (item.key, (item.value, tt))), (says.0, (says.1, (says.2, tt))), (item, record { key_is = refl; data_is = refl }, refl));
+}
 tx_says [] x item says = absurd says
 tx_says (s ∷ []) x item says = absurd says
 tx_says (s ∷ k ∷ []) x item says = absurd says
@@ -217,19 +222,19 @@ tx_says (s ∷ k ∷ v ∷ e ∷ more) x item says = absurd says
 abbrev NoItem : List Bytes → Type 0
 NoItem words = (x : ℕ) (key bytes : Bytes) → SaysItem words x key bytes → ⊥
 
-pub no_put : (words : List Bytes) → NoItem words → (c : Command) → FormSays form.Put words c → ⊥
-no_put (s ∷ k ∷ v ∷ []) none c says = none says.0.0 says.0.1.0 says.0.1.1.0 (says.1.0, says.1.1.0, says.1.1.1.0)
-no_put [] none c says = says.1
-no_put (s ∷ []) none c says = says.1.1
-no_put (s ∷ k ∷ []) none c says = says.1.1.1
-no_put (s ∷ k ∷ v ∷ e ∷ more) none c says = says.1.1.1.1
+pub no_put : (words : List Bytes) → NoItem words → SaysNone form.Put words
+no_put (s ∷ k ∷ v ∷ []) none = record { none = λ c says. none says.0.0 says.0.1.0 says.0.1.1.0 (says.1.0, says.1.1.0, says.1.1.1.0) }
+no_put [] none = record { none = λ c says. says.1 }
+no_put (s ∷ []) none = record { none = λ c says. says.1.1 }
+no_put (s ∷ k ∷ []) none = record { none = λ c says. says.1.1.1 }
+no_put (s ∷ k ∷ v ∷ e ∷ more) none = record { none = λ c says. says.1.1.1.1 }
 
-pub no_tx : (words : List Bytes) → NoItem words → (c : Command) → FormSays form.Tx words c → ⊥
-no_tx (s ∷ k ∷ v ∷ []) none c says = none says.0.0 says.0.1.0 says.0.1.1.0 (says.1.0, says.1.1.0, says.1.1.1.0)
-no_tx [] none c says = says.1
-no_tx (s ∷ []) none c says = says.1.1
-no_tx (s ∷ k ∷ []) none c says = says.1.1.1
-no_tx (s ∷ k ∷ v ∷ e ∷ more) none c says = says.1.1.1.1
+pub no_tx : (words : List Bytes) → NoItem words → SaysNone form.Tx words
+no_tx (s ∷ k ∷ v ∷ []) none = record { none = λ c says. none says.0.0 says.0.1.0 says.0.1.1.0 (says.1.0, says.1.1.0, says.1.1.1.0) }
+no_tx [] none = record { none = λ c says. says.1 }
+no_tx (s ∷ []) none = record { none = λ c says. says.1.1 }
+no_tx (s ∷ k ∷ []) none = record { none = λ c says. says.1.1.1 }
+no_tx (s ∷ k ∷ v ∷ e ∷ more) none = record { none = λ c says. says.1.1.1.1 }
 
 -- the last word of a close
 pub flags_word : (words : List (Bor Bytes)) (d : Bor Bytes) → length words ≡ 5 → (x : Command) → FormSays form.Close (texts words) x
@@ -237,15 +242,6 @@ pub flags_word : (words : List (Bor Bytes)) (d : Bor Bytes) → length words ≡
 flags_word words d size x says =
     let at = subst (λ (ws : List Bytes). FormSays form.Close ws x) (five_words words d d d d d size) says in
     (at.0.1.1.1.1.0, at.1.1.1.1.1.0)
-
--- without words a rotation is begun, or ended
-pub begin_says : (words : List (Bor Bytes)) → length words ≡ 0 → FormSays form.Begin (texts words) command.Begin
-begin_says [] size = (tt, tt, refl)
-begin_says (a ∷ more) size = absurd (omega (arith, size))
-
-pub swap_says : (words : List (Bor Bytes)) → length words ≡ 0 → FormSays form.Swap (texts words) command.Swap
-swap_says [] size = (tt, tt, refl)
-swap_says (a ∷ more) size = absurd (omega (arith, size))
 
 -- a word is wrong in its place where the call has the cause
 pub call_wrong : (c : Cause) (call : List (Bor Bytes)) (d : Bor Bytes) (f : Form) (given : List Argument) (found : Result Bool Memory)

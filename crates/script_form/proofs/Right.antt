@@ -18,7 +18,7 @@ use Rattle.script_form.specs.declared.cause.Cause.{Cause}
 use Rattle.script_form.specs.declared.cause.Cause.TheVariants as cause
 use Rattle.script_form.specs.Commands.{word_in, arguments_in, ArgumentOf, SaysArgument, ArgumentsOf, SayArguments, Makes}
 use Rattle.script_form.specs.Words.{IsBlob, IsData, IsTarget}
-use Rattle.script_form.specs.Commands.{FormSays, CallSays, IsWrong, HasWrong, CallHas}
+use Rattle.script_form.specs.Commands.{FormSays, CallSays, IsWrong, IsWrongTarget, IsWrongId, IsWrongData, HasWrong, CallHas}
 use Rattle.script_form.proofs.ByteWords.{ok_same, hash_size}
 use Rattle.script_form.proofs.Shapes.{one_form}
 
@@ -44,27 +44,65 @@ same_blob word a b is also = elim is [
     no_dash : (w x : Bytes) → w ≡ 45 ∷ [] → decode_of w ≡ Ok x → ⊥
     no_dash w x is says = let no = sym says ∙ ap decode_of is in cc
 
+-- the causes of words in the places of arguments
+abbrev pub IsOfWord : Cause → Type 0
+IsOfWord cause.BadNumber = Unit {0}
+IsOfWord cause.BadHex = Unit {0}
+IsOfWord cause.BadKindOrId = Unit {0}
+IsOfWord cause.ZeroTarget = Unit {0}
+IsOfWord cause.DataTooLong = Unit {0}
+IsOfWord _ = ⊥
+
+-- no word is wrong for another
+of_word : (c : Cause) (a : Argument) (word : Bytes) → IsWrong c a word → IsOfWord c
+of_word c argument.Target word wrong = at c wrong
+  where
+    at : (c : Cause) → IsWrongTarget c word → IsOfWord c
+    at cause.BadHex wrong = tt
+    at cause.ZeroTarget wrong = tt
+    at c wrong = absurd wrong
+of_word c argument.Id word wrong = at c wrong
+  where
+    at : (c : Cause) → IsWrongId c word → IsOfWord c
+    at cause.BadHex wrong = tt
+    at cause.BadKindOrId wrong = tt
+    at c wrong = absurd wrong
+of_word c argument.Data word wrong = at c wrong
+  where
+    at : (c : Cause) → IsWrongData c word → IsOfWord c
+    at cause.BadHex wrong = tt
+    at cause.DataTooLong wrong = tt
+    at c wrong = absurd wrong
+of_word c a word wrong = subst (λ (x : Cause). IsOfWord x) (sym wrong.0) tt
+
 not_wrong : (c : Cause) (a : Argument) (word : Bytes) → IsRight a word → IsWrong c a word → ⊥
-not_wrong cause.BadNumber (argument.Number most) word right wrong = wrong right.0 right.1
-not_wrong cause.BadNumber (argument.Count most) word right wrong = wrong right.0 right.1
-not_wrong cause.BadHex argument.Target word right wrong = wrong right.0 right.1.digits
-not_wrong cause.BadHex argument.Key word right wrong = wrong right.0 right.1
-not_wrong cause.BadHex argument.Id word right wrong = wrong (id_wire right.0) (record { digits = right.1.digits; value = right.1.value })
-not_wrong cause.BadHex argument.Blob word right wrong = wrong right.0 right.1
-not_wrong cause.BadHex argument.Data word right wrong = wrong right.0 right.1.digits
-not_wrong cause.DataTooLong argument.Data word right wrong =
-    let same : right.0 ≡ wrong.0 = same_blob word right.0 wrong.0 right.1.digits wrong.1 in
-    let within : length right.0 ≤ data_limit = right.1.within in
-    let size : length right.0 ≡ length wrong.0 = ap length same in
-    let over : data_limit < length wrong.0 = wrong.2 in
-    absurd (omega (arith, within, size, over))
-not_wrong cause.BadKindOrId argument.Kind word right wrong = wrong right.0 right.1
-not_wrong cause.BadKindOrId argument.Id word right wrong = wrong right.0 right.1
-not_wrong cause.ZeroTarget argument.Target word right wrong =
-    let zero : is_zero right.0 ≡ true = ap is_zero (same_hash word right.0 wrong.0 right.1.digits wrong.1) ∙ wrong.2 in
-    let nonzero = right.1.nonzero in
-    absurd (grind (arith, zero, nonzero))
-not_wrong _ _ word right wrong = wrong
+not_wrong c argument.Target word right wrong = at c wrong
+  where
+    at : (c : Cause) → IsWrongTarget c word → ⊥
+    at cause.BadHex wrong = wrong right.0 right.1.digits
+    at cause.ZeroTarget wrong =
+        let zero : is_zero right.0 ≡ true = ap is_zero (same_hash word right.0 wrong.0 right.1.digits wrong.1) ∙ wrong.2 in
+        let nonzero = right.1.nonzero in
+        absurd (grind (arith, zero, nonzero))
+    at c wrong = wrong
+not_wrong c argument.Id word right wrong = at c wrong
+  where
+    at : (c : Cause) → IsWrongId c word → ⊥
+    at cause.BadHex wrong = wrong (id_wire right.0) (record { digits = right.1.digits; value = right.1.value })
+    at cause.BadKindOrId wrong = wrong right.0 right.1
+    at c wrong = wrong
+not_wrong c argument.Data word right wrong = at c wrong
+  where
+    at : (c : Cause) → IsWrongData c word → ⊥
+    at cause.BadHex wrong = wrong right.0 right.1.digits
+    at cause.DataTooLong wrong =
+        let same : right.0 ≡ wrong.0 = same_blob word right.0 wrong.0 right.1.digits wrong.1 in
+        let within : length right.0 ≤ data_limit = right.1.within in
+        let size : length right.0 ≡ length wrong.0 = ap length same in
+        let over : data_limit < length wrong.0 = wrong.2 in
+        absurd (omega (arith, within, size, over))
+    at c wrong = wrong
+not_wrong c a word right wrong = wrong.1.none right.0 right.1
 
 none_wrong : (c : Cause) (arguments : List Argument) (words : List Bytes) → AreRight arguments words → HasWrong c arguments words → ⊥
 none_wrong c [] [] right wrong = wrong
@@ -80,32 +118,27 @@ right_count [] (word ∷ words) right = absurd right
 right_count (a ∷ arguments) [] right = absurd right
 
 -- no word has a cause that no argument has
-never : (c : Cause) → ((a : Argument) (word : Bytes) → IsWrong c a word → ⊥) → (arguments : List Argument) (words : List Bytes)
-    → HasWrong c arguments words → ⊥
-never c each [] [] wrong = wrong
-never c each [] (word ∷ words) wrong = wrong
-never c each (a ∷ arguments) [] wrong = wrong
-never c each (a ∷ arguments) (word ∷ words) wrong = elim wrong
-    [ inl here ↦ each a word here | inr behind ↦ never c each arguments words behind ]
+never : (c : Cause) → (IsOfWord c → ⊥) → (arguments : List Argument) (words : List Bytes) → HasWrong c arguments words → ⊥
+never c other [] [] wrong = wrong
+never c other [] (word ∷ words) wrong = wrong
+never c other (a ∷ arguments) [] wrong = wrong
+never c other (a ∷ arguments) (word ∷ words) wrong = elim wrong
+    [ inl here ↦ other (of_word c a word here) | inr behind ↦ never c other arguments words behind ]
 
 -- a word without a cause can't but be right
 must_be_right : (a : Argument) (word : Bytes) → ((c : Cause) → IsWrong c a word → ⊥) → (IsRight a word → ⊥) → ⊥
-must_be_right (argument.Number most) word free not = free cause.BadNumber (λ n is. not (n, is))
-must_be_right (argument.Count most) word free not = free cause.BadNumber (λ n is. not (n, is))
-must_be_right argument.Key word free not = free cause.BadHex (λ h is. not (h, is))
 must_be_right argument.Target word free not = free cause.BadHex (λ h is. at h is (is_zero h) refl)
   where
     at : (h : Hash) → IsHexOf word h → (b : Bool) → is_zero h ≡ b → ⊥
     at h is true z = free cause.ZeroTarget (h, is, z)
     at h is false z = not (h, record { digits = is; nonzero = rw z refl })
-must_be_right argument.Kind word free not = free cause.BadKindOrId (λ k is. not (k, is))
 must_be_right argument.Id word free not = free cause.BadKindOrId (λ p is. not (p, is))
-must_be_right argument.Blob word free not = free cause.BadHex (λ b is. not (b, is))
 must_be_right argument.Data word free not = free cause.BadHex (λ b is. at b is (nat_le (length b) data_limit) refl)
   where
     at : (b : Bytes) → IsBlob word b → (t : Bool) → nat_le (length b) data_limit ≡ t → ⊥
     at b is true e = not (b, record { digits = is; within = leb-true (length b) data_limit e })
     at b is false e = free cause.DataTooLong (b, is, leb-false (length b) data_limit e)
+must_be_right a word free not = free _ (refl, record { none = λ v is. not (v, is) })
 
 must_be_rights : (arguments : List Argument) (words : List Bytes) → length words ≡ length arguments
     → ((c : Cause) → HasWrong c arguments words → ⊥) → (AreRight arguments words → ⊥) → ⊥
@@ -188,13 +221,13 @@ call_fine (word ∷ args) said says c has =
     other_form says.0 has.0 word args c says.1 (form_said says.0 args said says.2) has.1 has.2 has.3
 
 -- a call's words have no other causes
-pub call_never : (call : List Bytes) (c : Cause) → ((a : Argument) (word : Bytes) → IsWrong c a word → ⊥) → c ≢ cause.UnknownCommand
-    → c ≢ cause.ArgumentCount → CallHas call c → ⊥
-call_never [] cause.UnknownCommand each one two has = one refl
-call_never [] c each one two has = has
-call_never (word ∷ args) cause.UnknownCommand each one two has = one refl
-call_never (word ∷ args) cause.ArgumentCount each one two has = two refl
-call_never (word ∷ args) c each one two has = never c each (arguments_in has.0) args has.3
+pub call_never : (call : List Bytes) (c : Cause) → (IsOfWord c → ⊥) → c ≢ cause.UnknownCommand → c ≢ cause.ArgumentCount
+    → CallHas call c → ⊥
+call_never [] cause.UnknownCommand other one two has = one refl
+call_never [] c other one two has = has
+call_never (word ∷ args) cause.UnknownCommand other one two has = one refl
+call_never (word ∷ args) cause.ArgumentCount other one two has = two refl
+call_never (word ∷ args) c other one two has = never c other (arguments_in has.0) args has.3
 
 -- a call without a cause can't but say a command
 pub call_must_say : (call : List Bytes) → ((c : Cause) → CallHas call c → ⊥) → ((said : Command) → CallSays call said → ⊥) → ⊥
@@ -204,6 +237,6 @@ call_must_say (word ∷ args) free none =
     (λ right. let says = form_says f args right in none says.0 (f, is, says.1)))
   where
     wrong : (f : Form) → word ≡ word_in f → length args ≡ length (arguments_in f) → (c : Cause) → HasWrong c (arguments_in f) args → ⊥
-    wrong f is count cause.UnknownCommand has = never cause.UnknownCommand (λ a w x. x) (arguments_in f) args has
-    wrong f is count cause.ArgumentCount has = never cause.ArgumentCount (λ a w x. x) (arguments_in f) args has
+    wrong f is count cause.UnknownCommand has = never cause.UnknownCommand (λ x. x) (arguments_in f) args has
+    wrong f is count cause.ArgumentCount has = never cause.ArgumentCount (λ x. x) (arguments_in f) args has
     wrong f is count c has = free c (f, is, count, has)

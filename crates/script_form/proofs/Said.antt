@@ -71,9 +71,9 @@ words_must_say earlier (actor ∷ words) stands free none =
     none (record { number = 0; actor = a; after = after; command = said }) (is, named, says))))
   where
     call : (c : Cause) → CallHas (call_in words) c → ⊥
-    call cause.NoActor has = call_never (call_in words) cause.NoActor (λ a w x. x) (λ e. cc) (λ e. cc) has
-    call cause.BadAfter has = call_never (call_in words) cause.BadAfter (λ a w x. x) (λ e. cc) (λ e. cc) has
-    call cause.TooManyCommands has = call_never (call_in words) cause.TooManyCommands (λ a w x. x) (λ e. cc) (λ e. cc) has
+    call cause.NoActor has = call_never (call_in words) cause.NoActor (λ x. x) (λ e. cc) (λ e. cc) has
+    call cause.BadAfter has = call_never (call_in words) cause.BadAfter (λ x. x) (λ e. cc) (λ e. cc) has
+    call cause.TooManyCommands has = call_never (call_in words) cause.TooManyCommands (λ x. x) (λ e. cc) (λ e. cc) has
     call c has = free c has
 
 module _ (earlier : List ℕ) (text : Bytes) (plain : list_all is_printable text ≡ true) (short : length text ≤ most_text) where
@@ -97,9 +97,9 @@ must_say earlier text stands none fine = words_must_say earlier (words_of text) 
     no_text : (words : List Bytes) (c : Cause) → (c ≡ cause.ScriptTooLong) ⊎ ((c ≡ cause.NotPrintable) ⊎ (c ≡ cause.LineTooLong))
         → WordsHave earlier words c → ⊥
     no_text [] c one h = h
-    no_text (actor ∷ words) cause.ScriptTooLong one h = call_never (call_in words) cause.ScriptTooLong (λ a w x. x) (λ e. cc) (λ e. cc) h
-    no_text (actor ∷ words) cause.NotPrintable one h = call_never (call_in words) cause.NotPrintable (λ a w x. x) (λ e. cc) (λ e. cc) h
-    no_text (actor ∷ words) cause.LineTooLong one h = call_never (call_in words) cause.LineTooLong (λ a w x. x) (λ e. cc) (λ e. cc) h
+    no_text (actor ∷ words) cause.ScriptTooLong one h = call_never (call_in words) cause.ScriptTooLong (λ x. x) (λ e. cc) (λ e. cc) h
+    no_text (actor ∷ words) cause.NotPrintable one h = call_never (call_in words) cause.NotPrintable (λ x. x) (λ e. cc) (λ e. cc) h
+    no_text (actor ∷ words) cause.LineTooLong one h = call_never (call_in words) cause.LineTooLong (λ x. x) (λ e. cc) (λ e. cc) h
     no_text (actor ∷ words) c one h = elim one [ inl e ↦ cc | inr (inl e) ↦ cc | inr (inr e) ↦ cc ]
 
     each : (c : Cause) → WordsHave earlier (words_of text) c → ⊥

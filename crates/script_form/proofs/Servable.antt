@@ -1,10 +1,11 @@
 -- The lines of a script are lines that a core takes.
 use Rattle.std.proofs.Common.{◌≡◌, ◌≢◌, inl, inr, ℕ, suc, ◌+◌, ◌<◌, ◌≤◌, ◌^◌, List, [], ◌∷◌, ◌++◌, length, map, refl, sym, subst}
 use Rattle.std.proofs.Common.{arith, length-append}
+use Rattle.std.specs.Prelude.{IsTrue}
 use Rattle.std.specs.List.{All, Contains}
 use Rattle.std.proofs.lemmas.List.{map-append}
 use Rattle.std.proofs.lemmas.List.Elements.{All-push, All-weaker, All-contains, All-map, Contains-append_left}
-use Rattle.ledger_spec.specs.Bytes.{Bytes, Hash}
+use Rattle.ledger_spec.specs.Bytes.{Bytes, Hash, is_nonzero}
 use Rattle.ledger_machine.specs.declared.commands.Command.{Command}
 use Rattle.ledger_machine.specs.declared.commands.Line.{Line}
 use Rattle.ledger_machine.specs.Commands.{IsInRange}
@@ -15,12 +16,13 @@ use Rattle.shamap_node.specs.declared.parts.Item.{Item}
 use Rattle.shamap_node.specs.Items.{Keeps}
 use Rattle.script_form.specs.Servable.{WaitsForEarlier, AreServable}
 use Rattle.script_form.specs.Causes.{call_in}
+use Rattle.script_form.specs.declared.forms.Argument.{Argument}
+use Rattle.script_form.specs.declared.forms.Argument.TheVariants as argument
 use Rattle.script_form.specs.declared.forms.Form.{Form}
 use Rattle.script_form.specs.declared.forms.Form.TheVariants as form
-use Rattle.script_form.specs.Words.{IsKind, IsTarget, IsData}
-use Rattle.script_form.specs.Commands.{arguments_in, ArgumentsOf, SayArguments, Makes, CallSays}
+use Rattle.script_form.specs.Words.{IsKind}
+use Rattle.script_form.specs.Commands.{arguments_in, ArgumentOf, SaysArgument, ArgumentsOf, SayArguments, Makes, CallSays}
 use Rattle.script_form.specs.Grammar.{WordsSay}
-use Rattle.script_form.proofs.Right.{said_count}
 use Rattle.script_form.proofs.ByteWords.{blob_bytes, hash_bytes, hash_size}
 
 a_ledger_map : (word : Bytes) (kind : Kind) → IsKind word kind → IsLedgerMap kind
@@ -28,53 +30,75 @@ a_ledger_map word State is = tt
 a_ledger_map word Tx is = tt
 a_ledger_map word Set is = is
 
--- a key and data that words say are bytes, and so are those of their item
-item_known : (key value : Bytes) (k : Hash) (bytes : Bytes) (item : Item) → IsTarget key k → IsData value bytes → Keeps item k bytes
+-- a key and data that are bytes make an item that is
+item_known : (k : Hash) (bytes : Bytes) (item : Item) → AreBytes k → AreBytes bytes → Keeps item k bytes
     → AreBytes item.key × AreBytes item.value
-item_known key value k bytes item named says keeps = (
-  subst (λ (x : Bytes). AreBytes x) (sym keeps.key_is) (hash_bytes key k named.digits),
-  subst (λ (x : Bytes). AreBytes x) (sym keeps.data_is) (blob_bytes value bytes says.digits),
+item_known k bytes item key value keeps = (
+  subst (λ (x : Bytes). AreBytes x) (sym keeps.key_is) key,
+  subst (λ (x : Bytes). AreBytes x) (sym keeps.data_is) value,
 )
 
--- what a form's words say is in range
-form_known : (f : Form) (words : List Bytes) (v : ArgumentsOf (arguments_in f)) (c : Command) → SayArguments (arguments_in f) words v
-    → length words ≡ length (arguments_in f) → Makes f v c → IsInRange c
-form_known form.Want (t ∷ n ∷ []) v c says size is = subst (λ (x : Command). IsInRange x) (sym is) says.0.nonzero
-form_known form.Peer (n ∷ t ∷ []) v c says size is = subst (λ (x : Command). IsInRange x) (sym is) says.1.0.nonzero
-form_known form.Base (n ∷ t ∷ h ∷ []) v c says size is =
-    subst (λ (x : Command). IsInRange x) (sym is) (says.1.0.nonzero, blob_bytes h v.1.1.0 says.1.1.0, tt, tt)
-form_known form.BaseState (n ∷ t ∷ h ∷ s ∷ []) v c says size is =
-    subst (λ (x : Command). IsInRange x) (sym is)
-    (says.1.0.nonzero, blob_bytes h v.1.1.0 says.1.1.0, blob_bytes s v.1.1.1.0 says.1.1.1.0, tt)
-form_known form.BaseTx (n ∷ t ∷ h ∷ s ∷ x ∷ []) v c says size is =
-    subst (λ (x : Command). IsInRange x) (sym is)
-    (says.1.0.nonzero, blob_bytes h v.1.1.0 says.1.1.0, blob_bytes s v.1.1.1.0 says.1.1.1.0, blob_bytes x v.1.1.1.1.0 says.1.1.1.1.0)
-form_known form.Node (n ∷ t ∷ k ∷ i ∷ b ∷ []) v c says size is =
-    subst (λ (x : Command). IsInRange x) (sym is)
-    (says.1.0.nonzero, a_ledger_map k v.1.1.0 says.1.1.0, blob_bytes b v.1.1.1.1.0 says.1.1.1.1.0)
-form_known form.Check (t ∷ []) v c says size is = subst (λ (x : Command). IsInRange x) (sym is) says.0.nonzero
-form_known form.Tick (t ∷ []) v c says size is = subst (λ (x : Command). IsInRange x) (sym is) says.0.nonzero
-form_known form.View (n ∷ t ∷ []) v c says size is = subst (λ (x : Command). IsInRange x) (sym is) says.1.0.nonzero
-form_known form.Unview (n ∷ []) v c says size is = subst (λ (x : Command). IsInRange x) (sym is) tt
-form_known form.Get (n ∷ k ∷ t ∷ []) v c says size is =
-    let key : IsTarget t v.1.1.0 = says.1.1.0 in
-    subst (λ (x : Command). IsInRange x) (sym is)
-    (key.nonzero, hash_size t v.1.1.0 key.digits, hash_bytes t v.1.1.0 key.digits, a_ledger_map k v.1.0 says.1.0)
-form_known form.Page (n ∷ k ∷ t ∷ m ∷ []) v c says size is =
-    subst (λ (x : Command). IsInRange x) (sym is) (a_ledger_map k v.1.0 says.1.0, says.1.1.1.0.least, says.1.1.1.0.number.within)
-form_known form.Edit (n ∷ t ∷ []) v c says size is = subst (λ (x : Command). IsInRange x) (sym is) says.1.0.nonzero
-form_known form.Put (n ∷ t ∷ b ∷ []) v c says size is =
-    subst (λ (x : Command). IsInRange x) (sym is.2) (item_known t b v.1.0 v.1.1.0 is.0 says.1.0 says.1.1.0 is.1)
-form_known form.Del (n ∷ t ∷ []) v c says size is =
-    let key : IsTarget t v.1.0 = says.1.0 in
-    subst (λ (x : Command). IsInRange x) (sym is) (key.nonzero, hash_size t v.1.0 key.digits, hash_bytes t v.1.0 key.digits)
-form_known form.Tx (n ∷ t ∷ b ∷ []) v c says size is =
-    subst (λ (x : Command). IsInRange x) (sym is.2) (item_known t b v.1.0 v.1.1.0 is.0 says.1.0 says.1.1.0 is.1)
-form_known form.Close (n ∷ d ∷ t ∷ r ∷ f ∷ []) v c says size is =
-    let drops : v.1.0 ≤ 18446744073709551615 = says.1.0.within in
-    let time : v.1.1.0 ≤ 4294967295 = says.1.1.0.within in
-    let resolution : v.1.1.1.0 ≤ 255 = says.1.1.1.0.within in
-    let flags : v.1.1.1.1.0 ≤ 255 = says.1.1.1.1.0.within in
+-- what the ranges of commands ask of a value in an argument's place; of the other kinds they ask nothing
+abbrev IsKnown : (a : Argument) → ArgumentOf a → Type 0
+IsKnown (argument.Number most) n = n ≤ most
+IsKnown (argument.Count most) n = (1 ≤ n) × (n ≤ most)
+IsKnown argument.Target hash = IsTrue (is_nonzero hash) × (length hash ≡ 32) × AreBytes hash
+IsKnown argument.Kind kind = IsLedgerMap kind
+IsKnown argument.Blob bytes = AreBytes bytes
+IsKnown argument.Data bytes = AreBytes bytes
+IsKnown a v = Unit {0}
+
+-- so for each argument in order
+abbrev AreKnown : (arguments : List Argument) → ArgumentsOf arguments → Type 0
+AreKnown [] v = Unit {0}
+AreKnown (a ∷ arguments) v = IsKnown a v.0 × AreKnown arguments v.1
+
+-- a word says such a value
+is_known : (a : Argument) (word : Bytes) (v : ArgumentOf a) → SaysArgument a word v → IsKnown a v
+is_known (argument.Number most) word n says = says.within
+is_known (argument.Count most) word n says = (says.least, says.number.within)
+is_known argument.Target word hash says = (says.nonzero, hash_size word hash says.digits, hash_bytes word hash says.digits)
+is_known argument.Kind word kind says = a_ledger_map word kind says
+is_known argument.Blob word bytes says = blob_bytes word bytes says
+is_known argument.Data word bytes says = blob_bytes word bytes says.digits
+is_known a word v says = tt
+
+-- and words say such values
+are_known : (arguments : List Argument) (words : List Bytes) (v : ArgumentsOf arguments) → SayArguments arguments words v
+    → AreKnown arguments v
+are_known [] words v says = tt
+are_known (a ∷ arguments) [] v says = absurd says
+are_known (a ∷ arguments) (word ∷ words) v says = (is_known a word v.0 says.0, are_known arguments words v.1 says.1)
+
+-- what a form makes of such values is in range; a command without a line here has no range
+form_known : (f : Form) (v : ArgumentsOf (arguments_in f)) (c : Command) → AreKnown (arguments_in f) v → Makes f v c → IsInRange c
+form_known form.Want v c known is = subst (λ (x : Command). IsInRange x) (sym is) known.0.0
+form_known form.Peer v c known is = subst (λ (x : Command). IsInRange x) (sym is) known.1.0.0
+form_known form.Base v c known is = subst (λ (x : Command). IsInRange x) (sym is) (known.1.0.0, known.1.1.0, tt, tt)
+form_known form.BaseState v c known is =
+    subst (λ (x : Command). IsInRange x) (sym is) (known.1.0.0, known.1.1.0, known.1.1.1.0, tt)
+form_known form.BaseTx v c known is =
+    subst (λ (x : Command). IsInRange x) (sym is) (known.1.0.0, known.1.1.0, known.1.1.1.0, known.1.1.1.1.0)
+form_known form.Node v c known is = subst (λ (x : Command). IsInRange x) (sym is) (known.1.0.0, known.1.1.0, known.1.1.1.1.0)
+form_known form.Check v c known is = subst (λ (x : Command). IsInRange x) (sym is) known.0.0
+form_known form.Tick v c known is = subst (λ (x : Command). IsInRange x) (sym is) known.0.0
+form_known form.View v c known is = subst (λ (x : Command). IsInRange x) (sym is) known.1.0.0
+form_known form.Get v c known is =
+    subst (λ (x : Command). IsInRange x) (sym is) (known.1.1.0.0, known.1.1.0.1, known.1.1.0.2, known.1.0)
+form_known form.Page v c known is =
+    subst (λ (x : Command). IsInRange x) (sym is) (known.1.0, known.1.1.1.0.0, known.1.1.1.0.1)
+form_known form.Edit v c known is = subst (λ (x : Command). IsInRange x) (sym is) known.1.0.0
+form_known form.Put v c known is =
+    subst (λ (x : Command). IsInRange x) (sym is.2) (item_known v.1.0 v.1.1.0 is.0 known.1.0.2 known.1.1.0 is.1)
+form_known form.Del v c known is =
+    subst (λ (x : Command). IsInRange x) (sym is) (known.1.0.0, known.1.0.1, known.1.0.2)
+form_known form.Tx v c known is =
+    subst (λ (x : Command). IsInRange x) (sym is.2) (item_known v.1.0 v.1.1.0 is.0 known.1.0.2 known.1.1.0 is.1)
+form_known form.Close v c known is =
+    let drops : v.1.0 ≤ 18446744073709551615 = known.1.0 in
+    let time : v.1.1.0 ≤ 4294967295 = known.1.1.0 in
+    let resolution : v.1.1.1.0 ≤ 255 = known.1.1.1.0 in
+    let flags : v.1.1.1.1.0 ≤ 255 = known.1.1.1.1.0 in
     subst (λ (x : Command). IsInRange x) (sym is) (record {
       count = refl;
       drops = omega (arith, drops);
@@ -82,10 +106,7 @@ form_known form.Close (n ∷ d ∷ t ∷ r ∷ f ∷ []) v c says size is =
       resolution = omega (arith, resolution);
       flags = omega (arith, flags);
     })
-form_known form.Abandon (n ∷ []) v c says size is = subst (λ (x : Command). IsInRange x) (sym is) tt
-form_known form.Begin [] v c says size is = subst (λ (x : Command). IsInRange x) (sym is) tt
-form_known form.Swap [] v c says size is = subst (λ (x : Command). IsInRange x) (sym is) tt
-form_known f words v c says size is = absurd (omega (arith, size))
+form_known f v c known is = subst (λ (x : Command). IsInRange x) (sym is) tt
 
 -- what is known of a line that words say
 pub record Known (earlier : List ℕ) (l : Line) : Type 0 where
@@ -96,7 +117,7 @@ pub record Known (earlier : List ℕ) (l : Line) : Type 0 where
 call_known : (call : List Bytes) (c : Command) → CallSays call c → IsInRange c
 call_known [] c says = absurd says
 call_known (word ∷ args) c says =
-    let said = says.2 in form_known says.0 args said.0 c said.1 (said_count says.0 args c said) said.2
+    let said = says.2 in form_known says.0 said.0 c (are_known (arguments_in says.0) args said.0 said.1) said.2
 
 pub known : (earlier : List ℕ) (words : List Bytes) (l : Line) → WordsSay earlier words l → Known earlier l
 known earlier [] l says = absurd says

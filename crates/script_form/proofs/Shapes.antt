@@ -6,11 +6,11 @@ use Rattle.std.specs.List.{find}
 use Rattle.ledger_spec.specs.Bytes.{Bytes, same_bytes}
 use Rattle.script_form.specs.declared.forms.Form.{Form}
 use Rattle.script_form.specs.declared.forms.Form.TheVariants as form
-use Rattle.script_form.specs.declared.forms.Argument.TheVariants as argument
+use Rattle.script_form.specs.declared.forms.Argument.{Argument}
 use Rattle.script_form.specs.declared.cause.Cause.{Cause}
 use Rattle.script_form.specs.declared.cause.Cause.TheVariants as cause
 use Rattle.script_form.specs.Words.{IsBlob}
-use Rattle.script_form.specs.Commands.{word_in, arguments_in, IsWrong}
+use Rattle.script_form.specs.Commands.{word_in, arguments_in, ArgumentOf, SaysArgument, SaysNothing, IsWrongData}
 
 -- whether a form has this word and so many arguments
 abbrev has_shape : Bytes → ℕ → Form → Bool
@@ -34,33 +34,33 @@ one_form f g word count =
     same : Some f ≡ Some g → f ≡ g
     same e = cc
 
--- a word that is no bytes is wrong in their place
-pub blob_tells : (c : Cause) (word : Bytes) (r : Option Bytes) (b : Bool) → c ≡ cause.BadHex → is_some r ≡ not b
+-- a word that is no bytes is wrong in the place of an item's data
+pub data_tells : (c : Cause) (word : Bytes) (r : Option Bytes) (b : Bool) → c ≡ cause.BadHex → is_some r ≡ not b
     → MatchOption r ((bytes : Bytes) → IsBlob word bytes → ⊥) (IsBlob word)
-    → MatchBool b (IsWrong c argument.Blob word) (IsWrong c argument.Blob word → ⊥)
-blob_tells c word r b is tells found =
-    let S : Cause → Type 0 = λ a. MatchBool b (IsWrong a argument.Blob word) (IsWrong a argument.Blob word → ⊥) in
-    subst S (sym is) (at r b tells found)
+    → MatchBool b (IsWrongData c word) (IsWrongData c word → ⊥)
+data_tells c word r b is tells found =
+    subst (λ (a : Cause). MatchBool b (IsWrongData a word) (IsWrongData a word → ⊥)) (sym is) (at r b tells found)
   where
     at : (r : Option Bytes) (b : Bool) → is_some r ≡ not b → MatchOption r ((bytes : Bytes) → IsBlob word bytes → ⊥) (IsBlob word)
-        → MatchBool b (IsWrong cause.BadHex argument.Blob word) (IsWrong cause.BadHex argument.Blob word → ⊥)
+        → MatchBool b (IsWrongData cause.BadHex word) (IsWrongData cause.BadHex word → ⊥)
     at None true tells found = found
     at None false tells found = cc
     at (Some x) true tells found = cc
     at (Some x) false tells found = λ wrong. wrong x found
 
--- so it is in the place of an item's data
-pub data_tells : (c : Cause) (word : Bytes) (r : Option Bytes) (b : Bool) → c ≡ cause.BadHex → is_some r ≡ not b
-    → MatchOption r ((bytes : Bytes) → IsBlob word bytes → ⊥) (IsBlob word)
-    → MatchBool b (IsWrong c argument.Data word) (IsWrong c argument.Data word → ⊥)
-data_tells c word r b is tells found =
-    subst (λ (a : Cause). MatchBool b (IsWrong a argument.Data word) (IsWrong a argument.Data word → ⊥)) (sym is)
-    (blob_tells cause.BadHex word r b refl tells found)
-
 pub no_data : (c : Cause) (word : Bytes) → c ≡ cause.DataTooLong → ((bytes : Bytes) → IsBlob word bytes → ⊥)
-    → IsWrong c argument.Data word → ⊥
+    → IsWrongData c word → ⊥
 no_data c word is none wrong =
-    let long = subst (λ (a : Cause). IsWrong a argument.Data word) is wrong in none long.0 long.1
+    let long = subst (λ (a : Cause). IsWrongData a word) is wrong in none long.0 long.1
+
+-- a word of which nothing was read says nothing
+pub nothing_read : (a : Argument) (word : Bytes) (r : Option (ArgumentOf a)) (b : Bool) → is_some r ≡ not b
+    → MatchOption r ((v : ArgumentOf a) → SaysArgument a word v → ⊥) (SaysArgument a word)
+    → MatchBool b (SaysNothing a word) (SaysNothing a word → ⊥)
+nothing_read a word None true tells found = record { none = found }
+nothing_read a word None false tells found = cc
+nothing_read a word (Some x) true tells found = cc
+nothing_read a word (Some x) false tells found = λ nothing. nothing.none x found
 
 -- a form stands among some
 abbrev pub StandsIn : List Form → Form → Type 0

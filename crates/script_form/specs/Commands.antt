@@ -1,5 +1,5 @@
 -- The commands that are read: their words, and what stands behind them.
-use Rattle.std.specs.Prelude.{◌≡◌, ◌≢◌, ◌⊎◌, ◌<◌, ℕ, List, [], ◌∷◌, length, codes, IsTrue, None, Some}
+use Rattle.std.specs.Prelude.{◌≡◌, ◌≢◌, ◌⊎◌, ◌<◌, ℕ, List, [], ◌∷◌, length, codes, IsTrue, Option, None, Some, MatchOption}
 use Rattle.ledger_spec.specs.Bytes.{Bytes, Hash, is_zero}
 use Rattle.ledger_spec.specs.Forms.{data_limit}
 use Rattle.ledger_spec.specs.declared.Kind.{Kind}
@@ -12,6 +12,8 @@ use Rattle.script_form.specs.declared.forms.Argument.{Argument}
 use Rattle.script_form.specs.declared.forms.Argument.TheVariants as argument
 use Rattle.script_form.specs.declared.forms.Form.{Form}
 use Rattle.script_form.specs.declared.forms.Form.TheVariants as form
+use Rattle.script_form.specs.declared.forms.Ways.{Ways}
+use Rattle.script_form.specs.declared.forms.Ways.TheVariants as ways
 use Rattle.script_form.specs.declared.cause.Cause.{Cause}
 use Rattle.script_form.specs.declared.cause.Cause.TheVariants as cause
 use Rattle.script_form.specs.Words.{IsNumber, IsCount, IsTarget, IsKind, IsIdText, IsId, IsBlob, IsData}
@@ -126,6 +128,18 @@ Makes form.Swap v c = c ≡ command.Swap
 abbrev pub FormSays : Form → List Bytes → Command → Type 0
 FormSays f words c = (v : ArgumentsOf (arguments_in f)) × SayArguments (arguments_in f) words v × Makes f v c
 
+-- they say it, as one fact
+pub record IsSaid (f : Form) (words : List Bytes) (c : Command) : Type 0 where
+  pub says : FormSays f words c
+
+-- they say no command
+pub record SaysNone (f : Form) (words : List Bytes) : Type 0 where
+  pub none : (c : Command) → FormSays f words c → ⊥
+
+-- what was read of them: the command that they say, or none where they say none
+abbrev pub IsReadAs : Form → List Bytes → Option Command → Type 0
+IsReadAs f words found = MatchOption found (SaysNone f words) (IsSaid f words)
+
 -- the first three words say a peer, a target and a header
 abbrev pub SaysHead : List Bytes → ℕ → Hash → Bytes → Type 0
 SaysHead (peer ∷ target ∷ header ∷ words) p t head = IsNumber peer 65535 p × IsTarget target t × IsBlob header head
@@ -141,20 +155,49 @@ abbrev pub CallSays : List Bytes → Command → Type 0
 CallSays [] c = ⊥
 CallSays (word ∷ words) c = (f : Form) × (word ≡ word_in f) × FormSays f words c
 
+-- in which ways a word can be wrong in an argument's place: it says nothing there, or one of two ways
+abbrev pub ways_in : Argument → Ways
+ways_in (argument.Number most) = ways.Nothing cause.BadNumber
+ways_in (argument.Count most) = ways.Nothing cause.BadNumber
+ways_in argument.Target = ways.Target
+ways_in argument.Key = ways.Nothing cause.BadHex
+ways_in argument.Kind = ways.Nothing cause.BadKindOrId
+ways_in argument.Id = ways.Id
+ways_in argument.Blob = ways.Nothing cause.BadHex
+ways_in argument.Data = ways.Data
+
+-- the word says nothing in an argument's place
+pub record SaysNothing (a : Argument) (word : Bytes) : Type 0 where
+  pub none : (v : ArgumentOf a) → SaysArgument a word v → ⊥
+
+-- a target's word is wrong for this cause: it is no hash, or one that is zero
+abbrev pub IsWrongTarget : Cause → Bytes → Type 0
+IsWrongTarget cause.BadHex word = (hash : Hash) → IsHexOf word hash → ⊥
+IsWrongTarget cause.ZeroTarget word = (hash : Hash) × IsHexOf word hash × IsTrue (is_zero hash)
+IsWrongTarget _ _ = ⊥
+
+-- a node ID's: it isn't 66 digits, or they are no node ID
+abbrev pub IsWrongId : Cause → Bytes → Type 0
+IsWrongId cause.BadHex word = (bytes : Bytes) → IsIdText word bytes → ⊥
+IsWrongId cause.BadKindOrId word = (path : List ℕ) → IsId word path → ⊥
+IsWrongId _ _ = ⊥
+
+-- that of an item's data: it is no bytes, or too many
+abbrev pub IsWrongData : Cause → Bytes → Type 0
+IsWrongData cause.BadHex word = (bytes : Bytes) → IsBlob word bytes → ⊥
+IsWrongData cause.DataTooLong word = (bytes : Bytes) × IsBlob word bytes × (data_limit < length bytes)
+IsWrongData _ _ = ⊥
+
+-- a word in an argument's place is wrong for this cause, in one of these ways
+abbrev pub IsWrongBy : Ways → Cause → Argument → Bytes → Type 0
+IsWrongBy (ways.Nothing one) c a word = (c ≡ one) × SaysNothing a word
+IsWrongBy ways.Target c a word = IsWrongTarget c word
+IsWrongBy ways.Id c a word = IsWrongId c word
+IsWrongBy ways.Data c a word = IsWrongData c word
+
 -- a word in an argument's place is wrong for this cause
 abbrev pub IsWrong : Cause → Argument → Bytes → Type 0
-IsWrong cause.BadNumber (argument.Number most) word = (n : ℕ) → IsNumber word most n → ⊥
-IsWrong cause.BadNumber (argument.Count most) word = (n : ℕ) → IsCount word most n → ⊥
-IsWrong cause.BadHex argument.Target word = (hash : Hash) → IsHexOf word hash → ⊥
-IsWrong cause.BadHex argument.Key word = (hash : Hash) → IsHexOf word hash → ⊥
-IsWrong cause.BadHex argument.Id word = (bytes : Bytes) → IsIdText word bytes → ⊥
-IsWrong cause.BadHex argument.Blob word = (bytes : Bytes) → IsBlob word bytes → ⊥
-IsWrong cause.BadHex argument.Data word = (bytes : Bytes) → IsBlob word bytes → ⊥
-IsWrong cause.BadKindOrId argument.Kind word = (kind : Kind) → IsKind word kind → ⊥
-IsWrong cause.BadKindOrId argument.Id word = (path : List ℕ) → IsId word path → ⊥
-IsWrong cause.ZeroTarget argument.Target word = (hash : Hash) × IsHexOf word hash × IsTrue (is_zero hash)
-IsWrong cause.DataTooLong argument.Data word = (bytes : Bytes) × IsBlob word bytes × (data_limit < length bytes)
-IsWrong _ _ _ = ⊥
+IsWrong c a word = IsWrongBy (ways_in a) c a word
 
 -- one of the words is wrong in its place for this cause
 abbrev pub HasWrong : Cause → List Argument → List Bytes → Type 0

@@ -2,7 +2,7 @@
 ghost use Rattle.std.specs.Prelude.{◌≡◌, ℕ, List, map, length, IfOk, MatchOption};
 ghost use Rattle.ledger_machine.specs.declared.commands.Command.{Command};
 ghost use Rattle.script_form.specs.declared.forms.Form.{Form};
-ghost use Rattle.script_form.specs.Commands.{arguments_in, CallSays, FormSays, SaysHead};
+ghost use Rattle.script_form.specs.Commands.{arguments_in, CallSays, IsReadAs, SaysHead};
 
 use crate::edit_call::{abandon_of, close_of, del_of, edit_of, put_of, tx_of};
 use crate::forms::{Form, form_of};
@@ -28,8 +28,7 @@ pub(crate) fn command_of(alloc: Global, call: &[&[u8]]) -> Result<Option<Command
 // The command that a form's arguments say.
 fn said_by(alloc: Global, form: Form, arguments: &[&[u8]]) -> Result<Option<Command>, Memory>
     requires { length arguments.now ≡ length (arguments_in form) }
-    ensures { IfOk result (λ found. MatchOption found ((c : Command) → FormSays form (map (λ w. w.now) arguments.now) c → ⊥)
-        (FormSays form (map (λ w. w.now) arguments.now))) }
+    ensures { IfOk result (IsReadAs form (map (λ w. w.now) arguments.now)) }
 {
     match form {
         Form::Want => Ok(want_of(arguments)),
@@ -56,8 +55,7 @@ fn said_by(alloc: Global, form: Form, arguments: &[&[u8]]) -> Result<Option<Comm
 }
 
 fn want_of(arguments: &[&[u8]]) -> Option<Command>
-    ensures { MatchOption result ((c : Command) → FormSays Form.Want (map (λ w. w.now) arguments.now) c → ⊥)
-        (FormSays Form.Want (map (λ w. w.now) arguments.now)) }
+    ensures { IsReadAs Form.Want (map (λ w. w.now) arguments.now) result }
 {
     let [target, seq] = arguments else {
         return None;
@@ -71,8 +69,7 @@ fn want_of(arguments: &[&[u8]]) -> Option<Command>
 }
 
 fn peer_of(arguments: &[&[u8]]) -> Option<Command>
-    ensures { MatchOption result ((c : Command) → FormSays Form.Peer (map (λ w. w.now) arguments.now) c → ⊥)
-        (FormSays Form.Peer (map (λ w. w.now) arguments.now)) }
+    ensures { IsReadAs Form.Peer (map (λ w. w.now) arguments.now) result }
 {
     let [peer, target] = arguments else {
         return None;
@@ -86,8 +83,7 @@ fn peer_of(arguments: &[&[u8]]) -> Option<Command>
 }
 
 fn check_of(arguments: &[&[u8]]) -> Option<Command>
-    ensures { MatchOption result ((c : Command) → FormSays Form.Check (map (λ w. w.now) arguments.now) c → ⊥)
-        (FormSays Form.Check (map (λ w. w.now) arguments.now)) }
+    ensures { IsReadAs Form.Check (map (λ w. w.now) arguments.now) result }
 {
     let [target] = arguments else {
         return None;
@@ -97,8 +93,7 @@ fn check_of(arguments: &[&[u8]]) -> Option<Command>
 }
 
 fn tick_of(arguments: &[&[u8]]) -> Option<Command>
-    ensures { MatchOption result ((c : Command) → FormSays Form.Tick (map (λ w. w.now) arguments.now) c → ⊥)
-        (FormSays Form.Tick (map (λ w. w.now) arguments.now)) }
+    ensures { IsReadAs Form.Tick (map (λ w. w.now) arguments.now) result }
 {
     let [target] = arguments else {
         return None;
@@ -108,8 +103,7 @@ fn tick_of(arguments: &[&[u8]]) -> Option<Command>
 }
 
 fn view_of(arguments: &[&[u8]]) -> Option<Command>
-    ensures { MatchOption result ((c : Command) → FormSays Form.View (map (λ w. w.now) arguments.now) c → ⊥)
-        (FormSays Form.View (map (λ w. w.now) arguments.now)) }
+    ensures { IsReadAs Form.View (map (λ w. w.now) arguments.now) result }
 {
     let [view, target] = arguments else {
         return None;
@@ -123,8 +117,7 @@ fn view_of(arguments: &[&[u8]]) -> Option<Command>
 }
 
 fn unview_of(arguments: &[&[u8]]) -> Option<Command>
-    ensures { MatchOption result ((c : Command) → FormSays Form.Unview (map (λ w. w.now) arguments.now) c → ⊥)
-        (FormSays Form.Unview (map (λ w. w.now) arguments.now)) }
+    ensures { IsReadAs Form.Unview (map (λ w. w.now) arguments.now) result }
 {
     let [view] = arguments else {
         return None;
@@ -134,8 +127,7 @@ fn unview_of(arguments: &[&[u8]]) -> Option<Command>
 }
 
 fn get_of(arguments: &[&[u8]]) -> Option<Command>
-    ensures { MatchOption result ((c : Command) → FormSays Form.Get (map (λ w. w.now) arguments.now) c → ⊥)
-        (FormSays Form.Get (map (λ w. w.now) arguments.now)) }
+    ensures { IsReadAs Form.Get (map (λ w. w.now) arguments.now) result }
 {
     let [view, kind, key] = arguments else {
         return None;
@@ -151,8 +143,7 @@ fn get_of(arguments: &[&[u8]]) -> Option<Command>
 }
 
 fn page_of(arguments: &[&[u8]]) -> Option<Command>
-    ensures { MatchOption result ((c : Command) → FormSays Form.Page (map (λ w. w.now) arguments.now) c → ⊥)
-        (FormSays Form.Page (map (λ w. w.now) arguments.now)) }
+    ensures { IsReadAs Form.Page (map (λ w. w.now) arguments.now) result }
 {
     let [view, kind, after, n] = arguments else {
         return None;
@@ -205,8 +196,7 @@ fn base_of(
 }
 
 fn base_state_of(alloc: Global, arguments: &[&[u8]]) -> Result<Option<Command>, Memory>
-    ensures { IfOk result (λ found. MatchOption found ((c : Command) → FormSays Form.BaseState (map (λ w. w.now) arguments.now) c → ⊥)
-        (FormSays Form.BaseState (map (λ w. w.now) arguments.now))) }
+    ensures { IfOk result (IsReadAs Form.BaseState (map (λ w. w.now) arguments.now)) }
 {
     let [_, _, _, state] = arguments else {
         return Ok(None);
@@ -218,8 +208,7 @@ fn base_state_of(alloc: Global, arguments: &[&[u8]]) -> Result<Option<Command>, 
 }
 
 fn base_tx_of(alloc: Global, arguments: &[&[u8]]) -> Result<Option<Command>, Memory>
-    ensures { IfOk result (λ found. MatchOption found ((c : Command) → FormSays Form.BaseTx (map (λ w. w.now) arguments.now) c → ⊥)
-        (FormSays Form.BaseTx (map (λ w. w.now) arguments.now))) }
+    ensures { IfOk result (IsReadAs Form.BaseTx (map (λ w. w.now) arguments.now)) }
 {
     let [_, _, _, state, tx] = arguments else {
         return Ok(None);
@@ -234,8 +223,7 @@ fn base_tx_of(alloc: Global, arguments: &[&[u8]]) -> Result<Option<Command>, Mem
 }
 
 fn node_of(alloc: Global, arguments: &[&[u8]]) -> Result<Option<Command>, Memory>
-    ensures { IfOk result (λ found. MatchOption found ((c : Command) → FormSays Form.Node (map (λ w. w.now) arguments.now) c → ⊥)
-        (FormSays Form.Node (map (λ w. w.now) arguments.now))) }
+    ensures { IfOk result (IsReadAs Form.Node (map (λ w. w.now) arguments.now)) }
 {
     let [peer, target, kind, id, blob] = arguments else {
         return Ok(None);

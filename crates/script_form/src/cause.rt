@@ -4,7 +4,7 @@ ghost use Rattle.script_form.specs.Causes.{number_of};
 
 use half_hash::Memory;
 
-/// A cause for which a line is refused.
+/// A cause for which a line is refused. Which of them a word in an argument's place has, the argument's kind says (`Argument::ways`).
 #[derive(Clone, Copy, Debug, PartialEq, Eq)]
 pub enum Cause {
     /// The line holds the first byte that a script may not have. It is tried before all others.
@@ -21,7 +21,7 @@ pub enum Cause {
     UnknownCommand,
     /// The command has another number of arguments.
     ArgumentCount,
-    /// A number is malformed or out of its range.
+    /// A number, or a word of another kind of argument that names this cause, is malformed or out of its range.
     BadNumber,
     /// A hexadecimal argument has a wrong digit or a wrong length.
     BadHex,

@@ -1,9 +1,8 @@
 //! The commands of edit sessions, read from their arguments: `edit`, `put`, `tx`, `del`, `close` and `abandon`.
 ghost use Rattle.std.specs.Prelude.{◌≡◌, ℕ, List, map, IfOk, MatchOption};
 ghost use Rattle.ledger_spec.specs.Forms.{IsItem};
-ghost use Rattle.ledger_machine.specs.declared.commands.Command.{Command};
 ghost use Rattle.script_form.specs.declared.forms.Form.{Form};
-ghost use Rattle.script_form.specs.Commands.{FormSays, SaysItem};
+ghost use Rattle.script_form.specs.Commands.{IsReadAs, SaysItem};
 
 use crate::forms::Form;
 use crate::words::{data_word, number, target_word};
@@ -13,8 +12,7 @@ use shamap_node::Item;
 use std::alloc::Global;
 
 pub(crate) fn edit_of(arguments: &[&[u8]]) -> Option<Command>
-    ensures { MatchOption result ((c : Command) → FormSays Form.Edit (map (λ w. w.now) arguments.now) c → ⊥)
-        (FormSays Form.Edit (map (λ w. w.now) arguments.now)) }
+    ensures { IsReadAs Form.Edit (map (λ w. w.now) arguments.now) result }
 {
     let [session, target] = arguments else {
         return None;
@@ -28,8 +26,7 @@ pub(crate) fn edit_of(arguments: &[&[u8]]) -> Option<Command>
 }
 
 pub(crate) fn put_of(alloc: Global, arguments: &[&[u8]]) -> Result<Option<Command>, Memory>
-    ensures { IfOk result (λ found. MatchOption found ((c : Command) → FormSays Form.Put (map (λ w. w.now) arguments.now) c → ⊥)
-        (FormSays Form.Put (map (λ w. w.now) arguments.now))) }
+    ensures { IfOk result (IsReadAs Form.Put (map (λ w. w.now) arguments.now)) }
 {
     match item_of(alloc, arguments)? {
         Some((session, item)) => Ok(Some(Command::Put { session, item })),
@@ -38,8 +35,7 @@ pub(crate) fn put_of(alloc: Global, arguments: &[&[u8]]) -> Result<Option<Comman
 }
 
 pub(crate) fn tx_of(alloc: Global, arguments: &[&[u8]]) -> Result<Option<Command>, Memory>
-    ensures { IfOk result (λ found. MatchOption found ((c : Command) → FormSays Form.Tx (map (λ w. w.now) arguments.now) c → ⊥)
-        (FormSays Form.Tx (map (λ w. w.now) arguments.now))) }
+    ensures { IfOk result (IsReadAs Form.Tx (map (λ w. w.now) arguments.now)) }
 {
     match item_of(alloc, arguments)? {
         Some((session, item)) => Ok(Some(Command::Tx { session, item })),
@@ -72,8 +68,7 @@ fn item_of(alloc: Global, arguments: &[&[u8]]) -> Result<Option<(u16, Item)>, Me
 }
 
 pub(crate) fn del_of(arguments: &[&[u8]]) -> Option<Command>
-    ensures { MatchOption result ((c : Command) → FormSays Form.Del (map (λ w. w.now) arguments.now) c → ⊥)
-        (FormSays Form.Del (map (λ w. w.now) arguments.now)) }
+    ensures { IsReadAs Form.Del (map (λ w. w.now) arguments.now) result }
 {
     let [session, key] = arguments else {
         return None;
@@ -87,8 +82,7 @@ pub(crate) fn del_of(arguments: &[&[u8]]) -> Option<Command>
 }
 
 pub(crate) fn close_of(arguments: &[&[u8]]) -> Option<Command>
-    ensures { MatchOption result ((c : Command) → FormSays Form.Close (map (λ w. w.now) arguments.now) c → ⊥)
-        (FormSays Form.Close (map (λ w. w.now) arguments.now)) }
+    ensures { IsReadAs Form.Close (map (λ w. w.now) arguments.now) result }
 {
     let [session, drops, time, resolution, flags] = arguments else {
         return None;
@@ -105,8 +99,7 @@ pub(crate) fn close_of(arguments: &[&[u8]]) -> Option<Command>
 }
 
 pub(crate) fn abandon_of(arguments: &[&[u8]]) -> Option<Command>
-    ensures { MatchOption result ((c : Command) → FormSays Form.Abandon (map (λ w. w.now) arguments.now) c → ⊥)
-        (FormSays Form.Abandon (map (λ w. w.now) arguments.now)) }
+    ensures { IsReadAs Form.Abandon (map (λ w. w.now) arguments.now) result }
 {
     let [session] = arguments else {
         return None;

@@ -1,8 +1,9 @@
 //! The forms of the commands that are read: their words, and what stands behind these.
 ghost use Rattle.std.specs.Prelude.{◌≡◌, ◌≢◌, length, MatchBool, MatchOption};
 ghost use Rattle.script_form.specs.declared.forms.Form.{Form};
-ghost use Rattle.script_form.specs.Commands.{word_in, arguments_in};
+ghost use Rattle.script_form.specs.Commands.{word_in, arguments_in, ways_in};
 
+use crate::cause::Cause;
 use crate::words::is_text;
 
 /// What an argument is.
@@ -23,6 +24,19 @@ pub enum Argument {
     /// Bytes.
     Blob,
     /// An item's data: bytes, at most 1,048,576 of them.
+    Data,
+}
+
+/// In which ways a word can be wrong in an argument's place.
+#[derive(Clone, Copy, Debug, PartialEq, Eq)]
+pub(crate) enum Ways {
+    /// It says nothing there, for this cause alone.
+    Nothing(Cause),
+    /// It is no hash, or a hash that is zero.
+    Target,
+    /// It isn't 66 hexadecimal digits, or they are no node ID.
+    Id,
+    /// It is no bytes, or too many.
     Data,
 }
 
@@ -140,6 +154,24 @@ const CLOSE: [Argument; 5] = [
 const ABANDON: [Argument; 1] = [Argument::Number(65_535)];
 
 const NONE: [Argument; 0] = [];
+
+impl Argument {
+    /// In which ways a word can be wrong in its place.
+    pub(crate) fn ways(self) -> Ways
+        ensures { result ≡ ways_in self }
+    {
+        match self {
+            Argument::Number(_) => Ways::Nothing(Cause::BadNumber),
+            Argument::Count(_) => Ways::Nothing(Cause::BadNumber),
+            Argument::Target => Ways::Target,
+            Argument::Key => Ways::Nothing(Cause::BadHex),
+            Argument::Kind => Ways::Nothing(Cause::BadKindOrId),
+            Argument::Id => Ways::Id,
+            Argument::Blob => Ways::Nothing(Cause::BadHex),
+            Argument::Data => Ways::Data,
+        }
+    }
+}
 
 impl Form {
     /// Whether this is the form's command word.

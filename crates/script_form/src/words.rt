@@ -4,8 +4,10 @@ ghost use Rattle.half_hash.specs.Hex.{IsHexOf};
 ghost use Rattle.ledger_spec.specs.declared.Kind.{Kind};
 ghost use Rattle.script_form.specs.Words.{words_of as text_words, IsNumber, IsCount, IsTarget, IsKind, IsBlob, IsData, IsId, IsIdText};
 ghost use Rattle.script_form.specs.Words.{decimal_behind};
+ghost use Rattle.script_form.specs.Commands.{SaysNothing};
 
 use crate::digits::decode;
+use crate::forms::Argument;
 use half_hash::{Blob, Hash32, Memory};
 use memchr::memchr;
 use nib_path::NodeId;
@@ -169,4 +171,70 @@ pub(crate) fn data_word(alloc: Global, word: &[u8]) -> Result<Option<Blob>, Memo
         return Ok(None);
     }
     Ok(Some(blob))
+}
+
+/// Whether a word says nothing in the place of an argument.
+pub(crate) fn says_nothing(alloc: Global, argument: Argument, word: &[u8]) -> Result<bool, Memory>
+    ensures { IfOk result (λ found. MatchBool found (SaysNothing argument word.now) (SaysNothing argument word.now → ⊥)) }
+{
+    match argument {
+        Argument::Number(most) => Ok(says_no_number(word, most)),
+        Argument::Count(most) => Ok(says_no_count(word, most)),
+        Argument::Target => Ok(says_no_target(word)),
+        Argument::Key => Ok(says_no_key(word)),
+        Argument::Kind => Ok(says_no_kind(word)),
+        Argument::Id => Ok(says_no_id(word)),
+        Argument::Blob => says_no_blob(alloc, word),
+        Argument::Data => says_no_data(alloc, word),
+    }
+}
+
+fn says_no_number(word: &[u8], most: u64) -> bool
+    ensures { MatchBool result (SaysNothing (Argument.Number most) word.now) (SaysNothing (Argument.Number most) word.now → ⊥) }
+{
+    number(word, most).is_none()
+}
+
+fn says_no_count(word: &[u8], most: u64) -> bool
+    ensures { MatchBool result (SaysNothing (Argument.Count most) word.now) (SaysNothing (Argument.Count most) word.now → ⊥) }
+{
+    count(word, most).is_none()
+}
+
+fn says_no_target(word: &[u8]) -> bool
+    ensures { MatchBool result (SaysNothing Argument.Target word.now) (SaysNothing Argument.Target word.now → ⊥) }
+{
+    target_word(word).is_none()
+}
+
+fn says_no_key(word: &[u8]) -> bool
+    ensures { MatchBool result (SaysNothing Argument.Key word.now) (SaysNothing Argument.Key word.now → ⊥) }
+{
+    hash_word(word).is_none()
+}
+
+fn says_no_kind(word: &[u8]) -> bool
+    ensures { MatchBool result (SaysNothing Argument.Kind word.now) (SaysNothing Argument.Kind word.now → ⊥) }
+{
+    kind_word(word).is_none()
+}
+
+fn says_no_id(word: &[u8]) -> bool
+    ensures { MatchBool result (SaysNothing Argument.Id word.now) (SaysNothing Argument.Id word.now → ⊥) }
+{
+    id_word(word).is_none()
+}
+
+fn says_no_blob(alloc: Global, word: &[u8]) -> Result<bool, Memory>
+    ensures { IfOk result (λ found. MatchBool found (SaysNothing Argument.Blob word.now) (SaysNothing Argument.Blob word.now → ⊥)) }
+{
+    let bytes = blob_word(alloc, word)?;
+    Ok(bytes.is_none())
+}
+
+fn says_no_data(alloc: Global, word: &[u8]) -> Result<bool, Memory>
+    ensures { IfOk result (λ found. MatchBool found (SaysNothing Argument.Data word.now) (SaysNothing Argument.Data word.now → ⊥)) }
+{
+    let bytes = data_word(alloc, word)?;
+    Ok(bytes.is_none())
 }

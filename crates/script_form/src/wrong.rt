@@ -1,10 +1,10 @@
 //! Words in the places of arguments: whether one is wrong there, for each cause.
 ghost use Rattle.std.specs.Prelude.{map, MatchBool, IfOk};
-ghost use Rattle.script_form.specs.Commands.{IsWrong, HasWrong};
+ghost use Rattle.script_form.specs.Commands.{IsWrong, IsWrongTarget, IsWrongId, IsWrongData, HasWrong};
 
 use crate::cause::Cause;
-use crate::forms::Argument;
-use crate::words::{blob_word, count, hash_word, id_text, id_word, kind_word, number};
+use crate::forms::{Argument, Ways};
+use crate::words::{blob_word, hash_word, id_text, id_word, says_nothing};
 use half_hash::Memory;
 use shamap_node::DATA_LIMIT;
 use std::alloc::Global;
@@ -35,47 +35,21 @@ pub(crate) fn has_wrong(
 fn is_wrong(alloc: Global, cause: Cause, argument: &Argument, word: &[u8]) -> Result<bool, Memory>
     ensures { IfOk result (λ found. MatchBool found (IsWrong cause argument.now word.now) (IsWrong cause argument.now word.now → ⊥)) }
 {
-    match *argument {
-        Argument::Number(most) => Ok(number_is_wrong(cause, most, word)),
-        Argument::Count(most) => Ok(count_is_wrong(cause, most, word)),
-        Argument::Target => Ok(target_is_wrong(cause, word)),
-        Argument::Key => Ok(key_is_wrong(cause, word)),
-        Argument::Kind => Ok(kind_is_wrong(cause, word)),
-        Argument::Id => Ok(id_is_wrong(cause, word)),
-        Argument::Blob => blob_is_wrong(alloc, cause, word),
-        Argument::Data => data_is_wrong(alloc, cause, word),
-    }
-}
-
-fn number_is_wrong(cause: Cause, most: u64, word: &[u8]) -> bool
-    ensures { MatchBool result (IsWrong cause (Argument.Number most) word.now) (IsWrong cause (Argument.Number most) word.now → ⊥) }
-{
-    match cause {
-        Cause::BadNumber => number(word, most).is_none(),
-        _ => false,
-    }
-}
-
-fn count_is_wrong(cause: Cause, most: u64, word: &[u8]) -> bool
-    ensures { MatchBool result (IsWrong cause (Argument.Count most) word.now) (IsWrong cause (Argument.Count most) word.now → ⊥) }
-{
-    match cause {
-        Cause::BadNumber => count(word, most).is_none(),
-        _ => false,
-    }
-}
-
-fn key_is_wrong(cause: Cause, word: &[u8]) -> bool
-    ensures { MatchBool result (IsWrong cause Argument.Key word.now) (IsWrong cause Argument.Key word.now → ⊥) }
-{
-    match cause {
-        Cause::BadHex => hash_word(word).is_none(),
-        _ => false,
+    match argument.ways() {
+        Ways::Nothing(one) => {
+            if cause != one {
+                return Ok(false);
+            }
+            says_nothing(alloc, *argument, word)
+        }
+        Ways::Target => Ok(target_is_wrong(cause, word)),
+        Ways::Id => Ok(id_is_wrong(cause, word)),
+        Ways::Data => data_is_wrong(alloc, cause, word),
     }
 }
 
 fn target_is_wrong(cause: Cause, word: &[u8]) -> bool
-    ensures { MatchBool result (IsWrong cause Argument.Target word.now) (IsWrong cause Argument.Target word.now → ⊥) }
+    ensures { MatchBool result (IsWrongTarget cause word.now) (IsWrongTarget cause word.now → ⊥) }
 {
     match cause {
         Cause::BadHex => hash_word(word).is_none(),
@@ -87,17 +61,8 @@ fn target_is_wrong(cause: Cause, word: &[u8]) -> bool
     }
 }
 
-fn kind_is_wrong(cause: Cause, word: &[u8]) -> bool
-    ensures { MatchBool result (IsWrong cause Argument.Kind word.now) (IsWrong cause Argument.Kind word.now → ⊥) }
-{
-    match cause {
-        Cause::BadKindOrId => kind_word(word).is_none(),
-        _ => false,
-    }
-}
-
 fn id_is_wrong(cause: Cause, word: &[u8]) -> bool
-    ensures { MatchBool result (IsWrong cause Argument.Id word.now) (IsWrong cause Argument.Id word.now → ⊥) }
+    ensures { MatchBool result (IsWrongId cause word.now) (IsWrongId cause word.now → ⊥) }
 {
     match cause {
         Cause::BadHex => id_text(word).is_none(),
@@ -106,20 +71,8 @@ fn id_is_wrong(cause: Cause, word: &[u8]) -> bool
     }
 }
 
-fn blob_is_wrong(alloc: Global, cause: Cause, word: &[u8]) -> Result<bool, Memory>
-    ensures { IfOk result (λ found. MatchBool found (IsWrong cause Argument.Blob word.now) (IsWrong cause Argument.Blob word.now → ⊥)) }
-{
-    match cause {
-        Cause::BadHex => {
-            let bytes = blob_word(alloc, word)?;
-            Ok(bytes.is_none())
-        }
-        _ => Ok(false),
-    }
-}
-
 fn data_is_wrong(alloc: Global, cause: Cause, word: &[u8]) -> Result<bool, Memory>
-    ensures { IfOk result (λ found. MatchBool found (IsWrong cause Argument.Data word.now) (IsWrong cause Argument.Data word.now → ⊥)) }
+    ensures { IfOk result (λ found. MatchBool found (IsWrongData cause word.now) (IsWrongData cause word.now → ⊥)) }
 {
     match cause {
         Cause::BadHex => {

@@ -4,11 +4,13 @@ use Rattle.script_form.proofs.call.base_tx_of.Goals as goal
 
 -- the fourth word, the state root's, says no bytes, so the words say no such base reply
 pub returns-in_default-2 : goal.returns-in_default-2
-returns-in_default-2 c said says =
-    let five : length c.args.arguments.now ≡ 5 = omega (arith, c.in-len5.len_at_least, c.in-len5.len_below) in
-    let none = rw c.in_default-2.is at c.in_ok-state.ensures in
-    let state = state_word c.args.arguments.now _ five said says in
-    none state.0 state.1
+returns-in_default-2 c = record {
+  none = λ said says.
+      let five : length c.args.arguments.now ≡ 5 = omega (arith, c.in-len5.len_at_least, c.in-len5.len_below) in
+      let none = rw c.in_default-2.is at c.in_ok-state.ensures in
+      let state = state_word c.args.arguments.now _ five said says in
+      none state.0 state.1;
+}
 
 pub returns-in-Some-2 : goal.returns-in-Some-2
 returns-in-Some-2 c =
@@ -17,8 +19,10 @@ returns-in-Some-2 c =
 
 -- the fifth word, the transaction root's, says no bytes, so the words say no such base reply
 pub returns-in-None : goal.returns-in-None
-returns-in-None c said says =
-    let five : length c.args.arguments.now ≡ 5 = omega (arith, c.in-len5.len_at_least, c.in-len5.len_below) in
-    let none = rw c.in-None.is at c.in_ok-tx.ensures in
-    let tx = tx_word c.args.arguments.now _ five said says in
-    none tx.0 tx.1
+returns-in-None c = record {
+  none = λ said says.
+      let five : length c.args.arguments.now ≡ 5 = omega (arith, c.in-len5.len_at_least, c.in-len5.len_below) in
+      let none = rw c.in-None.is at c.in_ok-tx.ensures in
+      let tx = tx_word c.args.arguments.now _ five said says in
+      none tx.0 tx.1;
+}

@@ -5,11 +5,13 @@ use Rattle.script_form.proofs.call.node_of.Goals as goal
 
 -- the last word says no bytes, so the five words say no node
 pub returns-in_default-2 : goal.returns-in_default-2
-returns-in_default-2 c said says =
-    let none = rw c.in_default-2.is at c.in_ok-blob.ensures in
-    let size : length c.args.arguments.now ≡ 5 = omega (arith, c.in-len5.len_at_least, c.in-len5.len_below) in
-    let last = last_word c.args.arguments.now _ size said says in
-    none last.0 last.1
+returns-in_default-2 c = record {
+  none = λ said says.
+      let none = rw c.in_default-2.is at c.in_ok-blob.ensures in
+      let size : length c.args.arguments.now ≡ 5 = omega (arith, c.in-len5.len_at_least, c.in-len5.len_below) in
+      let last = last_word c.args.arguments.now _ size said says in
+      none last.0 last.1;
+}
 
 -- each of the five words says its argument: the peer, the target, the kind, the place and the bytes
 pub returns : goal.returns

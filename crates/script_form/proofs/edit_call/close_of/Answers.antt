@@ -19,7 +19,9 @@ returns c =
 -- the last word says no flags, so the words say no close
 pub returns-in_err-flags : goal.returns-in_err-flags
 returns-in_err-flags c =
-    rw c.from_residual-in_err-flags.ensures (λ said says.
-    let size : length c.args.arguments.now ≡ 5 = omega (arith, c.in-len5.len_at_least, c.in-len5.len_below) in
-    let last = flags_word c.args.arguments.now _ size said says in
-    c.in_err-flags.ensures last.0 last.1)
+    rw c.from_residual-in_err-flags.ensures (record {
+      none = λ said says.
+          let size : length c.args.arguments.now ≡ 5 = omega (arith, c.in-len5.len_at_least, c.in-len5.len_below) in
+          let last = flags_word c.args.arguments.now _ size said says in
+          c.in_err-flags.ensures last.0 last.1;
+    })
