@@ -22,7 +22,7 @@ pub trait Gate: Sync {
     fn pass(&self, actor: u8, point: Point);
 
     /// Whether every call of `pass` returns at once and does nothing. An actor then needn't stop at its points, so that it may do several
-    /// lines in one section.
+    /// lines in one section, and needs no worker for lines that ask for no read.
     fn is_open(&self) -> bool {
         false
     }

@@ -1,5 +1,5 @@
 //! Nodes that several reads lack, as the core gives their bytes in one section.
-ghost use Rattle.std.specs.Prelude.{◌≡◌, IsTrue};
+ghost use Rattle.std.specs.Prelude.{◌≡◌, IfSome, IsTrue};
 
 use half_hash::{Blob, Hash32, NodeHash};
 use node_backend::{Backend, Shelf};
@@ -20,4 +20,19 @@ pub(crate) struct Given<H: NodeHash, Sh: Shelf> {
     pub(crate) form: Blob,
     pub(crate) of: PhantomData<(H, Sh)>,
     ghost own: { IsTrue Sh.B.tells → H.half form ≡ hash },
+}
+
+/// The bytes that are given for a hash, if there are any.
+pub(crate) fn given_for<'a, H: NodeHash, Sh: Shelf>(
+    given: &'a [Given<H, Sh>],
+    h: &Hash32,
+) -> Option<&'a Blob>
+    ensures { IfSome result (λ form. IsTrue Sh.B.tells → H.half form.now ≡ h.now) }
+{
+    for one in given {
+        if one.hash.equals(h) {
+            return Some(&one.form);
+        }
+    }
+    None
 }

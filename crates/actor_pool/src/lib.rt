@@ -2,13 +2,16 @@
 #![tactic(auto)]
 
 mod ahead;
+mod descent;
 mod gate;
 mod given;
+mod locked;
 mod near;
 mod pool;
 mod reading;
 mod shared;
 mod worker;
+mod working;
 
 pub use gate::{Gate, OpenGate, Point};
 pub use pool::run_actors;

@@ -5,7 +5,7 @@ ghost use Rattle.ledger_spec.specs.Forms.{hash_of};
 ghost use Rattle.shamap_node.specs.Nodes.{held};
 
 use half_hash::{Hash32, NodeHash};
-use read_cache::Shard;
+use read_cache::{ReadCache, Shard};
 use shamap_node::Node;
 use std::alloc::Global;
 use std::sync::Arc;
@@ -13,16 +13,16 @@ use std::sync::Arc;
 /// How many levels are kept, of at most 1, 16 and 256 nodes.
 const LEVELS: u8 = 3;
 
-/// A shard round which no lock is.
+/// A shard round which no lock is, made as the first node is kept.
 #[derive(Drop)]
 pub(crate) struct Near<H: NodeHash> {
-    shard: Shard<H>,
+    shard: Option<Shard<H>>,
 }
 
 impl<H: NodeHash> Near<H> {
     /// Without nodes.
-    pub(crate) fn new(shard: Shard<H>) -> Near<H> {
-        Near { shard }
+    pub(crate) fn new() -> Near<H> {
+        Near { shard: None }
     }
 
     /// The copy that is kept of the node with this hash, which stands at this depth; want of memory is passed over.
@@ -32,14 +32,21 @@ impl<H: NodeHash> Near<H> {
         if depth >= LEVELS {
             return None;
         }
-        match self.shard.find(h) {
+        match self.shard.as_mut()?.find(h) {
             Ok(found) => found,
             Err(_) => None,
         }
     }
 
     /// Keeps a copy of an inner node with this hash, which stands at this depth; want of memory is passed over.
-    pub(crate) fn keep(&mut self, alloc: Global, depth: u8, h: &Hash32, node: &Node)
+    pub(crate) fn keep(
+        &mut self,
+        cache: &ReadCache<H>,
+        alloc: Global,
+        depth: u8,
+        h: &Hash32,
+        node: &Node,
+    )
         requires { hash_of H.half (held node.now) ≡ h.now }
     {
         if depth >= LEVELS {
@@ -48,8 +55,14 @@ impl<H: NodeHash> Near<H> {
         let Node::Inner(inner) = node else {
             return;
         };
+        if self.shard.is_none() {
+            self.shard = cache.shard(alloc).ok();
+        }
+        let Some(shard) = &mut self.shard else {
+            return;
+        };
         if let Ok(own) = Arc::new(alloc, Node::Inner(*inner)) {
-            let _ = self.shard.keep_hashed(h, own);
+            let _ = shard.keep_hashed(h, own);
         }
     }
 }

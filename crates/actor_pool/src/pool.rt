@@ -1,4 +1,4 @@
-//! One worker for each actor, in rounds.
+//! Workers for actors, in rounds.
 ghost use Rattle.std.specs.Prelude.{◌≡◌, ◌↔◌, ◌<◌, ◌+◌, ◌==◌, false, not, length};
 ghost use Rattle.std.specs.List.{list_any};
 ghost use Rattle.ledger_machine.specs.Runs.{Projects, IsFull};
@@ -6,13 +6,9 @@ ghost use Rattle.store_core.specs.Journal.{IsJournal};
 ghost use Rattle.actor_pool.specs.Order.{IsOf, IsSameRun, AreAnswered, AreOfOne};
 
 use crate::gate::{Gate, Point};
-use crate::near::Near;
-use crate::reading::read_outside;
-use crate::shared::{
-    Pinned, Section, Shared, Stride, answered_locked, commit_locked, is_left_locked, reads_locked,
-    step_locked, unlocked,
-};
-use crate::worker::Worker;
+use crate::locked::{answered_locked, is_left_locked, serve_locked, unlocked};
+use crate::shared::{ACTORS, Pinned, Served, Shared};
+use crate::working::{LINES, SECTIONS, work};
 use half_hash::NodeHash;
 use ledger_machine::Line;
 use node_backend::Shelf;
@@ -22,25 +18,11 @@ use std::marker::Brand;
 use std::sync::{Mutex, Wait};
 use std::thread;
 use std::thread::Threads;
-use store_core::{Core, ReadJob, Stepped};
+use store_core::{Core, Stepped};
 
-/// How many actors there are, numbered from 0.
-const ACTORS: u8 = 64;
-
-/// The most sections of a line that is done in slices, more than a store can make needful.
-const SECTIONS: u32 = u32::MAX;
-
-/// How many lines of an actor a section answers at most, where no gate is passed between them.
-const LINES: u32 = 64;
-
-/// For how many reads an actor goes down before it hands in what it got, where no gate is passed between them.
-const READS: usize = 4;
-
-/// How often a worker tries a line that waits before it leaves it to the next round.
-const TRIES: u32 = 64;
-
-/// Answers every line of the core's script: each actor's by a worker of its own, over the core under one lock, and what the workers leave
-/// undone here, in line order. Where only one actor has lines no thread is started.
+/// Answers every line of the core's script, over the core under one lock: each actor's by a worker of its own, but that where the gate is
+/// open lines that ask for no read are answered here; and what is left undone then here too, in line order. Where only one actor has lines
+/// no thread is started.
 pub fn run_actors<R: Threads + Wait + Sync, H: NodeHash, Sh: Shelf, G: Gate>(
     rt: &R,
     alloc: Global,
@@ -79,8 +61,8 @@ fn has_others(lines: &[Line], actor: u8) -> bool
     lines.iter().any(|line| line.actor != actor)
 }
 
-/// What the workers do of the lines, in rounds: while lines are left, and the last round answered one. The nodes that they read stay for
-/// all rounds. Where there is no memory for those they do nothing.
+/// What is done of the lines in rounds: while lines are left, and the last round answered one. The nodes that workers read stay for all
+/// rounds. Where there is no memory for those nothing is done.
 fn run_workers<R: Threads + Wait + Sync, H: NodeHash, Sh: Shelf, G: Gate, J: Pinned + Send + Sync>(
     rt: &R,
     alloc: Global,
@@ -94,11 +76,10 @@ fn run_workers<R: Threads + Wait + Sync, H: NodeHash, Sh: Shelf, G: Gate, J: Pin
         return core;
     };
     let lines = core.script().lines.len();
-    let actors = actors_of(&core.script().lines);
     let mut answered = core.journal().len();
     let shared: Mutex<Shared<H, Sh, J>> = Mutex::new(Shared::new(core));
     while answered < lines {
-        run_round(rt, alloc, &shared, &cache, gate, &actors, lines);
+        run_round(rt, alloc, &shared, &cache, gate, lines);
         let now = answered_locked(rt, &shared);
         if now <= answered {
             break;
@@ -108,171 +89,61 @@ fn run_workers<R: Threads + Wait + Sync, H: NodeHash, Sh: Shelf, G: Gate, J: Pin
     unlocked(shared)
 }
 
-// Which actors have lines at all, so that those who have none aren't asked for in each round.
-fn actors_of(lines: &[Line]) -> [bool; ACTORS as usize] {
-    let mut actors = [false; ACTORS as usize];
-    for line in lines {
-        if line.actor < ACTORS {
-            actors[line.actor as usize] = true;
-        }
-    }
-    actors
-}
-
-/// Runs one worker for each actor that has a line left, and waits for them. One that can't be
-/// started leaves its lines undone.
+/// Runs workers for actors that have lines left, and waits for them: one for each where a gate is passed, and else one whenever an actor's
+/// line asks for a read, while the lines of the others are answered here. One that can't be started leaves its actor's lines undone.
 fn run_round<R: Threads + Wait + Sync, H: NodeHash, Sh: Shelf, G: Gate, J: Pinned + Send + Sync>(
     rt: &R,
     alloc: Global,
     shared: &Mutex<Shared<H, Sh, J>>,
     cache: &ReadCache<H>,
     gate: &G,
-    actors: &[bool; ACTORS as usize],
     lines: usize,
 ) {
     thread::scope(thread::scope_env(), rt, |scope| {
-        for actor in 0..ACTORS {
-            if actors[actor as usize] && is_left_locked(rt, shared, actor) {
-                let _ = scope.spawn(move || work(rt, alloc, shared, cache, gate, actor, lines));
-            }
+        let mut from = 0;
+        for _ in 0..lines {
+            let Some(actor) = next_worker(rt, alloc, shared, gate, from) else {
+                break;
+            };
+            from = actor.saturating_add(1);
+            let _ = scope.spawn(move || work(rt, alloc, shared, cache, gate, actor, lines));
         }
     });
 }
 
-/// Runs an actor's lines, of which there are at most so many, until it has none, or its next one
-/// waits each time that it is tried.
-fn work<R: Wait, H: NodeHash, Sh: Shelf, G: Gate, J: Pinned>(
+// The next actor that is to have a worker, if any: where a gate is passed the next one from this on that has a line left.
+fn next_worker<R: Wait, H: NodeHash, Sh: Shelf, G: Gate, J: Pinned>(
     rt: &R,
     alloc: Global,
     shared: &Mutex<Shared<H, Sh, J>>,
-    cache: &ReadCache<H>,
     gate: &G,
-    actor: u8,
-    lines: usize,
-) {
-    let Ok(shard) = cache.shard(alloc) else {
-        return;
-    };
-    let mut near = Near::new(shard);
-    let worker = Worker {
-        rt,
-        alloc,
-        shared,
-        cache,
-        gate,
-        actor,
-        stride: stride_of(gate),
-    };
-    let mut jobs = reads_locked(rt, alloc, shared, actor, worker.stride);
-    for _ in 0..lines {
-        match answer(&worker, &mut near, jobs) {
-            Some(next) => jobs = next,
-            None => break,
-        }
-    }
-}
-
-// One line and one read at a time where a gate is passed between them.
-fn stride_of<G: Gate>(gate: &G) -> Stride {
+    from: u8,
+) -> Option<u8> {
     if gate.is_open() {
-        Stride {
-            lines: LINES,
-            reads: READS,
-        }
-    } else {
-        Stride { lines: 1, reads: 1 }
+        return next_reader(rt, alloc, shared);
     }
-}
-
-/// Tries the actor's next line until it is answered, at first as the reads that it and those behind it are known to ask for. It gives the
-/// reads that the lines behind ask for, if any; none where there is no line, or it still waits.
-fn answer<R: Wait, H: NodeHash, Sh: Shelf, G: Gate, J: Pinned>(
-    worker: &Worker<R, H, Sh, G, J>,
-    near: &mut Near<H>,
-    jobs: Vec<ReadJob>,
-) -> Option<Vec<ReadJob>> {
-    let mut jobs = jobs;
-    for _ in 0..TRIES {
-        let Section {
-            stepped,
-            jobs: next,
-        } = try_line(worker, near, jobs);
-        match stepped {
-            Stepped::Answered => {
-                worker.gate.pass(worker.actor, Point::Answered);
-                return Some(next);
-            }
-            Stepped::Blocked | Stepped::More => {
-                thread::yield_now();
-                jobs = reads_locked(
-                    worker.rt,
-                    worker.alloc,
-                    worker.shared,
-                    worker.actor,
-                    worker.stride,
-                );
-            }
-            Stepped::Finished => return None,
+    for actor in from..ACTORS {
+        if is_left_locked(rt, shared, actor) {
+            return Some(actor);
         }
     }
     None
 }
 
-/// Does sections of the actor's next line as long as each is a slice of a swap or of a check.
-fn try_line<R: Wait, H: NodeHash, Sh: Shelf, G: Gate, J: Pinned>(
-    worker: &Worker<R, H, Sh, G, J>,
-    near: &mut Near<H>,
-    jobs: Vec<ReadJob>,
-) -> Section {
-    let mut jobs = jobs;
+// Answers lines that ask for no read, until an actor asks for one, which is that actor.
+fn next_reader<R: Wait, H: NodeHash, Sh: Shelf, J: Pinned>(
+    rt: &R,
+    alloc: Global,
+    shared: &Mutex<Shared<H, Sh, J>>,
+) -> Option<u8> {
     for _ in 0..SECTIONS {
-        let Section {
-            stepped,
-            jobs: next,
-        } = section(worker, near, jobs);
-        match stepped {
-            Stepped::More => worker.gate.pass(worker.actor, Point::BetweenSlices),
-            _ => {
-                return Section {
-                    stepped,
-                    jobs: next,
-                };
-            }
+        match serve_locked(rt, alloc, shared, LINES) {
+            Served::Reader(actor) => return Some(actor),
+            Served::Line | Served::Slice => {}
+            Served::Nothing => return None,
         }
-        jobs = next;
     }
-    Section {
-        stepped: Stepped::More,
-        jobs: Vec::new(worker.alloc),
-    }
-}
-
-/// One section of the actor's next lines. Reads are done outside of the core's lock, and what they give is handed in.
-fn section<R: Wait, H: NodeHash, Sh: Shelf, G: Gate, J: Pinned>(
-    worker: &Worker<R, H, Sh, G, J>,
-    near: &mut Near<H>,
-    jobs: Vec<ReadJob>,
-) -> Section {
-    if jobs.is_empty() {
-        worker.gate.pass(worker.actor, Point::BeforeCommit);
-        return step_locked(
-            worker.rt,
-            worker.alloc,
-            worker.shared,
-            worker.actor,
-            worker.stride,
-        );
-    }
-    let handed = read_outside(worker, near, jobs);
-    worker.gate.pass(worker.actor, Point::BeforeCommit);
-    commit_locked(
-        worker.rt,
-        worker.alloc,
-        worker.shared,
-        worker.actor,
-        handed,
-        worker.stride,
-    )
+    None
 }
 
 /// Answers every line that has no entry yet, in line order.

@@ -8,14 +8,16 @@ ghost use Rattle.ledger_spec.specs.Forms.{hash_of};
 ghost use Rattle.path_proof.specs.Sources.{HasHash};
 ghost use Rattle.shamap_node.specs.Nodes.{held};
 ghost use Rattle.store_core.specs.Reads.{IsSaid};
+ghost use Rattle.actor_pool.specs.Descents.{IsDescent};
 
+use crate::descent::{Descent, Going, Way};
 use crate::gate::{Gate, Point};
-use crate::given::{Given, Lack};
+use crate::given::{Given, given_for};
+use crate::locked::{form_locked, forms_below_locked};
 use crate::near::Near;
-use crate::shared::{Pinned, form_locked, forms_below_locked};
+use crate::shared::Pinned;
 use crate::worker::Worker;
-use half_hash::{Blob, Hash32, NodeHash};
-use nib_path::nibble;
+use half_hash::{Hash32, NodeHash};
 use node_backend::{Backend, Shelf};
 use path_proof::{Answer, FetchFault, Outcome, Progress, ReadFault, Reading, node_of_form};
 use shamap_node::Node;
@@ -30,29 +32,79 @@ pub(crate) fn read_outside<R: Wait, H: NodeHash, Sh: Shelf, G: Gate, J: Pinned>(
     near: &mut Near<H>,
     jobs: Vec<ReadJob>,
 ) -> Vec<Followed<H>> {
-    let given = given_to(worker, near, &jobs);
-    let mut got = Vec::new(worker.alloc);
+    let mut ways = Vec::new(worker.alloc);
     for job in jobs {
-        if got.push(followed(worker, near, job, &given)).is_err() {
+        if ways.push(begun(worker, near, job)).is_err() {
+            break;
+        }
+    }
+    let given = given_to(worker, &ways);
+    let mut got = Vec::new(worker.alloc);
+    for way in ways {
+        if got.push(followed(worker, near, way, &given)).is_err() {
             break;
         }
     }
     got
 }
 
-// The bytes that are lacking for these jobs, where they may be given together.
-fn given_to<R: Wait, H: NodeHash, Sh: Shelf, G: Gate, J: Pinned>(
+// A job's read, as far as the nodes go that the reader has.
+fn begun<R: Wait, H: NodeHash, Sh: Shelf, G: Gate, J: Pinned>(
     worker: &Worker<R, H, Sh, G, J>,
     near: &mut Near<H>,
-    jobs: &[ReadJob],
+    job: ReadJob,
+) -> Way<H> {
+    if job.root.is_zero() {
+        let nothing = Answer {
+            outcome: Outcome::Nothing,
+            used: Vec::new(worker.alloc),
+        };
+        return Way::Ended(Followed::new(job, Ok(nothing)));
+    }
+    match go_near(worker, near, &job) {
+        Ok(way) => way,
+        Err(why) => Way::Ended(Followed::new(job, Err(why))),
+    }
+}
+
+// The same below a root whose hash isn't zero.
+fn go_near<R: Wait, H: NodeHash, Sh: Shelf, G: Gate, J: Pinned>(
+    worker: &Worker<R, H, Sh, G, J>,
+    near: &mut Near<H>,
+    job: &ReadJob,
+) -> Result<Way<H>, ReadFault>
+    requires { is_zero job.now.root ≡ false }
+{
+    let mut reading = Reading::at_root(worker.alloc, &job.root);
+    let mut depth: u8 = 0;
+    loop {
+        let Some(node) = kept(worker, near, depth, reading.wanted()) else {
+            return Ok(Way::Lacks(Descent::new(Going {
+                job: *job,
+                reading,
+                depth,
+            })));
+        };
+        depth = depth.saturating_add(1);
+        match reading.go_on::<H>(Ok(Some(node)), job.kind, &job.key)? {
+            Progress::More(next) => reading = next,
+            Progress::Done(answer) => return Ok(Way::Ended(Followed::new(*job, Ok(answer)))),
+        }
+    }
+}
+
+// The bytes that are lacking for these reads, where they may be given together.
+fn given_to<R: Wait, H: NodeHash, Sh: Shelf, G: Gate, J: Pinned>(
+    worker: &Worker<R, H, Sh, G, J>,
+    ways: &[Way<H>],
 ) -> Vec<Given<H, Sh>> {
-    if jobs.len() < 2 {
+    let mut lacks = Vec::new(worker.alloc);
+    if worker.stride.reads < 2 {
         return Vec::new(worker.alloc);
     }
-    let mut lacks = Vec::new(worker.alloc);
-    for job in jobs {
-        if let Some(lack) = lack_of(worker, near, job) {
-            let _ = lacks.push(lack);
+    for way in ways {
+        if let Way::Lacks(descent) = way {
+            let _ = lacks.push(descent.lack());
         }
     }
     if lacks.is_empty() {
@@ -61,62 +113,39 @@ fn given_to<R: Wait, H: NodeHash, Sh: Shelf, G: Gate, J: Pinned>(
     forms_below_locked(worker.rt, worker.alloc, worker.shared, worker.actor, &lacks)
 }
 
-// The first node on the way to a job's key that isn't kept, if one isn't.
-fn lack_of<R: Wait, H: NodeHash, Sh: Shelf, G: Gate, J: Pinned>(
-    worker: &Worker<R, H, Sh, G, J>,
-    near: &mut Near<H>,
-    job: &ReadJob,
-) -> Option<Lack> {
-    let mut hash = job.root;
-    for depth in 0..64 {
-        if hash.is_zero() {
-            return None;
-        }
-        let Some(node) = kept(worker, near, depth, &hash) else {
-            return Some(Lack {
-                hash,
-                depth,
-                key: job.key,
-            });
-        };
-        match &*node {
-            Node::Inner(inner) => hash = inner.branch(nibble(&job.key.bytes, depth)),
-            Node::Leaf(_) => return None,
-        }
-    }
-    None
-}
-
-// What the reader gets for one job, with the bytes that are given for nodes.
+// What a read gets to its end, with the bytes that are given for nodes.
 fn followed<R: Wait, H: NodeHash, Sh: Shelf, G: Gate, J: Pinned>(
     worker: &Worker<R, H, Sh, G, J>,
     near: &mut Near<H>,
-    job: ReadJob,
+    way: Way<H>,
     given: &[Given<H, Sh>],
 ) -> Followed<H> {
-    let got = if job.root.is_zero() {
-        Ok(Answer {
-            outcome: Outcome::Nothing,
-            used: Vec::new(worker.alloc),
-        })
-    } else {
-        go_down(worker, near, &job, given)
-    };
-    Followed::new(job, got)
+    match way {
+        Way::Ended(followed) => followed,
+        Way::Lacks(descent) => {
+            let going = descent.into_going();
+            let job = going.job;
+            let got = go_down(worker, near, going, given);
+            Followed::new(job, got)
+        }
+    }
 }
 
-// The same below a root whose hash isn't zero.
+// The same where a node is lacking.
 fn go_down<R: Wait, H: NodeHash, Sh: Shelf, G: Gate, J: Pinned>(
     worker: &Worker<R, H, Sh, G, J>,
     near: &mut Near<H>,
-    job: &ReadJob,
+    going: Going,
     given: &[Given<H, Sh>],
 ) -> Result<Answer, ReadFault>
-    requires { is_zero job.now.root ≡ false }
-    ensures { IsSaid H.half job.now result }
+    requires { IsDescent H.half going.job going.reading }
+    ensures { IsSaid H.half going.job result }
 {
-    let mut reading = Reading::at_root(worker.alloc, &job.root);
-    let mut depth: u8 = 0;
+    let Going {
+        job,
+        mut reading,
+        mut depth,
+    } = going;
     loop {
         let node = node_of(worker, near, depth, reading.wanted(), given);
         depth = depth.saturating_add(1);
@@ -143,7 +172,7 @@ fn kept<R: Wait, H: NodeHash, Sh: Shelf, G: Gate, J: Pinned>(
         Ok(found) => found?,
         Err(_) => return None,
     };
-    near.keep(worker.alloc, depth, h, &node);
+    near.keep(worker.cache, worker.alloc, depth, h, &node);
     Some(node)
 }
 
@@ -167,21 +196,9 @@ fn node_of<R: Wait, H: NodeHash, Sh: Shelf, G: Gate, J: Pinned>(
     let Some(node) = node else {
         return Ok(None);
     };
-    near.keep(worker.alloc, depth, h, &node);
+    near.keep(worker.cache, worker.alloc, depth, h, &node);
     keep(worker, h, &node);
     Ok(Some(node))
-}
-
-// The bytes that are given for a hash, if there are any.
-fn given_for<'a, H: NodeHash, Sh: Shelf>(given: &'a [Given<H, Sh>], h: &Hash32) -> Option<&'a Blob>
-    ensures { IfSome result (λ form. IsTrue Sh.B.tells → H.half form.now ≡ h.now) }
-{
-    for one in given {
-        if one.hash.equals(h) {
-            return Some(&one.form);
-        }
-    }
-    None
 }
 
 // The node of the bytes that the core gives for a hash in a section of its own.

@@ -1,19 +1,21 @@
 //! A core under one lock, tied to what it was opened with.
-ghost use Rattle.std.specs.Prelude.{◌≡◌, IfOk, IfSome, IsTrue};
+ghost use Rattle.std.specs.Prelude.{◌≡◌, ◌<◌, IfOk, IfSome, IsTrue};
 ghost use Rattle.actor_pool.specs.Order.{IsOf};
 
 use crate::ahead::reads_from;
-use crate::given::{Given, Lack};
+use crate::given::{Given, Lack, given_for};
 use half_hash::{Blob, Hash32, NodeHash};
+use ledger_machine::Line;
 use nib_path::nibble;
 use node_backend::{Backend, Shelf};
 use path_proof::FetchFault;
-use read_cache::take_lock;
 use shamap_node::branch_of_form;
 use std::alloc::Global;
 use std::marker::{Brand, Model, PhantomData};
-use std::sync::{Mutex, Wait};
 use store_core::{Core, Followed, ReadJob, Stepped};
+
+/// How many actors there are, numbered from 0.
+pub(crate) const ACTORS: u8 = 64;
 
 /// Which run it is: the script, the interval, the count of faults at opening and what was missed. Each
 /// call picks it.
@@ -29,11 +31,15 @@ impl Pinned for Brand {
     ghost run = { record { records = []; lines = []; interval = 0; opened = 0; missed = 0 } };
 }
 
-/// How many lines of an actor a section answers at most, and for how many reads an actor goes down before it hands in what it got.
+/// How far a worker goes.
 #[derive(Clone, Copy, Debug)]
 pub(crate) struct Stride {
+    /// How many lines a section answers at most.
     pub(crate) lines: u32,
+    /// For how many reads it goes down before it hands in what it got.
     pub(crate) reads: usize,
+    /// How often it tries a line that waits before it leaves it to the next round.
+    pub(crate) tries: u32,
 }
 
 /// What the last line of a section came to, and the reads that the actor's lines behind it ask for, if they ask for any. Those are taken
@@ -44,10 +50,27 @@ pub(crate) struct Section {
     pub(crate) jobs: Vec<ReadJob>,
 }
 
+/// What a section for actors without a worker came to.
+#[derive(Clone, Copy, Debug)]
+pub(crate) enum Served {
+    /// Lines were answered.
+    Line,
+    /// A slice of a line was done.
+    Slice,
+    /// This actor's next line asks for a read.
+    Reader(u8),
+    /// There was nothing to do.
+    Nothing,
+}
+
 /// A core of the pinned run.
 #[derive(Drop)]
 pub(crate) struct Shared<H: NodeHash, Sh: Shelf, J: Pinned> {
     core: Core<H, Sh>,
+    /// Whose line is served next.
+    turn: u8,
+    /// Which actors have lines, and no worker.
+    free: [bool; ACTORS as usize],
     of: PhantomData<J>,
 }
 
@@ -67,12 +90,16 @@ impl<H: NodeHash, Sh: Shelf, J: Pinned> Model for Shared<H, Sh, J> {
 }
 
 impl<H: NodeHash, Sh: Shelf, J: Pinned> Shared<H, Sh, J> {
+    /// A core of whose actors none has a worker.
     pub(crate) fn new(core: Core<H, Sh>) -> Self
         requires { IsOf J.run core }
         ensures { result ≡ core }
     {
+        let free = actors_of(&core.script().lines);
         Shared {
             core,
+            turn: 0,
+            free,
             of: PhantomData,
         }
     }
@@ -87,6 +114,60 @@ impl<H: NodeHash, Sh: Shelf, J: Pinned> Shared<H, Sh, J> {
             stepped = self.line(alloc, actor);
         }
         self.section(alloc, actor, stepped, stride)
+    }
+
+    /// One section for lines that ask for no read, of actors that have no worker: up to so many, until a line of one asks for a read, which
+    /// has a worker from now on.
+    pub(crate) fn serve(&mut self, alloc: Global, lines: u32) -> Served {
+        for _ in 0..lines {
+            match self.serve_next(alloc) {
+                Served::Line => {}
+                other => return other,
+            }
+        }
+        Served::Line
+    }
+
+    // The same for one line: the next one of the actor whose turn it is, or of the first behind him that has one.
+    fn serve_next(&mut self, alloc: Global) -> Served {
+        for _ in 0..ACTORS {
+            match self.serve_actor(alloc, self.turn) {
+                Served::Nothing => self.turn = self.turn.saturating_add(1) % ACTORS,
+                served => return served,
+            }
+        }
+        Served::Nothing
+    }
+
+    // The same for an actor's next line.
+    fn serve_actor(&mut self, alloc: Global, actor: u8) -> Served {
+        if !self.is_free(actor) {
+            return Served::Nothing;
+        }
+        if self.asks(actor) {
+            self.set_free(actor, false);
+            return Served::Reader(actor);
+        }
+        match self.line(alloc, actor) {
+            Stepped::Answered => Served::Line,
+            Stepped::More => Served::Slice,
+            Stepped::Blocked | Stepped::Finished => Served::Nothing,
+        }
+    }
+
+    // Whether an actor has lines, and no worker.
+    fn is_free(&self, actor: u8) -> bool {
+        match self.free.get(actor as usize) {
+            Some(free) => *free,
+            None => false,
+        }
+    }
+
+    /// Notes that an actor has a worker, or none any more.
+    pub(crate) fn set_free(&mut self, actor: u8, is_free: bool) {
+        if let Some(free) = self.free.get_mut(actor as usize) {
+            *free = is_free;
+        }
     }
 
     // One step of the actor.
@@ -146,26 +227,44 @@ impl<H: NodeHash, Sh: Shelf, J: Pinned> Shared<H, Sh, J> {
         given
     }
 
-    // The bytes below a place on the way to a key.
+    // The bytes below a place on the way to a key, each once.
     fn path_below(&mut self, alloc: Global, actor: u8, lack: &Lack, given: &mut Vec<Given<H, Sh>>) {
         let mut hash = lack.hash;
         for depth in lack.depth..64 {
-            let Ok(Some(form)) = self.form_at(alloc, actor, &hash) else {
-                return;
-            };
-            let below = branch_of_form(form.bytes(), nibble(&lack.key.bytes, depth));
-            let one = Given {
-                hash,
-                form,
-                of: PhantomData,
-            };
-            if given.push(one).is_err() {
-                return;
-            }
-            match below {
+            let branch = nibble(&lack.key.bytes, depth);
+            match self.branch_below(alloc, actor, &hash, branch, given) {
                 Some(next) if !next.is_zero() => hash = next,
                 _ => return,
             }
+        }
+    }
+
+    // What a node has at a branch, by its bytes, which are given then. None where it is a leaf, or can't be given.
+    fn branch_below(
+        &mut self,
+        alloc: Global,
+        actor: u8,
+        h: &Hash32,
+        branch: u8,
+        given: &mut Vec<Given<H, Sh>>,
+    ) -> Option<Hash32>
+        requires { branch < 16 }
+    {
+        if let Some(form) = given_for(given, h) {
+            return branch_of_form(form.bytes(), branch);
+        }
+        let Ok(Some(form)) = self.form_at(alloc, actor, h) else {
+            return None;
+        };
+        let below = branch_of_form(form.bytes(), branch);
+        let one = Given {
+            hash: *h,
+            form,
+            of: PhantomData,
+        };
+        match given.push(one) {
+            Ok(()) => below,
+            Err(_) => None,
         }
     }
 
@@ -200,7 +299,7 @@ impl<H: NodeHash, Sh: Shelf, J: Pinned> Shared<H, Sh, J> {
 
     /// Whether the actor has a line left.
     pub(crate) fn is_left(&self, actor: u8) -> bool {
-        !self.core.is_finished(actor)
+        self.is_free(actor) && !self.core.is_finished(actor)
     }
 
     pub(crate) fn into_core(self) -> Core<H, Sh>
@@ -211,94 +310,21 @@ impl<H: NodeHash, Sh: Shelf, J: Pinned> Shared<H, Sh, J> {
     }
 }
 
+// Which actors have lines.
+fn actors_of(lines: &[Line]) -> [bool; ACTORS as usize] {
+    let mut actors = [false; ACTORS as usize];
+    for line in lines {
+        if let Some(has) = actors.get_mut(line.actor as usize) {
+            *has = true;
+        }
+    }
+    actors
+}
+
 // Whether a section came to an entry.
 fn is_answered(stepped: Stepped) -> bool {
     match stepped {
         Stepped::Answered => true,
         _ => false,
     }
-}
-
-/// One section for the actor's next lines.
-pub(crate) fn step_locked<H: NodeHash, Sh: Shelf, J: Pinned>(
-    rt: &impl Wait,
-    alloc: Global,
-    shared: &Mutex<Shared<H, Sh, J>>,
-    actor: u8,
-    stride: Stride,
-) -> Section {
-    take_lock(rt, shared).step(alloc, actor, stride)
-}
-
-/// The reads that the actor's next lines ask for.
-pub(crate) fn reads_locked<H: NodeHash, Sh: Shelf, J: Pinned>(
-    rt: &impl Wait,
-    alloc: Global,
-    shared: &Mutex<Shared<H, Sh, J>>,
-    actor: u8,
-    stride: Stride,
-) -> Vec<ReadJob> {
-    take_lock(rt, shared).reads(alloc, actor, stride)
-}
-
-/// The bytes that are stored under a hash, in a section of its own.
-pub(crate) fn form_locked<H: NodeHash, Sh: Shelf, J: Pinned>(
-    rt: &impl Wait,
-    alloc: Global,
-    shared: &Mutex<Shared<H, Sh, J>>,
-    actor: u8,
-    h: &Hash32,
-) -> Result<Option<Blob>, FetchFault>
-    ensures { IfOk result (λ o. IfSome o (λ form. IsTrue Sh.B.tells → H.half form ≡ h.now)) }
-{
-    take_lock(rt, shared).form_at(alloc, actor, h)
-}
-
-/// The bytes that these reads lack, each down to the end of its path, in one section.
-pub(crate) fn forms_below_locked<H: NodeHash, Sh: Shelf, J: Pinned>(
-    rt: &impl Wait,
-    alloc: Global,
-    shared: &Mutex<Shared<H, Sh, J>>,
-    actor: u8,
-    lacks: &[Lack],
-) -> Vec<Given<H, Sh>> {
-    take_lock(rt, shared).forms_below(alloc, actor, lacks)
-}
-
-/// One section for the actor's next lines, with what a reader got for the first of them.
-pub(crate) fn commit_locked<H: NodeHash, Sh: Shelf, J: Pinned>(
-    rt: &impl Wait,
-    alloc: Global,
-    shared: &Mutex<Shared<H, Sh, J>>,
-    actor: u8,
-    handed: Vec<Followed<H>>,
-    stride: Stride,
-) -> Section {
-    take_lock(rt, shared).commit(alloc, actor, handed, stride)
-}
-
-/// How many lines have their entries.
-pub(crate) fn answered_locked<H: NodeHash, Sh: Shelf, J: Pinned>(
-    rt: &impl Wait,
-    shared: &Mutex<Shared<H, Sh, J>>,
-) -> usize {
-    take_lock(rt, shared).answered()
-}
-
-/// Whether the actor has a line left.
-pub(crate) fn is_left_locked<H: NodeHash, Sh: Shelf, J: Pinned>(
-    rt: &impl Wait,
-    shared: &Mutex<Shared<H, Sh, J>>,
-    actor: u8,
-) -> bool {
-    take_lock(rt, shared).is_left(actor)
-}
-
-/// The core of a lock that goes out of use.
-pub(crate) fn unlocked<H: NodeHash, Sh: Shelf, J: Pinned>(
-    shared: Mutex<Shared<H, Sh, J>>,
-) -> Core<H, Sh>
-    ensures { IsOf J.run result }
-{
-    shared.into_inner().into_core()
 }

@@ -23,7 +23,7 @@ spawn-requires-send-F g c κs lives =
     let lock = Shared-sync (copied 1 g.row.H) (param 2 g.row.Sh) (param 5 g.row.Sh-B) g.H.NodeHash g.Sh.Shelf g.Sh.B.Backend
     (param 4 g.row.J) g.J.Pinned (copied_send 1 g.row.H s) (param_send 2 g.row.Sh t) (param_send 5 g.row.Sh-B q)
     (param_send 4 g.row.J u) in
-    let row : RattleType = lts.arg-1-1 g.row.R g.row.H g.row.Sh g.row.G g.row.J g.row.Sh-B g.R.laws g.H.laws g.Sh.laws g.G.laws g.J.laws
+    let row : RattleType = lts.arg-2-1 g.row.R g.row.H g.row.Sh g.row.G g.row.J g.row.Sh-B g.R.laws g.H.laws g.Sh.laws g.G.laws g.J.laws
     g.Sh.B.laws g.H.copy g.R.Threads g.R.Threads-dict g.R.Wait g.R.Wait-dict g.H.NodeHash g.H.NodeHash-dict g.H.Clone g.H.Clone-dict
     g.Sh.Shelf g.Sh.Shelf-dict g.Sh.B.Backend g.Sh.B.Backend-dict g.G.Gate g.G.Gate-dict g.J.Pinned g.J.Pinned-dict g.Sh.Destruct-dict
     g.Sh.B.Destruct-dict κs in
