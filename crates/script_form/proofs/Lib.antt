@@ -2,7 +2,6 @@ mod ByteWords
 pub mod Calls
 pub mod Cuts
 pub mod Numbers
-pub mod Pairs
 pub mod Right
 pub mod Order
 pub mod Said

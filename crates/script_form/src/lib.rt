@@ -3,7 +3,6 @@
 
 mod call;
 mod cause;
-mod digits;
 mod edit_call;
 mod forms;
 mod judging;

@@ -6,7 +6,6 @@ ghost use Rattle.script_form.specs.Words.{words_of as text_words, IsNumber, IsCo
 ghost use Rattle.script_form.specs.Words.{decimal_behind};
 ghost use Rattle.script_form.specs.Commands.{SaysNothing};
 
-use crate::digits::decode;
 use crate::forms::Argument;
 use half_hash::{Blob, Hash32, Memory};
 use memchr::memchr;
@@ -89,7 +88,7 @@ pub fn hash_word(word: &[u8]) -> Option<Hash32>
         return None;
     }
     let mut bytes = [0; 32];
-    if hex_digits::decode_to_slice(word, &mut bytes) {
+    if hex_digits::decode_over(word, &mut bytes) {
         Some(Hash32 { bytes })
     } else {
         None
@@ -112,7 +111,7 @@ pub(crate) fn id_text(word: &[u8]) -> Option<[u8; 33]>
         return None;
     }
     let mut bytes = [0; 33];
-    if hex_digits::decode_to_slice(word, &mut bytes) {
+    if hex_digits::decode_over(word, &mut bytes) {
         Some(bytes)
     } else {
         None
@@ -154,7 +153,7 @@ pub fn blob_word(alloc: Global, word: &[u8]) -> Result<Option<Blob>, Memory>
     if word.is_empty() {
         return Ok(None);
     }
-    match decode(alloc, word)? {
+    match hex_digits::decode(alloc, word)? {
         Some(bytes) => Ok(Some(Blob::new(bytes))),
         None => Ok(None),
     }
