@@ -2,5 +2,5 @@ pub mod shared
 pub mod Sources
 pub mod Keeping
 pub mod Nexts
-pub mod Noting
+pub mod Checking
 pub mod Spares

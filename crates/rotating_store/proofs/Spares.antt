@@ -1,14 +1,12 @@
 -- The shelf's numbers that are of none of the store's own backends, and the count of faults.
-use Rattle.std.proofs.Common.{◌≡◌, ◌∙◌, ◌≤◌, ◌<◌, ◌+◌, ◌-◌, ◌⊎◌, inl, inr, ◌++◌, ◌==◌, ℕ, Bool, true, false, cond, not, List, [], ◌∷◌}
+use Rattle.std.proofs.Common.{◌≡◌, ◌∙◌, ◌≤◌, ◌<◌, ◌+◌, ◌-◌, ◌⊎◌, inl, inr, ◌++◌, ◌==◌, ℕ, true, false, cond, not, List, [], ◌∷◌}
 use Rattle.std.proofs.Common.{Option, Some, None, IsTrue, refl, sym, ap, subst, arith}
 use Rattle.std.specs.Prelude.{is_some, min, ◌^◌}
 use Rattle.std.specs.Option.{option_map, option_map_or}
 use Rattle.std.proofs.lemmas.Bool.{eqb-true, eq-eqb, ltb-true}
-use Rattle.std.proofs.lemmas.List.Elements.{filter-append}
 use Rattle.node_backend.specs.Numbers.{is_among, exceeds, without}
 use Rattle.node_backend.specs.Counts.{held_sum}
 use Rattle.node_backend.proofs.shared.Lists.{and_left, and_right, exceeds_more, exceeds_without, below_among, among_last}
-use Rattle.rotating_store.specs.Keeps.{Numbered}
 use Rattle.rotating_store.specs.Stores.{spare_of, sum_of, AddsAtMostOne}
 
 -- a number above all of them isn't among those that can be taken out

@@ -1,4 +1,4 @@
-pub mod Notes
+pub mod Unchecked
 pub mod Stores
 pub mod Puts
 pub mod Moves

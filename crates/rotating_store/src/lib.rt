@@ -3,13 +3,13 @@
 #![tactic(auto)]
 
 mod maps;
-mod notes;
 mod outcome;
 mod own;
 mod pair;
 mod source;
 mod store;
 mod turning;
+mod unchecked;
 
 pub use outcome::{Put, StoreFault};
 pub use own::own_form;

@@ -73,7 +73,7 @@ impl<Sh: Shelf> RotStore<Sh> {
         if let Some(old) = get_either(&mut self.writable, &mut self.archive, alloc, h)? {
             return compare(alloc, h, old, form);
         }
-        self.noted.carry(h)?;
+        self.unchecked.add(h)?;
         self.writable.put(alloc, h, form)?;
         Ok(Put::New)
     }
@@ -100,7 +100,7 @@ impl<Sh: Shelf> RotStore<Sh> {
         ensures store { LeavesStore StoreFault.Fault self.old self.new result }
         ensures kind { IfErr result IsPlain }
     {
-        self.noted.carry(h)?;
+        self.unchecked.carry(h)?;
         let moved = copy_form(&mut self.writable, &mut self.archive, alloc, h)?;
         Ok(moved)
     }

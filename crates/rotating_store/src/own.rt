@@ -35,8 +35,9 @@ pub fn own_form<H: NodeHash, Sh: Shelf>(
     }
 }
 
-// The form, where it is its hash's own. It isn't checked where that was noted, and noted where it was checked.
+// The form that the store holds, where it is its hash's own. It isn't checked where that was noted, and noted where it was checked.
 fn if_own<H: NodeHash, Sh: Shelf>(store: &mut RotStore<Sh>, h: &Hash32, form: Blob) -> Option<Blob>
+    requires held { IsTrue Sh.B.tells → map.get (nodes_of store.old) h.now ≡ Some form }
     ensures form { (IsTrue (is_noted store.old h.now) → IsTrue (stands H.half h.now form)) → result ≡ held_at H.half h.now (Some form) }
     ensures noted { MayNote H.half store.old h.now form store.new }
 {

@@ -1,11 +1,13 @@
 //! The store: a shelf, two backends of it and the notes on what was checked; how it is opened, and what it tells of itself. What is new
 //! goes into the writable backend; what the archive alone has is kept by a swap only if it was copied forward before.
 ghost use Rattle.std.specs.Prelude.{◌≡◌, ◌≢◌, IsTrue, Err, IfOk};
+ghost use Rattle.std.specs.FinMap as map;
+ghost use Rattle.std.specs.Option.{IsSome};
 ghost use Rattle.run_io.specs.Bytes.{Rose};
-ghost use Rattle.rotating_store.specs.Stores.{Store, Agree, is_noted, IsNoted};
+ghost use Rattle.rotating_store.specs.Stores.{Store, Agree, nodes_of, is_noted, IsNoted};
 ghost use Rattle.rotating_store.specs.Openings.{IsOpened, HasParts};
 
-use crate::notes::Notes;
+use crate::unchecked::Unchecked;
 use half_hash::Hash32;
 use node_backend::{BackFault, Backend, Shelf};
 use std::alloc::Global;
@@ -33,7 +35,7 @@ pub struct RotStore<Sh: Shelf> {
     pub(crate) epoch: u64,
     pub(crate) past_faults: u64,
     pub(crate) past_gets: u64,
-    pub(crate) noted: Notes,
+    pub(crate) unchecked: Unchecked,
 }
 
 /// The very shelf and backends of a store.
@@ -56,9 +58,9 @@ impl<Sh: Shelf> Model for RotStore<Sh> {
     ghost use Rattle.std.specs.Coded.{codes};
     ghost use Rattle.ledger_spec.specs.Maps.{map_code, set_code};
     ghost use Rattle.node_backend.specs.Counts.{held_sum};
-    ghost use Rattle.rotating_store.specs.Stores.{Store, sum_of, spare_of};
+    ghost use Rattle.rotating_store.specs.Stores.{Store, merged, sum_of, spare_of};
     ghost use Rattle.rotating_store.specs.Keeps.{Numbered, Keeps};
-    ghost use Rattle.rotating_store.specs.Notes.{noted_of, AreCarried};
+    ghost use Rattle.rotating_store.specs.Unchecked.{noted_in, AreCarried};
 
     ghost Value = { Store };
 
@@ -77,14 +79,14 @@ impl<Sh: Shelf> Model for RotStore<Sh> {
       shelf_faults = Sh.faults r.shelf;
       spare = spare_of (Sh.live r.shelf) (Sh.B.number r.archive) (Sh.B.number r.writable) (option_map Sh.B.number r.ready);
       undone = Sh.undone r.shelf;
-      noted = noted_of r.noted;
+      noted = noted_in Sh.B.tells (merged (Sh.B.held r.writable) (Sh.B.held r.archive)) r.unchecked;
     } };
 
     ghost invariant = { λ r. Numbered (Sh.live r.shelf) (Sh.undone r.shelf)
         (Sh.B.number r.archive) (Sh.B.number r.writable) (option_map Sh.B.number r.ready)
         × (IsTrue Sh.B.tells → Keeps (Sh.B.held r.writable) (Sh.B.held r.archive)
         (Sh.B.doubt r.writable) (Sh.B.doubt r.archive) (option_map Sh.B.held r.ready) (option_map Sh.B.doubt r.ready))
-        × (IsTrue Sh.B.tells → AreCarried (Sh.B.held r.writable) r.noted) };
+        × (IsTrue Sh.B.tells → AreCarried (Sh.B.held r.writable) r.unchecked) };
 }
 
 impl<Sh: Shelf> RotStore<Sh> {
@@ -114,23 +116,27 @@ impl<Sh: Shelf> RotStore<Sh> {
             epoch: 0,
             past_faults: 0,
             past_gets: 0,
-            noted: Notes::new(alloc),
+            unchecked: Unchecked::new(alloc),
         })
     }
 
-    /// Notes that a caller has checked the form that is held under a hash, which is forgotten when a swap drops the form. Where memory
-    /// is refused nothing is noted.
+    /// Notes that a caller has checked the form that is held under a hash, which is forgotten when a swap drops the form. Where the store
+    /// doesn't tell what it holds nothing is noted.
     pub fn note(&mut self, h: &Hash32)
         ensures noted { IsNoted self.old h.now self.new }
     {
-        self.noted.note(h);
+        self.unchecked.remove(h);
     }
 
-    /// Whether the form of a hash was noted as checked.
-    pub fn is_noted(&self, h: &Hash32) -> bool
-        ensures { result ≡ is_noted self.now h.now }
+    /// Whether the form of a hash, where the store holds one, was noted as checked. Where the store doesn't tell what it holds, none was.
+    pub(crate) fn is_noted(&self, h: &Hash32) -> bool
+        ensures tells { IsTrue result → IsTrue Sh.B.tells }
+        ensures noted { IsTrue result → IsSome (map.get (nodes_of self.now) h.now) → IsTrue (is_noted self.now h.now) }
     {
-        self.noted.has(h)
+        if !Sh::B::is_telling() {
+            return false;
+        }
+        !self.unchecked.has(h)
     }
 
     /// Tells a proof that a hash that stands in both backends has the same bytes in them.

@@ -44,6 +44,6 @@ impl<Sh: Shelf> RotStore<Sh> {
         self.past_gets = self.past_gets.saturating_add(old.gets());
         let _ = self.shelf.discard(old);
         self.epoch += 1;
-        self.noted.turn();
+        self.unchecked.turn();
     }
 }

@@ -3,7 +3,7 @@ use Rattle.std.proofs.lemmas.Grind.{common_steps}
 use Rattle.node_backend.specs.declared.back.BackFault.{BackFault}
 use Rattle.rotating_store.proofs.Keeping.{numbered_as, keeps_as, keeps_copy, moved_keeps, moved_there}
 use Rattle.rotating_store.specs.Moves.{moved_of}
-use Rattle.rotating_store.proofs.Noting.{carried_copy, carried_more, carried_here}
+use Rattle.rotating_store.proofs.Checking.{carried_copy, carried_more, carried_here, noted_as}
 use Rattle.rotating_store.proofs.store.RotStore.forward_form.Goals as goal
 
 -- also a copy that failed stores, or leaves in doubt, only the archive's own form, so the two maps still agree
@@ -13,9 +13,9 @@ invariant_of-self-in_err-moved g c = (
   λ tells. keeps_as _ _ _ _ _ _ _ _ _ _ (keeps_copy _ _ _ _ _ _ _ _ c.args.h.now (c.self.invariant.1 tells)
       (c.copy_form.ensures.copies.writes tells)) refl (c.copy_form.ensures.second.held tells) refl c.copy_form.ensures.second.doubt,
   λ tells. carried_copy _ _ _ _ _ c.carry.new.self c.args.h.now
-      (carried_more (g.Sh.B.Backend.held c.self.inside.writable) c.self.inside.noted c.carry.new.self (c.self.invariant.2 tells)
+      (carried_more (g.Sh.B.Backend.held c.self.inside.writable) c.self.inside.unchecked c.carry.new.self (c.self.invariant.2 tells)
       c.carry.ensures.earlier c.carry.ensures.more)
-      (carried_here c.self.inside.noted c.carry.new.self c.args.h.now c.carry.ensures.earlier c.in_ok-carry.ensures.carried)
+      (carried_here c.self.inside.unchecked c.carry.new.self c.args.h.now c.carry.ensures.earlier c.in_ok-carry.ensures.carried)
       (c.copy_form.ensures.copies.writes tells),
 )
 
@@ -36,9 +36,9 @@ invariant_of-self-2 g c = (
   λ tells. keeps_as _ _ _ _ _ _ _ _ _ _ (keeps_copy _ _ _ _ _ _ _ _ c.args.h.now (c.self.invariant.1 tells)
       (c.copy_form.ensures.copies.writes tells)) refl (c.copy_form.ensures.second.held tells) refl c.copy_form.ensures.second.doubt,
   λ tells. carried_copy _ _ _ _ _ c.carry.new.self c.args.h.now
-      (carried_more (g.Sh.B.Backend.held c.self.inside.writable) c.self.inside.noted c.carry.new.self (c.self.invariant.2 tells)
+      (carried_more (g.Sh.B.Backend.held c.self.inside.writable) c.self.inside.unchecked c.carry.new.self (c.self.invariant.2 tells)
       c.carry.ensures.earlier c.carry.ensures.more)
-      (carried_here c.self.inside.noted c.carry.new.self c.args.h.now c.carry.ensures.earlier c.in_ok-carry.ensures.carried)
+      (carried_here c.self.inside.unchecked c.carry.new.self c.args.h.now c.carry.ensures.earlier c.in_ok-carry.ensures.carried)
       (c.copy_form.ensures.copies.writes tells),
 )
 
@@ -50,4 +50,30 @@ returns-clause-forwards g c = record {
   there = λ tells. rw (← c.self.view_is) (moved_there BackFault _ _ _ c.args.h.now c.in_ok-moved.moved.0
       (c.in_ok-moved.ensures.copies.moves tells));
   archive = first_of (search rules, grind (arith, common_steps));
+}
+
+-- the store's one map stays, and what is carried was unchecked
+pub returns-in_err-moved-clause-store : goal.returns-in_err-moved-clause-store
+returns-in_err-moved-clause-store g c = record {
+  past = first_of (search rules, grind (arith, common_steps));
+  ready = first_of (search rules, grind (arith, common_steps));
+  noted = rw (← c.self.view_is) (noted_as g.Sh.B.Backend.tells _ _ _ _ (λ tells. moved_keeps _ _ _ _ c.args.h.now
+      (moved_of c.copy_form.result) (c.copy_form.ensures.copies.moves tells) (c.copy_form.ensures.second.held tells))
+      c.carry.ensures.same);
+  later = first_of (search rules, grind (arith, common_steps));
+  gets = first_of (search rules, grind (arith, common_steps));
+  cause = first_of (search rules, grind (arith, common_steps));
+}
+
+-- the store's one map stays, and what is carried was unchecked
+pub returns-clause-store : goal.returns-clause-store
+returns-clause-store g c = record {
+  past = first_of (search rules, grind (arith, common_steps));
+  ready = first_of (search rules, grind (arith, common_steps));
+  noted = rw (← c.self.view_is) (noted_as g.Sh.B.Backend.tells _ _ _ _ (λ tells. moved_keeps _ _ _ _ c.args.h.now
+      (moved_of c.copy_form.result) (c.copy_form.ensures.copies.moves tells) (c.copy_form.ensures.second.held tells))
+      c.carry.ensures.same);
+  later = first_of (search rules, grind (arith, common_steps));
+  gets = first_of (search rules, grind (arith, common_steps));
+  cause = first_of (search rules, grind (arith, common_steps));
 }

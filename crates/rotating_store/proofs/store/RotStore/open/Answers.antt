@@ -1,7 +1,7 @@
 use Rattle.std.proofs.Common.{refl, ◌∙◌, rules, arith}
 use Rattle.std.proofs.lemmas.Grind.{common_steps}
 use Rattle.rotating_store.proofs.Spares.{spare_open}
-use Rattle.rotating_store.proofs.Noting.{none_noted}
+use Rattle.rotating_store.proofs.Checking.{noted_open}
 use Rattle.rotating_store.proofs.store.RotStore.open.Goals as goal
 
 -- the two numbers that the shelf gave are the store's own
@@ -15,5 +15,5 @@ returns-clause-opened g c = record {
     c.fresh-2.ensures.lists.others ∙ c.fresh.ensures.lists.others,
   );
   gets = first_of (search rules, grind (arith, common_steps));
-  past = (refl, refl, none_noted c.new.result c.new.ensures.0 c.new.ensures.1);
+  past = (refl, refl, noted_open g.Sh.B.Backend.tells _ _ c.new.result c.in-Ok-fresh.ensures.backend.empty c.in-Ok.ensures.backend.empty);
 }

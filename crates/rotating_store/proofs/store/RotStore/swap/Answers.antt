@@ -1,10 +1,7 @@
-use Rattle.std.proofs.Common.{sym, ◌∙◌, ap, subst, rules, arith}
+use Rattle.std.proofs.Common.{sym, ◌∙◌, ap, rules, arith}
 use Rattle.std.proofs.lemmas.Grind.{common_steps}
-use Rattle.std.specs.Option.{IsSome}
-use Rattle.std.specs.FinMap as map
-use Rattle.ledger_spec.specs.Bytes.{Nodes}
 use Rattle.rotating_store.proofs.Keeping.{swapped_numbers, swapped_keeps, swapped_nodes, either_way, numbered_live, ready_empty_of}
-use Rattle.rotating_store.proofs.Noting.{turned_none, turned_kept, turned_fewer}
+use Rattle.rotating_store.proofs.Checking.{turned_none, turned_kept, turned_fewer}
 use Rattle.rotating_store.proofs.store.RotStore.swap.Goals as goal
 
 -- the ready backend is empty and has the greatest number, so as each moves down one place the numbers rise and the maps agree
@@ -40,15 +37,18 @@ returns-clause-maps g c = record {
   writable = first_of (search rules, grind (arith, common_steps));
 }
 
--- what the old writable backend holds had its notes carried, and they are the earlier ones now
+-- what the old writable backend holds had its unchecked hashes carried, and they are the earlier ones now
 pub returns-clause-notes : goal.returns-clause-notes
 returns-clause-notes g c = record {
-  kept = λ tells. rw (← c.self.view_is) (λ h has held. turned_kept (g.Sh.B.Backend.held c.self.inside.writable)
-      c.self.inside.noted c.turn.new.self h (c.self.invariant.2 tells) c.turn.ensures has
-      (subst (λ (m : Nodes). IsSome (map.get m h)) (swapped_nodes g.Sh.B.Backend.number g.Sh.B.Backend.held g.Sh.B.Backend.doubt
+  kept = λ tells. rw (← c.self.view_is) (λ h has held. turned_kept g.Sh.B.Backend.tells
+      (g.Sh.B.Backend.held c.self.inside.writable) (g.Sh.B.Backend.held c.self.inside.archive) _
+      c.self.inside.unchecked c.turn.new.self h tells c.turn.ensures has held);
+  no_more = rw (← c.self.view_is) (λ h has. turned_fewer g.Sh.B.Backend.tells
+      (g.Sh.B.Backend.held c.self.inside.writable) (g.Sh.B.Backend.held c.self.inside.archive) _
+      c.self.inside.unchecked c.turn.new.self h c.self.invariant.2
+      (λ tells. swapped_nodes g.Sh.B.Backend.number g.Sh.B.Backend.held g.Sh.B.Backend.doubt
       c.self.inside.writable c.self.inside.archive
       c.in-Some.fresh c.replace-full.new.dest c.replace-old.new.dest c.self.inside.ready (c.self.invariant.1 tells)
       (sym c.take.ensures.value ∙ c.in-Some.is) c.replace-full.ensures.after
-      (c.replace-old.ensures.after ∙ c.replace-full.ensures.value)) held));
-  no_more = rw (← c.self.view_is) (λ h has. turned_fewer c.self.inside.noted c.turn.new.self h c.turn.ensures has);
+      (c.replace-old.ensures.after ∙ c.replace-full.ensures.value)) c.turn.ensures has);
 }

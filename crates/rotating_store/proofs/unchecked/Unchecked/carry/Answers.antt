@@ -1,7 +1,7 @@
 use Rattle.std.proofs.Common.{sym, ◌∙◌}
 use Rattle.std.specs.FinSet as set
-use Rattle.rotating_store.proofs.Noting.{listed_then, inserted_more, inserted_there, carried_same, in_earlier, not_in_earlier}
-use Rattle.rotating_store.proofs.notes.Notes.carry.Goals as goal
+use Rattle.rotating_store.proofs.Checking.{listed_then, inserted_more, inserted_there, carried_same}
+use Rattle.rotating_store.proofs.unchecked.Unchecked.carry.Goals as goal
 
 pub returns-in_ok-insert-clause-carried : goal.returns-in_ok-insert-clause-carried
 returns-in_ok-insert-clause-carried c _ = inserted_there (set.from_list c.self.inside.fresh.keys) (set.from_list c.insert.new.self.keys)
@@ -12,13 +12,9 @@ returns-in_ok-insert-clause-more c = rw (← c.self.view_is) (λ q has. inserted
     (set.from_list c.insert.new.self.keys) c.args.h.now q
     (listed_then c.self.inside.fresh c.insert.new.self c.args.h.now c.in_ok-insert.ensures.updates) has)
 
--- it was noted before, so all notes together are as before
+-- it is one of those from before, so all together are as before
 pub returns-in_ok-insert-clause-same : goal.returns-in_ok-insert-clause-same
 returns-in_ok-insert-clause-same c = rw (← c.self.view_is) (carried_same (set.from_list c.self.inside.fresh.keys)
     (set.from_list c.insert.new.self.keys) (set.from_list c.self.inside.earlier.keys) c.args.h.now
     (listed_then c.self.inside.fresh c.insert.new.self c.args.h.now c.in_ok-insert.ensures.updates)
-    (in_earlier c.self.inside.fresh c.self.inside.earlier c.args.h.now (sym c.contains.ensures ∙ c.if-contains.true)))
-
-pub returns-else-contains-clause-carried : goal.returns-else-contains-clause-carried
-returns-else-contains-clause-carried c = rw (← c.self.view_is) (not_in_earlier c.self.inside.fresh c.self.inside.earlier c.args.h.now _
-    (sym c.contains.ensures ∙ c.if-contains.false))
+    (sym c.is_in.ensures ∙ c.if-is_in.true))
