@@ -15,8 +15,8 @@ use shamap_node::{Inner, Node};
 const CHUNK: usize = 33;
 
 /// The inner node of chunks.
-pub(crate) fn compressed_inner(front: &[u8]) -> Result<Inner, WireFault>
-    ensures inner { IfOk result (λ inner. compressed front.now ≡ Ok (held (Node.Inner inner))) }
+pub(crate) fn compressed_inner(front: &[u8]) -> Result<Node, WireFault>
+    ensures node { IfOk result (λ node. compressed front.now ≡ Ok (held node)) }
     ensures cause { IfErr result (λ f. (compressed front.now ≡ Err (code f)) × (f ≢ faults.Memory)) }
     ensures tells { IfErr result (TellsFront 3 front.now) }
 {
@@ -31,7 +31,7 @@ pub(crate) fn compressed_inner(front: &[u8]) -> Result<Inner, WireFault>
         rest = after;
     }
     match Inner::new(hashes) {
-        Some(inner) => Ok(inner),
+        Some(inner) => Ok(Node::Inner(inner)),
         None => Err(WireFault::EmptyInner),
     }
 }

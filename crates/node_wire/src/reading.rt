@@ -11,7 +11,7 @@ ghost use Rattle.node_wire.specs.declared.fault.WireFault.TheVariants as faults;
 use crate::WireFault;
 use crate::chunks::compressed_inner;
 use half_hash::{Blob, Hash32, NodeHash, Prefix, known_half};
-use shamap_node::{DATA_LIMIT, Inner, Item, Kind, Leaf, Node, inner_of};
+use shamap_node::{DATA_LIMIT, Item, Kind, Leaf, Node, inner_of};
 use std::alloc::Global;
 
 /// The node of a wire form, or the first cause for which the bytes are none: that there are none; their type; then a full inner
@@ -29,20 +29,11 @@ pub fn decode_wire<H: NodeHash>(alloc: Global, bytes: &[u8]) -> Result<Node, Wir
     ensures back { (n : Held) → Wire H.half n bytes.now → MatchResult result (λ node. held node ≡ n) (λ f. f ≡ faults.Memory) }
 {
     known_half::<H>();
-    read_bytes::<H>(alloc, bytes)
-}
-
-// The same as `decode_wire`.
-fn read_bytes<H: NodeHash>(alloc: Global, bytes: &[u8]) -> Result<Node, WireFault>
-    ensures node { IfOk result (λ n. read_wire H.half bytes.now ≡ Ok (held n)) }
-    ensures cause { IfErr result (λ f. f ≢ faults.Memory → read_wire H.half bytes.now ≡ Err (code f)) }
-    ensures tells { IfErr result (Tells bytes.now) }
-{
     if bytes.is_empty() {
         return Err(WireFault::Empty);
     }
     let (front, last) = bytes.split_at(bytes.len() - 1);
-    Ok(typed_node::<H>(alloc, front, last[0])?)
+    typed_node::<H>(alloc, front, last[0])
 }
 
 // The node of what stands before the type byte.
@@ -54,16 +45,16 @@ fn typed_node<H: NodeHash>(alloc: Global, front: &[u8], type_byte: u8) -> Result
     match type_byte {
         0 => Ok(Node::Leaf(bare_leaf::<H>(alloc, front)?)),
         1 => Ok(Node::Leaf(keyed_leaf(alloc, Kind::State, front)?)),
-        2 => Ok(Node::Inner(full_inner(front)?)),
-        3 => Ok(Node::Inner(compressed_inner(front)?)),
+        2 => full_inner(front),
+        3 => compressed_inner(front),
         4 => Ok(Node::Leaf(keyed_leaf(alloc, Kind::Tx, front)?)),
         other => Err(WireFault::TypeByte(other)),
     }
 }
 
 // The inner node of sixteen hashes.
-fn full_inner(front: &[u8]) -> Result<Inner, WireFault>
-    ensures inner { IfOk result (λ inner. full front.now ≡ Ok (held (Node.Inner inner))) }
+fn full_inner(front: &[u8]) -> Result<Node, WireFault>
+    ensures node { IfOk result (λ node. full front.now ≡ Ok (held node)) }
     ensures cause { IfErr result (λ f. (full front.now ≡ Err (code f)) × (f ≢ faults.Memory)) }
     ensures tells { IfErr result (TellsFront 2 front.now) }
 {
@@ -71,7 +62,7 @@ fn full_inner(front: &[u8]) -> Result<Inner, WireFault>
         return Err(WireFault::FullLength(front.len()));
     }
     match inner_of(&inner_form(front)) {
-        Some(inner) => Ok(inner),
+        Some(inner) => Ok(Node::Inner(inner)),
         None => Err(WireFault::EmptyInner),
     }
 }

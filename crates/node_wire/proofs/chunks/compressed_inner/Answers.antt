@@ -39,8 +39,8 @@ loop-rest-preserved c =
     record { whole = next.0; same = next.1 }
 
 -- no chunk is left, so the branches are what all chunks make, and one of them isn't empty
-pub returns-in-Some-clause-inner : goal.returns-in-Some-clause-inner
-returns-in-Some-clause-inner c =
+pub returns-in-Some-clause-node : goal.returns-in-Some-clause-node
+returns-in-Some-clause-node c =
     all_read c.args.front.now c.loop-rest.hashes c.loop-rest.rest.now c.if-front-ne0.false c.loop-rest.invariant.whole
     c.loop-rest.invariant.same
     (sym c.is_empty.ensures ∙ c.loop-rest-test.false)
