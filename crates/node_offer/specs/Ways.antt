@@ -1,6 +1,6 @@
 -- What the answers on the way to a place stand for.
 use Rattle.std.specs.Prelude.{ℕ, if◌then◌else◌, IsTrue, is_some, List, Option, None, Some, Result, Ok, Err}
-use Rattle.std.specs.Option.{option_map_or}
+use Rattle.std.specs.Option.{option_and_then, option_map_or}
 use Rattle.ledger_spec.specs.Bytes.{Bytes, Hash, is_zero}
 use Rattle.ledger_spec.specs.Forms.{inner_of}
 use Rattle.ledger_spec.specs.Spots as way
@@ -17,6 +17,8 @@ use Rattle.node_offer.specs.declared.spots.Spot.{Spot}
 use Rattle.node_offer.specs.declared.spots.Spot.TheVariants as spots
 use Rattle.node_offer.specs.declared.spots.Block.{Block}
 use Rattle.node_offer.specs.declared.spots.Block.TheVariants as blocks
+use Rattle.node_offer.specs.declared.spots.Found.{Found}
+use Rattle.node_offer.specs.declared.spots.Found.TheVariants as founds
 
 -- the branches of the inner node above, if there is one
 abbrev pub hashes_of_parent : Option Inner → Option (List Hash)
@@ -35,6 +37,12 @@ abbrev pub blocked : Block → way.Spot
 blocked (blocks.NoParent path) = way.no_parent path
 blocked (blocks.EmptyBranch path) = way.empty_branch path
 blocked (blocks.UnderLeaf path) = way.under_leaf path
+
+-- what a place is, by what is found of it
+abbrev pub spot_found : Found → way.Spot
+spot_found (founds.Wanted h parent) = way.wanted h (option_and_then inner_of parent)
+spot_found founds.NoBase = way.no_base
+spot_found (founds.Blocked block) = blocked block
 
 -- one level down from a place with this hash, given what is stored under it
 abbrev pub step_down : List ℕ → (List Hash → way.Spot) → Hash → Option Bytes → way.Spot

@@ -1,9 +1,11 @@
 //! A node that a peer offers for a place: its bytes are read, its place is found, and where it is the node that is wanted there it is
 //! stored.
 ghost use Rattle.std.specs.Prelude.{◌≡◌, IsTrue, IfErr, IfOk, Ok, is_some};
+ghost use Rattle.std.specs.Option.{option_and_then};
+ghost use Rattle.std.specs.Result.{result_err};
 ghost use Rattle.std.specs.FinMap as map;
 ghost use Rattle.ledger_spec.specs.Findings.{held_of};
-ghost use Rattle.ledger_spec.specs.Forms.{form_of};
+ghost use Rattle.ledger_spec.specs.Forms.{form_of, inner_of as inner_form};
 ghost use Rattle.ledger_spec.specs.Rules.{fault_of};
 ghost use Rattle.ledger_spec.specs.Spots as way;
 ghost use Rattle.ledger_spec.specs.Wire.{read_wire};
@@ -16,19 +18,19 @@ ghost use Rattle.rotating_store.specs.Reading.{IsLater, IsReadable, KeepsReadabl
 ghost use Rattle.node_offer.specs.Stored.{HasForms, Refuses};
 ghost use Rattle.node_offer.specs.Outcomes.{numbered};
 ghost use Rattle.node_offer.specs.Judging.{AnswersOffer, JudgesAt};
-ghost use Rattle.node_offer.specs.Ways.{hashes_of_parent, offered_as, spot as spot_means};
+ghost use Rattle.node_offer.specs.Ways.{offered_as, spot_found};
 
 use crate::fault::OfferFault;
 use crate::outcome::Offered;
-use crate::spots::{Spot, place};
+use crate::spots::{Block, Found, find};
 use crate::store::{Stored, put};
-use half_hash::{Hash32, NodeHash, known_half};
+use half_hash::{Blob, Hash32, NodeHash, known_half};
 use ledger_spec::ShapeFault;
 use nib_path::NodeId;
 use node_backend::Shelf;
 use node_wire::{WireFault, decode_wire};
 use rotating_store::RotStore;
-use shamap_node::{Inner, Kind, Node, encode_form, shape};
+use shamap_node::{Kind, Node, encode_form, inner_of, shape};
 use std::alloc::Global;
 
 /// Judges the node that these bytes are the wire form of, offered for a place of a ledger's map, and stores its form under its hash
@@ -60,49 +62,49 @@ pub fn offer<H: NodeHash, Sh: Shelf>(
         Err(WireFault::Memory) => return Err(OfferFault::Memory),
         Err(fault) => return Ok(Offered::BadWire(fault)),
     };
-    let spot = place::<H, Sh>(alloc, store, target, kind, id)?;
+    let found = find::<H, Sh>(alloc, store, target, kind, id)?;
     known_half::<H>();
-    Ok(offer_to::<H, Sh>(alloc, store, &node, spot, kind, id)?)
+    Ok(offer_to::<H, Sh>(alloc, store, &node, &found, kind, id)?)
 }
 
-// The same for a node, by what its place is.
+// The same for a node, by what is found of its place.
 fn offer_to<H: NodeHash, Sh: Shelf>(
     alloc: Global,
     store: &mut RotStore<Sh>,
     node: &Node,
-    spot: Spot,
+    found: &Found,
     kind: Kind,
     id: &NodeId,
 ) -> Result<Offered, OfferFault>
-    ensures judges { JudgesAt Sh.B.tells H.half store.old (held node.now) (spot_means spot) kind id.now result store.new }
+    ensures judges { JudgesAt Sh.B.tells H.half store.old (held node.now) (spot_found found.now) kind id.now result store.new }
     ensures notes { IsTrue (is_some (held_of H.half (form_of (held node.now)))) → IsReadable Sh.B.tells H.half store.old
         → IsReadable Sh.B.tells H.half store.new }
     ensures later { IsLater store.old store.new }
     ensures fault { IfErr result (λ e. e ≡ OfferFault.Fault → Rose store.old.faults store.new.faults) }
 {
-    match spot {
-        Spot::NoBase => Ok(Offered::NoBase),
-        Spot::NoParent(at) => Ok(Offered::NoParent(at)),
-        Spot::EmptyBranch(at) => Ok(Offered::EmptyBranch(at)),
-        Spot::UnderLeaf(at) => Ok(Offered::UnderLeaf(at)),
-        Spot::Wanted { hash, parent } => {
-            Ok(offer_at::<H, Sh>(alloc, store, node, &hash, parent, kind, id)?)
+    match found {
+        Found::NoBase => Ok(Offered::NoBase),
+        Found::Blocked(Block::NoParent(at)) => Ok(Offered::NoParent(*at)),
+        Found::Blocked(Block::EmptyBranch(at)) => Ok(Offered::EmptyBranch(*at)),
+        Found::Blocked(Block::UnderLeaf(at)) => Ok(Offered::UnderLeaf(*at)),
+        Found::Wanted { hash, parent } => {
+            Ok(offer_at::<H, Sh>(alloc, store, node, hash, parent, kind, id)?)
         }
     }
 }
 
-// The same for a node, at a place where this hash is wanted.
+// The same for a node, at a place where this hash is wanted, below the inner node of this form.
 fn offer_at<H: NodeHash, Sh: Shelf>(
     alloc: Global,
     store: &mut RotStore<Sh>,
     node: &Node,
     wanted: &Hash32,
-    parent: Option<Inner>,
+    parent: &Option<Blob>,
     kind: Kind,
     id: &NodeId,
 ) -> Result<Offered, OfferFault>
-    ensures judges { JudgesAt Sh.B.tells H.half store.old (held node.now) (way.wanted wanted.now (hashes_of_parent parent)) kind id.now
-        result store.new }
+    ensures judges { JudgesAt Sh.B.tells H.half store.old (held node.now)
+        (way.wanted wanted.now (option_and_then inner_form parent.now)) kind id.now result store.new }
     ensures notes { IsTrue (is_some (held_of H.half (form_of (held node.now)))) → IsReadable Sh.B.tells H.half store.old
         → IsReadable Sh.B.tells H.half store.new }
     ensures later { IsLater store.old store.new }
@@ -126,16 +128,35 @@ fn stored_as(stored: Stored, wanted: Hash32, rule: Option<ShapeFault>) -> Offere
     }
 }
 
-// The rule that the node breaks at its place.
-fn rule_broken(node: &Node, parent: Option<Inner>, kind: Kind, id: &NodeId) -> Option<ShapeFault>
-    ensures { result ≡ fault_of (held node.now) (hashes_of_parent parent) kind id.now }
+// The rule that the node breaks at its place, below the inner node of this form, which is read for a leaf alone.
+fn rule_broken(node: &Node, parent: &Option<Blob>, kind: Kind, id: &NodeId) -> Option<ShapeFault>
+    ensures { result ≡ fault_of (held node.now) (option_and_then inner_form parent.now) kind id.now }
 {
-    let judged = match &parent {
-        None => shape(node, None, kind, id),
-        Some(inner) => shape(node, Some(inner), kind, id),
+    let judged = match node {
+        Node::Inner(_) => shape(node, None, kind, id),
+        Node::Leaf(_) => shape_below(node, parent, kind, id),
     };
     match judged {
         Ok(()) => None,
         Err(fault) => Some(fault),
+    }
+}
+
+// Whether the node may stand at its place, below the inner node of this form.
+fn shape_below(
+    node: &Node,
+    parent: &Option<Blob>,
+    kind: Kind,
+    id: &NodeId,
+) -> Result<(), ShapeFault>
+    ensures { result_err result ≡ fault_of (held node.now) (option_and_then inner_form parent.now) kind id.now }
+{
+    let Some(form) = parent else {
+        return shape(node, None, kind, id);
+    };
+    let above = inner_of(form.bytes());
+    match &above {
+        None => shape(node, None, kind, id),
+        Some(inner) => shape(node, Some(inner), kind, id),
     }
 }

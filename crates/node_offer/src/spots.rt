@@ -12,7 +12,7 @@ ghost use Rattle.ledger_spec.specs.Own.{own_forms};
 ghost use Rattle.rotating_store.specs.Stores.{nodes_of};
 ghost use Rattle.rotating_store.specs.Reading.{WasRead, IsReadable};
 ghost use Rattle.node_offer.specs.Stored.{IsPlain};
-ghost use Rattle.node_offer.specs.Ways.{hashes_of_parent, spot, blocked, step_down, step_of, HasInner};
+ghost use Rattle.node_offer.specs.Ways.{hashes_of_parent, spot, spot_found, step_down, step_of, HasInner};
 
 use crate::fault::OfferFault;
 use half_hash::{Blob, Hash32, NodeHash};
@@ -49,15 +49,31 @@ pub(crate) enum Block {
     UnderLeaf(NodeId),
 }
 
-impl Block {
-    // What a place behind it is.
-    fn spot(self) -> Spot
-        ensures { spot result ≡ blocked self }
+/// What is found of a place: the same as `Spot`, with the form of the inner node above it, which takes less room than the node.
+#[derive(Drop)]
+pub(crate) enum Found {
+    /// A node with this hash is wanted there, below the inner node of this form; the root has none above it.
+    Wanted { hash: Hash32, parent: Option<Blob> },
+    /// The ledger's header is not stored.
+    NoBase,
+    /// Something stands in the way.
+    Blocked(Block),
+}
+
+impl Found {
+    // What the place is, with the inner node above it.
+    fn spot(&self) -> Spot
+        ensures { spot result ≡ spot_found self.now }
     {
         match self {
-            Block::NoParent(at) => Spot::NoParent(at),
-            Block::EmptyBranch(at) => Spot::EmptyBranch(at),
-            Block::UnderLeaf(at) => Spot::UnderLeaf(at),
+            Found::Wanted { hash, parent } => Spot::Wanted {
+                hash: *hash,
+                parent: inner_in(parent),
+            },
+            Found::NoBase => Spot::NoBase,
+            Found::Blocked(Block::NoParent(at)) => Spot::NoParent(*at),
+            Found::Blocked(Block::EmptyBranch(at)) => Spot::EmptyBranch(*at),
+            Found::Blocked(Block::UnderLeaf(at)) => Spot::UnderLeaf(*at),
         }
     }
 }
@@ -78,9 +94,28 @@ pub fn place<H: NodeHash, Sh: Shelf>(
     ensures fault { IfErr result (λ e. e ≡ OfferFault.Fault → Rose store.old.faults store.new.faults) }
     ensures kind { IfErr result IsPlain }
 {
+    let found = find::<H, Sh>(alloc, store, target, kind, id)?;
+    Ok(found.spot())
+}
+
+/// The same, with the form of the inner node above the place.
+pub(crate) fn find<H: NodeHash, Sh: Shelf>(
+    alloc: Global,
+    store: &mut RotStore<Sh>,
+    target: &Hash32,
+    kind: Kind,
+    id: &NodeId,
+) -> Result<Found, OfferFault>
+    ensures spot { IsReadable Sh.B.tells H.half store.old
+        → IfOk result (λ s. spot_found s ≡ spot_of (own_forms H.half (map.get (nodes_of store.old))) target.now kind id.now) }
+    ensures read { WasRead Sh.B.tells H.half store.old store.new }
+    ensures few { store.new.gets ≤ store.old.gets + 2 * (length id.now + 1) }
+    ensures fault { IfErr result (λ e. e ≡ OfferFault.Fault → Rose store.old.faults store.new.faults) }
+    ensures kind { IfErr result IsPlain }
+{
     let root = root_in::<H, Sh>(alloc, store, target, kind)?;
     match root {
-        None => Ok(Spot::NoBase),
+        None => Ok(Found::NoBase),
         Some(root) => Ok(walk::<H, Sh>(alloc, store, root, id)?),
     }
 }
@@ -122,9 +157,9 @@ fn walk<H: NodeHash, Sh: Shelf>(
     store: &mut RotStore<Sh>,
     root: Hash32,
     id: &NodeId,
-) -> Result<Spot, BackFault>
+) -> Result<Found, BackFault>
     ensures spot { IsReadable Sh.B.tells H.half store.old
-        → IfOk result (λ s. spot s ≡ spot_from (own_forms H.half (map.get (nodes_of store.old))) [] None root id.now) }
+        → IfOk result (λ s. spot_found s ≡ spot_from (own_forms H.half (map.get (nodes_of store.old))) [] None root id.now) }
     ensures read { WasRead Sh.B.tells H.half store.old store.new }
     ensures few { store.new.gets ≤ store.old.gets + 2 * length id.now }
     ensures fault { IfErr result (λ e. e ≡ BackFault.Fault → Rose store.old.faults store.new.faults) }
@@ -140,16 +175,13 @@ fn walk<H: NodeHash, Sh: Shelf>(
                 hash = inner_branch(form.bytes(), nibble(&key, depth));
                 parent = Some(form);
             }
-            Err(block) => return Ok(block.spot()),
+            Err(block) => return Ok(Found::Blocked(block)),
         }
     }
     if hash.is_zero() {
-        return Ok(Spot::EmptyBranch(*id));
+        return Ok(Found::Blocked(Block::EmptyBranch(*id)));
     }
-    Ok(Spot::Wanted {
-        hash,
-        parent: inner_in(&parent),
-    })
+    Ok(Found::Wanted { hash, parent })
 }
 
 // The inner node whose form this is, if one is given.

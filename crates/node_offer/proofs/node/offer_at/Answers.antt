@@ -1,7 +1,8 @@
 use Rattle.std.proofs.Common.{◌∙◌, rules, arith}
 use Rattle.std.proofs.lemmas.Grind.{common_steps}
+use Rattle.std.specs.Option.{option_and_then}
+use Rattle.ledger_spec.specs.Forms.{inner_of}
 use Rattle.shamap_node.specs.Nodes.{held}
-use Rattle.node_offer.specs.Ways.{hashes_of_parent}
 use Rattle.node_offer.proofs.Storing.{refused_at, handed_on}
 use Rattle.node_offer.proofs.node.offer_at.Goals as goal
 
@@ -14,6 +15,6 @@ returns-in_err-stored-clause-judges g c = record {
   err = λ tells.
       handed_on _ _ _ c.from_residual-in_err-stored.ensures.1
       (refused_at g.H.NodeHash.half c.args.store.now _ c.args.kind c.args.id.now (held c.args.node.now) c.args.wanted.now
-      (hashes_of_parent c.args.parent) c.bytes.result.now c.in_err-stored.field-0.0
+      (option_and_then inner_of c.args.parent.now) c.bytes.result.now c.in_err-stored.field-0.0
       (c.bytes.ensures ∙ c.in_ok-form.ensures) (c.in_err-stored.ensures.stores tells));
 }

@@ -8,7 +8,7 @@ use Rattle.ledger_spec.specs.Spots as way
 use Rattle.ledger_spec.specs.Spots.{spot_from, header_in, header_root}
 use Rattle.rotating_store.specs.Stores.{nodes_of}
 use Rattle.rotating_store.proofs.shared.Reading.{same_nodes}
-use Rattle.node_offer.proofs.spots.place.Goals as goal
+use Rattle.node_offer.proofs.spots.find.Goals as goal
 
 below_is : (nodes : Lookup) (kind : Kind) (path : List ℕ) (o : Option Bytes)
     → option_map_or (λ root. spot_from nodes [] None root path)

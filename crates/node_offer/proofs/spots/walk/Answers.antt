@@ -17,7 +17,7 @@ returns-in-Err-clause-spot g c tells =
     let lt : c.loop-depth.depth < length c.args.id.now = omega arith in
     let same : nodes_of c.loop-depth.store ≡ nodes_of c.args.store.now =
     same_nodes c.args.store.now c.loop-depth.store (c.loop-depth.invariant.0.same tells.0) in
-    c.spot.ensures ∙ ends (own_forms g.H.NodeHash.half (map.get (nodes_of c.args.store.now))) c.args.id.now c.id-key.result c.loop-depth.depth
+    ends (own_forms g.H.NodeHash.half (map.get (nodes_of c.args.store.now))) c.args.id.now c.id-key.result c.loop-depth.depth
     (option_and_then inner_of c.loop-depth.parent) c.loop-depth.hash c.of_key-at.result c.in-Err.block
     (spot_from (own_forms g.H.NodeHash.half (map.get (nodes_of c.args.store.now))) [] None c.args.root c.args.id.now)
     c.known.ensures lt c.id-key.ensures c.of_key-at.ensures
