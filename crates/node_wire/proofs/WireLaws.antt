@@ -230,18 +230,6 @@ written half (header bytes) node is = absurd (false≢true node)
 pub written_is_read : WrittenIsRead
 written_is_read half n node is = (written half n node is, wires_read half n (wire_of n) (written half n node is))
 
--- what is answered of a front and a type byte, as what is answered of the bytes that end in them
-pub typed_node : (half : Half) (w front : Bytes) (t : ℕ) (r : Result Node WireFault) → read_wire half w ≡ read_typed half front t
-    → IfOk r (λ node. read_typed half front t ≡ Ok (held node)) → IfOk r (λ node. read_wire half w ≡ Ok (held node))
-typed_node half w front t (Ok node) same read = same ∙ read
-typed_node half w front t (Err fault) same read = tt
-
-pub typed_cause : (half : Half) (w front : Bytes) (t : ℕ) (r : Result Node WireFault) → read_wire half w ≡ read_typed half front t
-    → IfErr r (λ fault. fault ≢ faults.Memory → read_typed half front t ≡ Err (code fault))
-    → IfErr r (λ fault. fault ≢ faults.Memory → read_wire half w ≡ Err (code fault))
-typed_cause half w front t (Ok node) same cause = tt
-typed_cause half w front t (Err fault) same cause = λ other. same ∙ cause other
-
 -- what decoding answers, as wire forms
 pub decoded_form : (half : Half) → ((x : Bytes) → length (half x) ≡ 32) → (r : Result Node WireFault) (w : Bytes)
     → IfOk r (λ node. read_wire half w ≡ Ok (held node)) → IfOk r (λ node. Wire half (held node) w)

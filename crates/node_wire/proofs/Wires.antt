@@ -1,6 +1,6 @@
 -- Reading a wire form by its type byte, and a leaf and a full inner node by what stands before it.
 use Rattle.std.proofs.Common.{◌≡◌, ◌+◌, ◌-◌, ◌≤◌, ◌<◌, ◌==◌, not, ℕ, Bool, true, false, List, [], ◌∷◌, ◌++◌, length, take, drop, get_or}
-use Rattle.std.proofs.Common.{nat_lt, IsTrue, Option, Some, None, Result, Ok, Err, if◌then◌else◌, refl, sym, ap, ◌∙◌, arith, length-append}
+use Rattle.std.proofs.Common.{nat_lt, IsTrue, Result, Ok, Err, if◌then◌else◌, refl, sym, ap, ◌∙◌, arith, length-append}
 use Rattle.std.specs.Prelude.{slice_index}
 use Rattle.std.specs.List.{list_all, list_any}
 use Rattle.std.proofs.lemmas.Bool.{ne_eqb, eq-eqb, eqb-true, eqb-false, cond-true, cond-false, le-ltb, ltb-false}
@@ -9,7 +9,7 @@ use Rattle.std.proofs.lemmas.List.{drop_at, get_or_at, get_or-drop, take_all, ta
 use Rattle.ledger_spec.specs.declared.Kind.{Kind}
 use Rattle.ledger_spec.specs.Bytes.{Bytes, Hash, Half, hashes_of, is_zero, is_nonzero}
 use Rattle.ledger_spec.proofs.shared.Hashes.{none_nonzero}
-use Rattle.ledger_spec.specs.Forms.{Held, inner, leaf, data_limit, inner_prefix, inner_of}
+use Rattle.ledger_spec.specs.Forms.{Held, inner, leaf, data_limit}
 use Rattle.ledger_spec.specs.Wire.{read_wire, read_typed, checked_inner, checked_leaf, keyed_leaf, full}
 
 -- bytes that end in a type byte are read by it
@@ -136,29 +136,11 @@ full_of front n e = by_test (length front == 512) refl e
     by_test true size e = record { size = eqb-true (length front) 512 size; parts = inner_by (hashes_of 16 front) n e }
     by_test false size e = no_node 3 n e
 
--- the inner node of sixteen hashes, by that of the form that they make
-inner_behind : (front : Bytes) → length front ≡ 512
-    → inner_of (inner_prefix ++ front) ≡ (if list_any is_nonzero (hashes_of 16 front) then Some (hashes_of 16 front) else None)
-unfolding inner_of
-inner_behind front size =
-    let whole : (length (inner_prefix ++ front) == 516) ≡ true = eq-eqb (length (inner_prefix ++ front)) 516 (omega arith) in
-    rw whole refl
-
--- a node, or none for the reason that no branch is set
-abbrev or_empty : Option (List Hash) → Result Held ℕ
-or_empty None = Err 8
-or_empty (Some hashes) = Ok (inner hashes)
-
-chosen : (some : Bool) (hashes : List Hash) (o : Option (List Hash)) → o ≡ (if some then Some hashes else None)
-    → (if some then Ok (inner hashes) else Err 8) ≡ or_empty o
-chosen true hashes o e = rw e refl
-chosen false hashes o e = rw e refl
-
-pub full_is : (front form : Bytes) (o : Option (List Hash)) → length front ≡ 512 → form ≡ inner_prefix ++ front → o ≡ inner_of form
-    → full front ≡ or_empty o
-full_is front form o size is read =
-    cond-false (not (length front == 512)) _ _ (ap not (eq-eqb (length front) 512 size))
-    ∙ chosen (list_any is_nonzero (hashes_of 16 front)) (hashes_of 16 front) o (read ∙ ap inner_of is ∙ inner_behind front size)
+-- the inner node of sixteen hashes
+pub full_is : (front : Bytes) (hashes : List Hash) → length front ≡ 512 → hashes ≡ hashes_of 16 front
+    → full front ≡ checked_inner hashes
+full_is front hashes size is =
+    cond-false (not (length front == 512)) _ _ (ap not (eq-eqb (length front) 512 size)) ∙ ap checked_inner (sym is)
 
 pub full_length : (front : Bytes) → (length front ≡ 512 → ⊥) → full front ≡ Err 3
 full_length front other = cond-true (not (length front == 512)) _ _ (ap not (ne_eqb (length front) 512 other))

@@ -1,8 +1,11 @@
--- The chunks of a compressed inner node, as they are taken into sixteen branches.
-use Rattle.std.specs.Prelude.{ℕ, not, nat_lt, if◌then◌else◌, List, take, slice_index}
+-- The chunks of a compressed inner node, as they are taken into sixteen branches, and what is read of a node.
+use Rattle.std.specs.Prelude.{ℕ, not, nat_lt, if◌then◌else◌, List, Option, None, Some, Result, Ok, take, slice_index}
 use Rattle.std.specs.List.{slice_index_or}
 use Rattle.ledger_spec.specs.Bytes.{Bytes, Hash, zero_hash, is_zero, is_nonzero}
-use Rattle.ledger_spec.specs.Wire.{Chunk}
+use Rattle.ledger_spec.specs.Forms.{Held}
+use Rattle.ledger_spec.specs.Wire.{Chunk, checked_inner}
+use Rattle.shamap_node.specs.Nodes.{held_leaf}
+use Rattle.shamap_node.specs.declared.Leaf.{Leaf}
 
 -- the chunk of 33 bytes
 abbrev pub chunk_in : Bytes → Chunk
@@ -15,3 +18,8 @@ slot_cause hashes c =
     else if is_nonzero (slice_index_or hashes c.position zero_hash) then 6
     else if is_zero c.hash then 7
     else 0
+
+-- the leaf that was read, or else the inner node of these branches, or why it is none
+abbrev pub leaf_or_inner : Option Leaf → List Hash → Result Held ℕ
+leaf_or_inner (Some l) hashes = Ok (held_leaf l)
+leaf_or_inner None hashes = checked_inner hashes

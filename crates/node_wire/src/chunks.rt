@@ -1,39 +1,35 @@
 //! The chunks of a compressed inner node, read into the sixteen branches. A branch that has a hash was in an earlier chunk, since
 //! no chunk with a zero hash is taken.
-ghost use Rattle.std.specs.Prelude.{◌≡◌, ◌≢◌, length, set, IfErr, IfOk, OnOk, Ok, Err};
-ghost use Rattle.ledger_spec.specs.Wire.{compressed};
-ghost use Rattle.shamap_node.specs.Nodes.{held};
+ghost use Rattle.std.specs.Prelude.{◌≡◌, ◌≢◌, length, replicate, set, IfErr, OnOk, Err};
+ghost use Rattle.ledger_spec.specs.Bytes.{zero_hash};
+ghost use Rattle.ledger_spec.specs.Wire.{checked_inner, compressed};
 ghost use Rattle.node_wire.specs.Chunks.{chunk_in, slot_cause};
 ghost use Rattle.node_wire.specs.Faults.{code, TellsFront, TellsChunk};
 ghost use Rattle.node_wire.specs.declared.fault.WireFault.TheVariants as faults;
 
 use crate::WireFault;
 use half_hash::Hash32;
-use shamap_node::{Inner, Node};
 
 /// How many bytes a chunk has: a hash and its position.
 const CHUNK: usize = 33;
 
-/// The inner node of chunks.
-pub(crate) fn compressed_inner(front: &[u8]) -> Result<Node, WireFault>
-    ensures node { IfOk result (λ node. compressed front.now ≡ Ok (held node)) }
+/// The branches that the chunks make, where all sixteen are empty before.
+pub(crate) fn take_chunks(front: &[u8], hashes: &mut [Hash32; 16]) -> Result<(), WireFault>
+    requires { hashes.old ≡ replicate 16 zero_hash }
+    ensures read { OnOk result (compressed front.now ≡ checked_inner hashes.new) }
     ensures cause { IfErr result (λ f. (compressed front.now ≡ Err (code f)) × (f ≢ faults.Memory)) }
     ensures tells { IfErr result (TellsFront 3 front.now) }
 {
     if front.len() % CHUNK != 0 {
         return Err(WireFault::ChunkLength(front.len()));
     }
-    let mut hashes = [Hash32::zero(); 16];
     let mut rest = front;
     while !rest.is_empty() {
         let (chunk, after) = rest.split_at(CHUNK);
-        take_chunk(chunk, &mut hashes)?;
+        take_chunk(chunk, hashes)?;
         rest = after;
     }
-    match Inner::new(hashes) {
-        Some(inner) => Ok(Node::Inner(inner)),
-        None => Err(WireFault::EmptyInner),
-    }
+    Ok(())
 }
 
 // Takes a chunk into its branch, or says why it is refused.

@@ -1,17 +1,18 @@
 //! Wire forms, read: the type byte, which is the last one, tells how the others are taken.
-ghost use Rattle.std.specs.Prelude.{◌≡◌, ◌≢◌, ◌++◌, length, List, ℕ, IfErr, IfOk, MatchResult, Ok, Err};
-ghost use Rattle.ledger_spec.specs.Forms.{Held, inner_prefix, leaf_form};
+ghost use Rattle.std.specs.Prelude.{◌≡◌, ◌≢◌, length, replicate, IfErr, IfOk, MatchResult, OnOk, Ok, Err};
+ghost use Rattle.ledger_spec.specs.Forms.{Held, leaf_form};
 ghost use Rattle.ledger_spec.specs.Bytes.{zero_hash};
-ghost use Rattle.ledger_spec.specs.Wire.{Wire, read_wire, read_typed, full};
+ghost use Rattle.ledger_spec.specs.Wire.{Wire, read_wire, read_typed, checked_inner, full};
 ghost use Rattle.ledger_spec.specs.Wire.{checked_leaf, keyed_leaf as keyed_leaf_of};
 ghost use Rattle.shamap_node.specs.Nodes.{held, held_leaf};
+ghost use Rattle.node_wire.specs.Chunks.{leaf_or_inner};
 ghost use Rattle.node_wire.specs.Faults.{code, Tells, TellsData, TellsFront, TellsKeyed};
 ghost use Rattle.node_wire.specs.declared.fault.WireFault.TheVariants as faults;
 
 use crate::WireFault;
-use crate::chunks::compressed_inner;
+use crate::chunks::take_chunks;
 use half_hash::{Blob, Hash32, NodeHash, Prefix, known_half};
-use shamap_node::{DATA_LIMIT, Item, Kind, Leaf, Node, inner_of};
+use shamap_node::{DATA_LIMIT, Inner, Item, Kind, Leaf, Node};
 use std::alloc::Global;
 
 /// The node of a wire form, or the first cause for which the bytes are none: that there are none; their type; then a full inner
@@ -33,49 +34,60 @@ pub fn decode_wire<H: NodeHash>(alloc: Global, bytes: &[u8]) -> Result<Node, Wir
         return Err(WireFault::Empty);
     }
     let (front, last) = bytes.split_at(bytes.len() - 1);
-    typed_node::<H>(alloc, front, last[0])
+    let mut hashes = [Hash32::zero(); 16];
+    match typed_leaf::<H>(alloc, front, last[0], &mut hashes)? {
+        Some(leaf) => Ok(Node::Leaf(leaf)),
+        None => match Inner::new(hashes) {
+            Some(inner) => Ok(Node::Inner(inner)),
+            None => Err(WireFault::EmptyInner),
+        },
+    }
 }
 
-// The node of what stands before the type byte.
-fn typed_node<H: NodeHash>(alloc: Global, front: &[u8], type_byte: u8) -> Result<Node, WireFault>
-    ensures node { IfOk result (λ n. read_typed H.half front.now type_byte ≡ Ok (held n)) }
+// The leaf of what stands before the type byte; of an inner node none, and its branches, where all sixteen are empty before.
+fn typed_leaf<H: NodeHash>(
+    alloc: Global,
+    front: &[u8],
+    type_byte: u8,
+    hashes: &mut [Hash32; 16],
+) -> Result<Option<Leaf>, WireFault>
+    requires { hashes.old ≡ replicate 16 zero_hash }
+    ensures read { IfOk result (λ leaf. read_typed H.half front.now type_byte ≡ leaf_or_inner leaf hashes.new) }
     ensures cause { IfErr result (λ f. f ≢ faults.Memory → read_typed H.half front.now type_byte ≡ Err (code f)) }
     ensures tells { IfErr result (TellsFront type_byte front.now) }
 {
     match type_byte {
-        0 => Ok(Node::Leaf(bare_leaf::<H>(alloc, front)?)),
-        1 => Ok(Node::Leaf(keyed_leaf(alloc, Kind::State, front)?)),
-        2 => full_inner(front),
-        3 => compressed_inner(front),
-        4 => Ok(Node::Leaf(keyed_leaf(alloc, Kind::Tx, front)?)),
+        0 => Ok(Some(bare_leaf::<H>(alloc, front)?)),
+        1 => Ok(Some(keyed_leaf(alloc, Kind::State, front)?)),
+        2 => {
+            take_full(front, hashes)?;
+            Ok(None)
+        }
+        3 => {
+            take_chunks(front, hashes)?;
+            Ok(None)
+        }
+        4 => Ok(Some(keyed_leaf(alloc, Kind::Tx, front)?)),
         other => Err(WireFault::TypeByte(other)),
     }
 }
 
-// The inner node of sixteen hashes.
-fn full_inner(front: &[u8]) -> Result<Node, WireFault>
-    ensures node { IfOk result (λ node. full front.now ≡ Ok (held node)) }
+// The branches of sixteen hashes.
+fn take_full(front: &[u8], hashes: &mut [Hash32; 16]) -> Result<(), WireFault>
+    ensures read { OnOk result (full front.now ≡ checked_inner hashes.new) }
     ensures cause { IfErr result (λ f. (full front.now ≡ Err (code f)) × (f ≢ faults.Memory)) }
     ensures tells { IfErr result (TellsFront 2 front.now) }
 {
     if front.len() != 512 {
         return Err(WireFault::FullLength(front.len()));
     }
-    match inner_of(&inner_form(front)) {
-        Some(inner) => Ok(Node::Inner(inner)),
-        None => Err(WireFault::EmptyInner),
+    let mut rest = front;
+    for b in 0..16usize {
+        let (hash, after) = rest.split_at(32);
+        hashes[b] = Hash32::from_slice(hash);
+        rest = after;
     }
-}
-
-// The form of an inner node.
-fn inner_form(hashes: &[u8]) -> [u8; 516]
-    requires { length hashes.now ≡ 512 }
-    ensures { result ≡ inner_prefix ++ hashes.now }
-{
-    let mut form = [0; 516];
-    form[..4].copy_from_slice(&Prefix::Min.bytes());
-    form[4..].copy_from_slice(hashes);
-    form
+    Ok(())
 }
 
 // The leaf of a bare transaction: its key is its hash.

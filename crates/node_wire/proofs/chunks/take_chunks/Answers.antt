@@ -1,10 +1,8 @@
 -- a chunk is taken or refused, and at the end the branches are those of all chunks
-use Rattle.std.proofs.Common.{Ok, sym, ap, ◌∙◌}
+use Rattle.std.proofs.Common.{sym, ◌∙◌}
 use Rattle.std.proofs.lemmas.Result.{err_from_is_err_and}
-use Rattle.ledger_spec.specs.Forms.{inner}
 use Rattle.node_wire.proofs.TakingBytes.{all_read, chunk_refused, chunk_taken}
-use Rattle.node_wire.proofs.Wires.{inner_is, inner_none}
-use Rattle.node_wire.proofs.chunks.compressed_inner.Goals as goal
+use Rattle.node_wire.proofs.chunks.take_chunks.Goals as goal
 
 -- all chunks before this one were taken, so it is the first to be refused, and for its cause the node is
 pub returns-in_err-take_chunk-clause-cause : goal.returns-in_err-take_chunk-clause-cause
@@ -38,20 +36,9 @@ loop-rest-preserved c =
     in
     record { whole = next.0; same = next.1 }
 
--- no chunk is left, so the branches are what all chunks make, and one of them isn't empty
-pub returns-in-Some-clause-node : goal.returns-in-Some-clause-node
-returns-in-Some-clause-node c =
+-- no chunk is left, so the branches are what all chunks make
+pub returns-clause-read : goal.returns-clause-read
+returns-clause-read c =
     all_read c.args.front.now c.loop-rest.hashes c.loop-rest.rest.now c.if-front-ne0.false c.loop-rest.invariant.whole
     c.loop-rest.invariant.same
     (sym c.is_empty.ensures ∙ c.loop-rest-test.false)
-    ∙ inner_is c.loop-rest.hashes c.in-Some.ensures.1 ∙ ap (λ hs. Ok (inner hs)) (sym c.in-Some.ensures.0)
-
--- no chunk is left, so the branches are what all chunks make, and an inner node can't have all of them empty
-pub returns-in-None-clause-cause : goal.returns-in-None-clause-cause
-returns-in-None-clause-cause c = (
-  all_read c.args.front.now c.loop-rest.hashes c.loop-rest.rest.now c.if-front-ne0.false c.loop-rest.invariant.whole
-      c.loop-rest.invariant.same
-      (sym c.is_empty.ensures ∙ c.loop-rest-test.false)
-      ∙ inner_none c.loop-rest.hashes c.in-None.ensures,
-  λ e. cc,
-)

@@ -2,7 +2,7 @@ use Rattle.std.proofs.Common.{◌≡◌, ◌/◌, ◌%◌, length}
 use Rattle.ledger_spec.specs.Wire.{chunks_in}
 use Rattle.node_wire.specs.Faults.{all_chunks}
 use Rattle.node_wire.proofs.Taking.{no_slots, outcome}
-use Rattle.node_wire.proofs.chunks.compressed_inner.Given as goal
+use Rattle.node_wire.proofs.chunks.take_chunks.Given as goal
 
 -- the rest of the chunks makes of the branches so far what all make of empty ones
 abbrev pub invariant-loop-rest : goal.invariant-loop-rest
