@@ -5,3 +5,4 @@ pub mod Moving
 pub mod Copying
 pub mod Shading
 pub mod Taking
+pub mod Naming

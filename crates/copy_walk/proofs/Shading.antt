@@ -1,6 +1,6 @@
 -- The lists of a walk, as hashes are shaded and become black.
-use Rattle.std.proofs.Common.{◌≡◌, ◌≢◌, ◌⊎◌, inl, inr, ⊎_elim, ◌++◌, ◌∷◌, ◌+◌, ◌^◌, ◌≤◌, ◌<◌, [], ℕ, suc, List}
-use Rattle.std.proofs.Common.{Bool, true, false, cond, not, if◌then◌else◌, Some, Contains, length, take, drop, get_or, slice_get, refl, sym}
+use Rattle.std.proofs.Common.{◌≡◌, ◌⊎◌, inl, inr, ⊎_elim, ◌++◌, ◌∷◌, ◌+◌, ◌^◌, ◌≤◌, ◌<◌, [], ℕ, suc, List}
+use Rattle.std.proofs.Common.{Bool, true, false, cond, not, if◌then◌else◌, Some, Contains, length, get_or, slice_get, refl, sym}
 use Rattle.std.proofs.Common.{ap, ◌∙◌, subst}
 use Rattle.std.proofs.Common.{arith, append_assoc, length-append}
 use Rattle.std.specs.HashSet.{HashSet, contains}
@@ -8,18 +8,19 @@ use Rattle.std.specs.Cmp.{IsEquivalence, eq_by_cmp_equiv}
 use Rattle.std.specs.Cmp.Lexicographic.{nat_list_cmp_total, same_text, texts_ties}
 use Rattle.std.specs.List.{swap_remove}
 use Rattle.std.specs.List.Sorted.{IsPermutation}
-use Rattle.std.proofs.lemmas.List.{append-nil, take-append-drop, get_or_append_left}
-use Rattle.std.proofs.lemmas.List.Elements.{Contains-append_left, Contains-append_right, Contains-append_cases, Contains-push_cases}
+use Rattle.std.proofs.lemmas.List.{append-nil, get_or_append_left}
+use Rattle.std.proofs.lemmas.List.Elements.{Contains-append_left, Contains-append_right, Contains-append_cases}
 use Rattle.std.proofs.lemmas.List.Sorted.{IsPermutation-swap_remove, length_permutation}
 use Rattle.std.proofs.lemmas.Map.Views.{hash_set_contains_iff}
 use Rattle.std.proofs.lemmas.Option.{get_or_from_slice_get, slice_get_within}
 use Rattle.std.proofs.lemmas.Bool.{false≢true}
 use Rattle.ledger_spec.specs.Bytes.{Hash, same_bytes}
+use Rattle.ledger_spec.proofs.shared.Storing.{in_one}
 use Rattle.copy_walk.specs.Walks.{Walk, shaded, left_of, Shades, ShadesSome, HasToo}
 use Rattle.copy_walk.specs.Strides.{Leaves}
 use Rattle.copy_walk.specs.Slices.{Blackens}
-use Rattle.copy_walk.proofs.Lists.{in_none}
-use Rattle.copy_walk.proofs.shared.Lists.{shaded_stays, is_shaded}
+use Rattle.copy_walk.proofs.Lists.{in_none, grey_shaded, black_shaded, shaded_cases}
+use Rattle.copy_walk.proofs.shared.Lists.{is_shaded}
 
 -- hashes are told apart by their bytes
 bytes_laws : IsEquivalence same_bytes
@@ -45,45 +46,56 @@ module _ {S : Type 0} (black : HashSet Hash S) (h : Hash) where
   not_black none c = false≢true (sym none ∙ in_black c)
 
 -- ---- shading
-pub none_shaded : (w : Walk) → ShadesSome w [] w
-none_shaded w = record { more = []; black = refl; grey = sym (append-nil w.grey); only = λ h c. absurd (in_none h c); few = omega arith }
-
-module _ (w : Walk) (hashes : List Hash) (v : Walk) (h : Hash) (v' : Walk) (some : ShadesSome w hashes v) (s : Shades v h v') where
-  pub one_shaded : ShadesSome w (hashes ++ h ∷ []) v'
+-- one hash is shaded
+module _ (w : Walk) (h : Hash) (v : Walk) (s : Shades w h v) where
+  pub one_shaded : ShadesSome w (h ∷ []) v
   one_shaded = ⊎_elim
       (λ same. record {
-        more = some.more;
-        black = s.black ∙ some.black;
-        grey = same.0 ∙ some.grey;
-        only = λ q c. Contains-append_left hashes (h ∷ []) q (some.only q c);
-        few = omega (arith, some.few, length-append hashes (h ∷ []));
+        more = [];
+        black = s.black;
+        grey = same.0 ∙ sym (append-nil w.grey);
+        only = λ q c. absurd (in_none q c);
+        few = omega arith;
       })
-      (λ more. record {
-        more = some.more ++ h ∷ [];
-        black = s.black ∙ some.black;
-        grey = more ∙ ap (λ (hs : List Hash). hs ++ h ∷ []) some.grey ∙ append_assoc w.grey some.more (h ∷ []);
-        only = λ q c. ⊎_elim (λ old. Contains-append_left hashes (h ∷ []) q (some.only q old))
-            (λ one. Contains-append_right hashes (h ∷ []) q one) (Contains-append_cases some.more (h ∷ []) q c);
-        few = omega (arith, some.few, length-append hashes (h ∷ []), length-append some.more (h ∷ []));
-      }) s.grey
+      (λ more. record { more = h ∷ []; black = s.black; grey = more; only = λ q c. c; few = omega arith }) s.grey
 
-  pub all_shaded : ((q : Hash) → Contains hashes q → Contains (shaded v) q) → (q : Hash) → Contains (hashes ++ h ∷ []) q
-      → Contains (shaded v') q
-  all_shaded all q c = ⊎_elim (λ old. shaded_stays v h v' s q (all q old))
-      (λ one. subst (Contains (shaded v')) one (is_shaded v h v' s)) (Contains-push_cases hashes h q c)
+  pub all_shaded : (q : Hash) → Contains (h ∷ []) q → Contains (shaded v) q
+  all_shaded q c = subst (Contains (shaded v)) (sym (in_one h q c)) (is_shaded w h v s)
 
 -- some of a front of the hashes are some of them
-pub front_shaded : (w : Walk) (i : ℕ) (hashes : List Hash) (v : Walk) → ShadesSome w (take i hashes) v → ShadesSome w hashes v
-front_shaded w i hashes v some =
-    let whole : take i hashes ++ drop i hashes ≡ hashes = take-append-drop i hashes in
-    record {
-      more = some.more;
-      black = some.black;
-      grey = some.grey;
-      only = λ q c. subst (λ (hs : List Hash). Contains hs q) whole
-          (Contains-append_left (take i hashes) (drop i hashes) q (some.only q c));
-      few = omega (arith, some.few, ap length whole, length-append (take i hashes) (drop i hashes));
-    }
+pub front_shaded : (w : Walk) (front more hashes : List Hash) (v : Walk) → front ++ more ≡ hashes → ShadesSome w front v
+    → ShadesSome w hashes v
+front_shaded w front more hashes v whole some = record {
+  more = some.more;
+  black = some.black;
+  grey = some.grey;
+  only = λ q c. subst (λ (hs : List Hash). Contains hs q) whole (Contains-append_left front more q (some.only q c));
+  few = omega (arith, some.few, ap length whole, length-append front more);
+}
+
+-- some hashes after others
+module _ (w : Walk) (front : List Hash) (v : Walk) (more : List Hash) (u : Walk) (some : ShadesSome w front v)
+    (next : ShadesSome v more u) where
+  pub more_shaded : ShadesSome w (front ++ more) u
+  more_shaded = record {
+    more = some.more ++ next.more;
+    black = next.black ∙ some.black;
+    grey = next.grey ∙ ap (λ (hs : List Hash). hs ++ next.more) some.grey ∙ append_assoc w.grey some.more next.more;
+    only = λ q c. ⊎_elim (λ old. Contains-append_left front more q (some.only q old))
+        (λ new. Contains-append_right front more q (next.only q new)) (Contains-append_cases some.more next.more q c);
+    few = omega (arith, some.few, next.few, length-append front more, length-append some.more next.more);
+  }
+
+  -- what was shaded still is
+  still : (q : Hash) → Contains (shaded v) q → Contains (shaded u) q
+  still q c = ⊎_elim
+      (λ grey. grey_shaded u q (subst (λ (hs : List Hash). Contains hs q) (sym next.grey) (Contains-append_left v.grey next.more q grey)))
+      (λ black. black_shaded u q (subst (λ (hs : List Hash). Contains hs q) (sym next.black) black))
+      (shaded_cases v q c)
+
+  pub all_more : ((q : Hash) → Contains front q → Contains (shaded v) q) → ((q : Hash) → Contains more q → Contains (shaded u) q)
+      → (q : Hash) → Contains (front ++ more) q → Contains (shaded u) q
+  all_more all rest q c = ⊎_elim (λ old. still q (all q old)) (λ new. rest q new) (Contains-append_cases front more q c)
 
 -- ---- a place of the grey list
 -- the hash stands at this place

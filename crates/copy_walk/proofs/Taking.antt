@@ -1,5 +1,5 @@
 -- What the calls of a walk do, as strides.
-use Rattle.std.proofs.Common.{◌≡◌, ◌≢◌, ◌⊎◌, inl, inr, ⊎_elim, ◌++◌, ◌∷◌, ◌+◌, ◌≤◌, ◌<◌, [], ℕ, List}
+use Rattle.std.proofs.Common.{◌≡◌, ◌≢◌, inl, inr, ⊎_elim, ◌++◌, ◌∷◌, ◌+◌, ◌≤◌, ◌<◌, [], ℕ, List}
 use Rattle.std.proofs.Common.{Option, None, Some, Contains, length, refl, sym, ap, ◌∙◌, subst}
 use Rattle.std.proofs.Common.{Result, Ok, Err, OnErr}
 use Rattle.std.proofs.Common.{arith, append_assoc, length-append}
@@ -9,10 +9,10 @@ use Rattle.std.proofs.lemmas.List.Elements.{Contains-append_left, Contains-appen
 use Rattle.ledger_spec.specs.Bytes.{Bytes, Hash, Lookup, Nodes}
 use Rattle.ledger_spec.specs.Reach.{kids}
 use Rattle.rotating_store.specs.Stores.{Store, nodes_of}
-use Rattle.copy_walk.specs.Walks.{Walk, Keeps, Colours, shaded, ShadesSome, HasToo}
+use Rattle.copy_walk.specs.Walks.{Walk, Keeps, Colours, ShadesSome, HasToo}
 use Rattle.copy_walk.specs.Strides.{Strides, Copies, Leaves, here, copied, named, again, absent, found}
 use Rattle.copy_walk.specs.Counts.{IsCopied, CopiesAtMost}
-use Rattle.copy_walk.specs.Slices.{CopiesOne, KidsAt, Blackens, Strode, IsCutShort, Drains, KeepsRule, SameRest}
+use Rattle.copy_walk.specs.Slices.{CopiesOne, Blackens, Strode, IsCutShort, Drains, KeepsRule, SameRest}
 use Rattle.copy_walk.proofs.Lists.{in_first}
 use Rattle.copy_walk.proofs.shared.Striding.{strides_on, colours_stay, shaded_still, kept_stays, kept_was, held_was}
 
@@ -137,32 +137,6 @@ strode_again w v s h leaves black same = record {
 pub on_err : {X E : Type 0} (P : Type 0) (r : Result X E) → P → OnErr r P
 on_err P (Ok x) p = tt
 on_err P (Err e) p = p
-
--- what is stored under a hash, by what was told to be named there
-kids_none : (o : Option Bytes) (tells : Option (List Hash)) → KidsAt o tells → tells ≡ None → o ≡ None
-kids_none None tells k e = refl
-kids_none (Some form) tells k e = cc
-
-kids_some : (o : Option Bytes) (tells : Option (List Hash)) (hashes : List Hash) → KidsAt o tells → tells ≡ Some hashes
-    → (form : Bytes) × (o ≡ Some form) × (hashes ≡ kids form)
-kids_some None tells hashes k e = cc
-kids_some (Some form) tells hashes k e = (form, refl, cc)
-
-module _ (w : Walk) (s s' : Store) (h : Hash) (grey : Contains w.grey h) (one : CopiesOne h s s') (tells : Option (List Hash))
-    (are : KidsAt (finite.get (nodes_of s) h) tells) where
-  pub strode_left : (v : Walk) → tells ≡ None → Leaves w h v → v.black ≡ w.black → Strode 1 1 w s v s'
-  strode_left v none leaves same = strode_absent w s s' h grey one v (kids_none _ tells are none) leaves same
-
-  module _ (hashes : List Hash) (is : tells ≡ Some hashes) (v : Walk) where
-    pub strode_some : ShadesSome w hashes v → Strode 0 1 w s v s'
-    strode_some some =
-        let k = kids_some _ tells hashes are is in
-        strode_named w s s' h grey one k.0 v k.1 (subst (λ (hs : List Hash). ShadesSome w hs v) k.2 some)
-
-    pub strode_done : finite.get s'.writable h ≡ finite.get (nodes_of s) h → Blackens w h hashes v → Strode 1 1 w s v s'
-    strode_done there b =
-        let k = kids_some _ tells hashes are is in
-        strode_found w s s' h grey one k.0 v k.1 there (subst (λ (hs : List Hash). Blackens w h hs v) k.2 b)
 
 -- a list that isn't empty
 pub some_grey : (hs : List Hash) → hs ≢ [] → 0 < length hs

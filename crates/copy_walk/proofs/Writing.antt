@@ -8,7 +8,6 @@ use Rattle.ledger_spec.specs.Reach.{root, kid, Stored}
 use Rattle.copy_walk.specs.Walks.{Walk, shaded, Keeps, Shades, Colours}
 use Rattle.copy_walk.specs.Scenes.{Scene, IsOneMap, IsTurning, IsIdle, RuleWhile, Rule}
 use Rattle.copy_walk.specs.Moves.{ShadesWhile, HasPair, Writes}
-use Rattle.copy_walk.specs.Moves.{still}
 use Rattle.copy_walk.proofs.Lists.{grey_shaded, black_shaded}
 use Rattle.copy_walk.proofs.shared.Lists.{shaded_stays, is_shaded}
 use Rattle.copy_walk.proofs.shared.Striding.{one_form, some_not_none}

@@ -1,19 +1,18 @@
 -- What calls of a walk promise alike.
-use Rattle.std.specs.Prelude.{◌<◌, ◌≤◌, ℕ, Bool, IsTrue, List, Option, Result, IfOk, IfErr, IfSome, OnOk, OnErr, length}
-use Rattle.std.specs.Option.{option_map}
-use Rattle.ledger_spec.specs.Bytes.{Bytes, Hash}
+use Rattle.std.specs.Prelude.{◌<◌, ℕ, Bool, IsTrue, List, Result, IfOk, IfErr, OnOk, OnErr}
+use Rattle.std.specs.List.{Contains}
+use Rattle.ledger_spec.specs.Bytes.{Hash}
 use Rattle.rotating_store.specs.Stores.{Store}
 use Rattle.rotating_store.specs.Puts.{IsPlain}
 use Rattle.rotating_store.specs.declared.outcome.StoreFault.{StoreFault}
-use Rattle.copy_walk.specs.Walks.{Walk, ShadesSome, left_of}
-use Rattle.copy_walk.specs.Slices.{KidsAt, Strode, Blackens, Slices, IsCutShort, Drains, KeepsRule, LeftBy}
+use Rattle.copy_walk.specs.Walks.{Walk, ShadesSome, shaded, left_of}
+use Rattle.copy_walk.specs.Slices.{Strode, Blackens, Slices, IsCutShort, Drains, KeepsRule, LeftBy}
 use Rattle.copy_walk.specs.declared.walk.Left.{Left}
 
--- what this form names is handed out, and nothing where nothing is stored; never more than sixteen hashes
-pub record HandsKids {V E : Type 0} (tells : Bool) (form : Option Bytes) (items : V → List Hash) (result : Result (Option V) E)
-    : Type 0 where
-  pub kids : IsTrue tells → IfOk result (λ kids. KidsAt form (option_map items kids))
-  pub few : IfOk result (λ kids. IfSome kids (λ v. length (items v) ≤ 16))
+-- some of these hashes are shaded, and each of them where nothing is refused
+pub record ShadesEach {X E : Type 0} (w : Walk) (hashes : List Hash) (result : Result X E) (w' : Walk) : Type 0 where
+  pub some : ShadesSome w hashes w'
+  pub all : OnOk result ((h : Hash) → Contains hashes h → Contains (shaded w') h)
 
 -- the hash becomes black, and less is left; or some of what it names was shaded
 pub record GoesBlack {X E : Type 0} (w : Walk) (h : Hash) (named : List Hash) (result : Result X E) (w' : Walk) : Type 0 where

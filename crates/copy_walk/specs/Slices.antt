@@ -1,9 +1,9 @@
 -- What a walk does to a store, and what its calls answer.
-use Rattle.std.specs.Prelude.{◌≡◌, ◌⊎◌, ◌↔◌, ◌≢◌, ◌<◌, ◌≤◌, ℕ, List, [], Option, None, Some}
+use Rattle.std.specs.Prelude.{◌≡◌, ◌⊎◌, ◌↔◌, ◌≢◌, ◌<◌, ◌≤◌, ℕ, List, [], Some}
 use Rattle.std.specs.List.{Contains}
 use Rattle.std.specs.FinMap as finite
 use Rattle.ledger_spec.specs.Bytes.{Bytes, Hash}
-use Rattle.ledger_spec.specs.Reach.{Stored, kids}
+use Rattle.ledger_spec.specs.Reach.{Stored}
 use Rattle.rotating_store.specs.Stores.{Store, nodes_of, SamePast}
 use Rattle.copy_walk.specs.Walks.{Walk, Keeps, Colours, ShadesSome, HasToo, shaded}
 use Rattle.copy_walk.specs.Walks as walks
@@ -11,11 +11,6 @@ use Rattle.copy_walk.specs.Strides.{Strides, Copies, Leaves}
 use Rattle.copy_walk.specs.Counts.{CopiesAtMost}
 use Rattle.copy_walk.specs.declared.walk.Left.{Left}
 use Rattle.copy_walk.specs.declared.walk.Left.TheVariants as left
-
--- what is stored under a hash names these; nothing where nothing is stored
-abbrev pub KidsAt : Option Bytes → Option (List Hash) → Type 0
-KidsAt None found = found ≡ None
-KidsAt (Some form) found = found ≡ Some (kids form)
 
 -- the store's one map and its archive stay, and at most this hash's form was copied
 pub record CopiesOne (h : Hash) (s s' : Store) : Type 0 where

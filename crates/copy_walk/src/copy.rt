@@ -1,32 +1,27 @@
 //! The copy of one form.
-ghost use Rattle.std.specs.Prelude.{◌≡◌, IsTrue, IfErr, OnOk};
+ghost use Rattle.std.specs.Prelude.{◌≡◌, IsTrue, IfOk, IfErr, OnOk};
 ghost use Rattle.std.specs.FinMap as finite;
 ghost use Rattle.rotating_store.specs.Puts.{IsPlain};
 ghost use Rattle.rotating_store.specs.Stores.{LeavesStore, nodes_of};
 ghost use Rattle.copy_walk.specs.Slices.{CopiesOne};
-ghost use Rattle.copy_walk.specs.Calls.{HandsKids};
 
-use crate::kids::kids_of;
-use half_hash::Hash32;
+use half_hash::{Blob, Hash32};
 use node_backend::Shelf;
 use rotating_store::{RotStore, StoreFault};
 use std::alloc::Global;
 
-/// Copies one form forward, and tells the hashes that it names; None where nothing is stored.
+/// Copies one form forward, and hands it out; None where nothing is stored.
 pub(crate) fn copy_one<Sh: Shelf>(
     alloc: Global,
     store: &mut RotStore<Sh>,
     h: &Hash32,
-) -> Result<Option<Vec<Hash32>>, StoreFault>
+) -> Result<Option<Blob>, StoreFault>
     ensures one { IsTrue Sh.B.tells → CopiesOne h.now store.old store.new }
     ensures there { IsTrue Sh.B.tells → OnOk result (finite.get store.new.writable h.now ≡ finite.get (nodes_of store.old) h.now) }
-    ensures named { HandsKids Sh.B.tells (finite.get (nodes_of store.old) h.now) (λ v. v.items) result }
+    ensures form { IsTrue Sh.B.tells → IfOk result (λ form. form ≡ finite.get (nodes_of store.old) h.now) }
     ensures store { LeavesStore StoreFault.Fault store.old store.new result }
     ensures kind { IfErr result IsPlain }
 {
     let moved = store.forward_form(alloc, h)?;
-    match moved.1 {
-        Some(form) => Ok(Some(kids_of(alloc, form.bytes())?)),
-        None => Ok(None),
-    }
+    Ok(moved.1)
 }

@@ -1,7 +1,8 @@
 //! The walk. The next hash to be taken is the last grey one, so that what one root reaches is copied before the next: few are grey at a
 //! time. A hash leaves the grey list only as it becomes black, or isn't stored: after a refusal it is still there.
-ghost use Rattle.std.specs.Prelude.{◌≡◌, ◌≢◌, ◌↔◌, ◌≤◌, ◌<◌, [], ℕ, List, IsTrue, Some, IfOk, IfErr, OnOk, OnErr, length};
+ghost use Rattle.std.specs.Prelude.{◌≡◌, ◌≢◌, ◌↔◌, ◌<◌, [], IsTrue, Some, IfOk, IfErr, OnOk, OnErr};
 ghost use Rattle.std.specs.List.{Contains, slice_get};
+ghost use Rattle.ledger_spec.specs.Reach.{kids};
 ghost use Rattle.rotating_store.specs.Puts.{IsPlain};
 ghost use Rattle.rotating_store.specs.Stores.{LeavesStore};
 ghost use Rattle.copy_walk.specs.Slices.{LeftBy};
@@ -40,7 +41,7 @@ impl Model for CopyWalk {
 }
 
 impl CopyWalk {
-    ghost use Rattle.copy_walk.specs.Walks.{Walk, Shades, ShadesSome, shaded};
+    ghost use Rattle.copy_walk.specs.Walks.{Walk, Shades};
 
     /// A walk that begins at these hashes.
     pub fn start(alloc: Global, roots: &[Hash32]) -> Result<CopyWalk, Memory>
@@ -124,25 +125,13 @@ impl CopyWalk {
         self.grey.is_empty()
     }
 
-    // Has hashes taken, one after another.
-    fn shade_all(&mut self, hashes: &[Hash32]) -> Result<(), Memory>
-        ensures some { ShadesSome self.old hashes.now self.new }
-        ensures all { OnOk result ((h : List ℕ) → Contains hashes.now h → Contains (shaded self.new) h) }
-    {
-        for hash in hashes {
-            self.shade(hash)?;
-        }
-        Ok(())
-    }
-
-    // The grey hash at a place becomes black: all that it names is shaded first.
-    fn blacken(&mut self, place: usize, hash: &Hash32, named: &[Hash32]) -> Result<(), Memory>
+    // The grey hash at a place becomes black: all that its form names is shaded first.
+    fn blacken(&mut self, place: usize, hash: &Hash32, form: &[u8]) -> Result<(), Memory>
         requires at { slice_get self.old.grey place ≡ Some hash.now }
-        requires few { length named.now ≤ 16 }
         requires new { Contains self.old.black hash.now → ⊥ }
-        ensures { GoesBlack self.old hash.now named.now result self.new }
+        ensures { GoesBlack self.old hash.now (kids form.now) result self.new }
     {
-        self.shade_all(named)?;
+        self.shade_kids(form)?;
         let _count = self.black.len();
         self.black.insert(*hash)?;
         self.grey.swap_remove(place);
@@ -163,11 +152,11 @@ impl CopyWalk {
         ensures store { LeavesStore StoreFault.Fault store.old store.new result }
         ensures kind { IfErr result IsPlain }
     {
-        let Some(kids) = copy_one(alloc, store, hash)? else {
+        let Some(form) = copy_one(alloc, store, hash)? else {
             self.grey.swap_remove(place);
             return Ok(());
         };
-        self.blacken(place, hash, &kids)?;
+        self.blacken(place, hash, form.bytes())?;
         Ok(())
     }
 

@@ -9,23 +9,9 @@ returns-in_err-moved-clause-one g c told =
     (c.forward_form.ensures.forwards.nodes told)
     (c.forward_form.ensures.forwards.archive told) (c.forward_form.ensures.forwards.moves told)
 
--- it was copied, and there is no room for what it names
-pub returns-in_err-kids_of-in-Some-clause-one : goal.returns-in_err-kids_of-in-Some-clause-one
-returns-in_err-kids_of-in-Some-clause-one g c told =
-    copied_one c.args.h.now c.args.store.now c.forward_form.new.self (moved_of c.forward_form.result)
-    (c.forward_form.ensures.forwards.nodes told)
-    (c.forward_form.ensures.forwards.archive told) (c.forward_form.ensures.forwards.moves told)
-
--- it was copied and read
-pub returns-in_ok-kids_of-in-Some-clause-one : goal.returns-in_ok-kids_of-in-Some-clause-one
-returns-in_ok-kids_of-in-Some-clause-one g c told =
-    copied_one c.args.h.now c.args.store.now c.forward_form.new.self (moved_of c.forward_form.result)
-    (c.forward_form.ensures.forwards.nodes told)
-    (c.forward_form.ensures.forwards.archive told) (c.forward_form.ensures.forwards.moves told)
-
--- nothing is stored under the hash
-pub returns-in-None-clause-one : goal.returns-in-None-clause-one
-returns-in-None-clause-one g c told =
+-- it was copied and is handed out, or nothing is stored under the hash
+pub returns-clause-one : goal.returns-clause-one
+returns-clause-one g c told =
     copied_one c.args.h.now c.args.store.now c.forward_form.new.self (moved_of c.forward_form.result)
     (c.forward_form.ensures.forwards.nodes told)
     (c.forward_form.ensures.forwards.archive told) (c.forward_form.ensures.forwards.moves told)

@@ -2,26 +2,28 @@
 use Rattle.std.proofs.Common.{◌≡◌, ◌∙◌, ◌+◌, ◌<◌, ◌^◌, List, Contains, length, sym, subst, ap, arith, rules}
 use Rattle.std.proofs.lemmas.Grind.{common_steps}
 use Rattle.ledger_spec.specs.Bytes.{Hash}
+use Rattle.ledger_spec.specs.Reach.{kids}
 use Rattle.copy_walk.specs.Walks.{Walk, ShadesSome, shaded}
 use Rattle.copy_walk.specs.Slices.{Blackens}
 use Rattle.copy_walk.proofs.Shading.{has_too, black_less, blackened, more_black}
+use Rattle.copy_walk.proofs.Naming.{few_kids}
 use Rattle.copy_walk.proofs.walk.CopyWalk.blacken.Goals as goal
 
 pub returns : goal.returns
 returns c =
     let mid : Walk = record { grey = c.self.inside.grey.items; black = c.self.inside.black.keys } in
-    let some : ShadesSome c.args.self.now c.args.named.now mid =
-    subst (λ (w : Walk). ShadesSome c.args.self.now c.args.named.now w) (sym c.self.view_is) c.shade_all.ensures.some in
-    let all : (k : Hash) → Contains c.args.named.now k → Contains (shaded mid) k =
-    subst (λ (w : Walk). (k : Hash) → Contains c.args.named.now k → Contains (shaded w) k) (sym c.self.view_is)
-    c.in_ok-shade_all.ensures.all in
-    let blackens : Blackens c.args.self.now c.args.hash.now c.args.named.now
+    let some : ShadesSome c.args.self.now (kids c.args.form.now) mid =
+    subst (λ (w : Walk). ShadesSome c.args.self.now (kids c.args.form.now) w) (sym c.self.view_is) c.shade_kids.ensures.some in
+    let all : (k : Hash) → Contains (kids c.args.form.now) k → Contains (shaded mid) k =
+    subst (λ (w : Walk). (k : Hash) → Contains (kids c.args.form.now) k → Contains (shaded w) k) (sym c.self.view_is)
+    c.in_ok-shade_kids.ensures.all in
+    let blackens : Blackens c.args.self.now c.args.hash.now (kids c.args.form.now)
     (record { grey = c.swap_remove.new.self.items; black = c.insert.new.self.keys }) =
     blackened c.args.self.now mid (record { grey = c.swap_remove.new.self.items; black = c.insert.new.self.keys }) c.args.hash.now
-    c.swap_remove.result c.args.named.now c.args.place some all c.requires.at c.swap_remove.ensures.value c.swap_remove.ensures.items
+    c.swap_remove.result (kids c.args.form.now) c.args.place some all c.requires.at c.swap_remove.ensures.value c.swap_remove.ensures.items
     (has_too c.self.inside.black c.insert.new.self c.args.hash.now c.in_ok-insert.ensures.updates.0) in
     let same : c.self.inside.black.keys ≡ c.args.self.now.black =
-    ap (λ (w : Walk). w.black) c.self.view_is ∙ c.shade_all.ensures.some.black in
+    ap (λ (w : Walk). w.black) c.self.view_is ∙ c.shade_kids.ensures.some.black in
     let more : length c.insert.new.self.keys ≡ length c.self.inside.black.keys + 1 =
     more_black c.self.inside.black c.insert.new.self c.args.hash.now c.in_ok-insert.field-0
     (λ is. c.requires.new (subst (λ (hs : List Hash). Contains hs c.args.hash.now) same is)) c.in_ok-insert.ensures.added
@@ -31,6 +33,6 @@ returns c =
       ok = blackens;
       err = first_of (search rules, grind (arith, common_steps));
       -- one more is black, and at most sixteen more are grey
-      less = black_less c.args.self.now c.args.hash.now c.args.named.now _ blackens c.requires.few room
+      less = black_less c.args.self.now c.args.hash.now (kids c.args.form.now) _ blackens (few_kids c.args.form.now) room
           (more ∙ ap (λ (hs : List Hash). length hs + 1) same);
     }

@@ -1,17 +1,20 @@
 -- the form is copied first; then its hash leaves the grey list, or becomes black once all that it names is shaded
-use Rattle.std.proofs.Common.{◌≡◌, ◌∙◌, ◌<◌, List, Some, length, slice_get, refl, sym, subst, ap, arith, rules}
+use Rattle.std.proofs.Common.{◌≡◌, ◌∙◌, ◌<◌, Some, length, slice_get, refl, sym, subst, arith, rules}
 use Rattle.std.proofs.lemmas.Grind.{common_steps}
-use Rattle.std.specs.Option.{option_map}
-use Rattle.ledger_spec.specs.Bytes.{Hash}
+use Rattle.std.specs.FinMap as finite
+use Rattle.ledger_spec.specs.Bytes.{Bytes}
+use Rattle.ledger_spec.specs.Reach.{kids}
+use Rattle.rotating_store.specs.Stores.{nodes_of}
 use Rattle.copy_walk.specs.Walks.{Walk, ShadesSome}
 use Rattle.copy_walk.specs.Strides.{Leaves}
+use Rattle.copy_walk.specs.Slices.{Blackens}
 use Rattle.copy_walk.proofs.Shading.{stands_at, leaves_at, grey_at, left_less}
-use Rattle.copy_walk.proofs.Taking.{on_err, strode_copy, strode_left, strode_some, strode_done}
+use Rattle.copy_walk.proofs.Taking.{on_err, strode_copy, strode_absent, strode_named, strode_found}
 use Rattle.copy_walk.proofs.walk.CopyWalk.take_at.Goals as goal
 
--- the form can't be copied, or what it names not be read
-pub returns-in_err-kids-clause-takes : goal.returns-in_err-kids-clause-takes
-returns-in_err-kids-clause-takes g c = record {
+-- the form can't be copied
+pub returns-in_err-form-clause-takes : goal.returns-in_err-form-clause-takes
+returns-in_err-form-clause-takes g c = record {
   ok = first_of (search rules, grind (arith, common_steps));
   err = λ told.
       on_err _ c.from_residual.result
@@ -40,9 +43,8 @@ returns-in_default-clause-takes g c = record {
       leaves_at was now c.args.place c.args.hash.now c.swap_remove.result (stands_at was.grey c.args.place c.args.hash.now at)
       c.swap_remove.ensures.value c.swap_remove.ensures.items in
       rw (← c.self.view_is)
-      (strode_left was c.args.store.now c.copy_one.new.store c.args.hash.now (grey_at was c.args.place c.args.hash.now at)
-      (c.copy_one.ensures.one told) _ (c.in_ok-kids.ensures.named.kids told) now
-      (ap (option_map (λ v. v.items)) c.in_default.is) leaves refl);
+      (strode_absent was c.args.store.now c.copy_one.new.store c.args.hash.now (grey_at was c.args.place c.args.hash.now at)
+      (c.copy_one.ensures.one told) now (sym (c.in_ok-form.ensures.form told) ∙ c.in_default.is) leaves refl);
   err = first_of (search rules, grind (arith, common_steps));
   less =
       let was : Walk = record { grey = c.self.inside.grey.items; black = c.self.inside.black.keys } in
@@ -60,13 +62,13 @@ pub returns-in_err-blacken-clause-takes : goal.returns-in_err-blacken-clause-tak
 returns-in_err-blacken-clause-takes g c = record {
   ok = first_of (search rules, grind (arith, common_steps));
   err = λ told.
-      let some : ShadesSome c.args.self.now c.in-Some.kids.items c.blacken.new.self =
-      subst (λ (hs : List Hash). ShadesSome c.args.self.now hs c.blacken.new.self) c.deref.ensures.value c.in_err-blacken.ensures.err in
+      let is : finite.get (nodes_of c.args.store.now) c.args.hash.now ≡ Some c.in-Some.form =
+      sym (c.in_ok-form.ensures.form told) ∙ c.in-Some.is in
       on_err _ c.from_residual-in_err-blacken.result
-      (strode_some c.args.self.now c.args.store.now c.copy_one.new.store c.args.hash.now
-      (grey_at c.args.self.now c.args.place c.args.hash.now c.requires.at) (c.copy_one.ensures.one told) _
-      (c.in_ok-kids.ensures.named.kids told)
-      c.in-Some.kids.items (ap (option_map (λ v. v.items)) c.in-Some.is) c.blacken.new.self some);
+      (strode_named c.args.self.now c.args.store.now c.copy_one.new.store c.args.hash.now
+      (grey_at c.args.self.now c.args.place c.args.hash.now c.requires.at) (c.copy_one.ensures.one told) c.in-Some.form
+      c.blacken.new.self is
+      (subst (λ (form : Bytes). ShadesSome c.args.self.now (kids form) c.blacken.new.self) c.bytes.ensures c.in_err-blacken.ensures.err));
   less = first_of (search rules, grind (arith, common_steps));
 }
 
@@ -74,11 +76,13 @@ returns-in_err-blacken-clause-takes g c = record {
 pub returns-clause-takes : goal.returns-clause-takes
 returns-clause-takes g c = record {
   ok = λ told.
-      strode_done c.args.self.now c.args.store.now c.copy_one.new.store c.args.hash.now
-      (grey_at c.args.self.now c.args.place c.args.hash.now c.requires.at) (c.copy_one.ensures.one told) _
-      (c.in_ok-kids.ensures.named.kids told)
-      c.deref.result.now (ap (option_map (λ v. v.items)) c.in-Some.is ∙ ap Some (sym c.deref.ensures.value)) c.blacken.new.self
-      (c.in_ok-kids.ensures.there told) c.in_ok-blacken.ensures.ok;
+      let is : finite.get (nodes_of c.args.store.now) c.args.hash.now ≡ Some c.in-Some.form =
+      sym (c.in_ok-form.ensures.form told) ∙ c.in-Some.is in
+      strode_found c.args.self.now c.args.store.now c.copy_one.new.store c.args.hash.now
+      (grey_at c.args.self.now c.args.place c.args.hash.now c.requires.at) (c.copy_one.ensures.one told) c.in-Some.form
+      c.blacken.new.self is (c.in_ok-form.ensures.there told)
+      (subst (λ (form : Bytes). Blackens c.args.self.now c.args.hash.now (kids form) c.blacken.new.self) c.bytes.ensures
+      c.in_ok-blacken.ensures.ok);
   err = first_of (search rules, grind (arith, common_steps));
   less = c.in_ok-blacken.ensures.less;
 }
