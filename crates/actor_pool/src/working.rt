@@ -21,7 +21,7 @@ pub(crate) const SECTIONS: u32 = u32::MAX;
 pub(crate) const LINES: u32 = 16;
 
 /// For how many reads an actor goes down before it hands in what it got, where no gate is passed between them.
-const READS: usize = 8;
+const READS: usize = 32;
 
 /// How often a worker tries a line that waits before it leaves it to the next round, where a gate is passed.
 const TRIES: u32 = 64;
