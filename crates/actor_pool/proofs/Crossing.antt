@@ -16,7 +16,7 @@ use Rattle.tree_cache.specs.contracts.cache.TreeCache as TreeCache
 use Rattle.full_below.specs.contracts.marks.Marks as Marks
 use Rattle.ledger_searches.specs.contracts.hunt.Hunt as Hunt
 use Rattle.ledger_searches.specs.contracts.searches.Searches as Searches
-use Rattle.rotating_store.specs.contracts.notes.Notes as Notes
+use Rattle.rotating_store.specs.contracts.unchecked.Unchecked as Unchecked
 use Rattle.rotating_store.specs.contracts.store.RotStore as RotStore
 use Rattle.rotating_store.specs.contracts.store.RotStore.TheInside as RotStoreIn
 use Rattle.acquire_core.specs.contracts.acquire.Acquire as Acquire
@@ -57,8 +57,8 @@ Marks-send = search (Hash32-send, Hash32-sync, KeyRef-send, List-send, Deed-send
 Hunt-send : IsSend Hunt.the_row
 Hunt-send = search (Hash32-send, Node-send, Node-sync, frees, send, crosses, maps, sendable) depth 60 fits 100000
 
-Notes-send : IsSend Notes.the_row
-Notes-send = search (Hash32-send, HashSet-send, HashMap-send, frees, send, crosses, maps, sendable) depth 40
+Unchecked-send : IsSend Unchecked.the_row
+Unchecked-send = search (Hash32-send, HashSet-send, HashMap-send, frees, send, crosses, maps, sendable) depth 40
 
 Acquire-send : IsSend Acquire.the_row
 Acquire-send = search (Hash32-send, crosses, maps, sendable) depth 40
@@ -83,7 +83,7 @@ module _ (Sh B : RattleType) (s : shelves.Ghosts Sh.Denot B.Denot) (b : backends
   RotStore-send : IsSend Sh → IsSend B → IsSend (RotStore.the_row Sh B s b)
   RotStore-send y q =
       let all : AllSend (fields (RotStoreIn.the_type Sh B s b)) =
-      (y, (q, (q, (search (q, crosses, sendable) depth 10, (search sendable, (search sendable, (search sendable, (Notes-send, tt)))))))) in
+      (y, (q, (q, (search (q, crosses, sendable) depth 10, (search sendable, (search sendable, (search sendable, (Unchecked-send, tt)))))))) in
       let i : IsSend (RotStoreIn.the_row Sh B s b) =
       recorded_send _ _ _ (RotStoreIn.the_type Sh B s b).to_one (struct_send (shape (RotStoreIn.the_type Sh B s b)) all) in
       search sendable depth 20
