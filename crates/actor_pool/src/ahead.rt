@@ -10,6 +10,9 @@ use store_core::ReadJob;
 /// How many lines behind a read are looked at, those of other actors among them.
 const AHEAD: usize = 64;
 
+/// How many lines behind a read are looked at for one of the actor's that is none.
+const SIGHT: usize = 1024;
+
 /// The first read, and those that the actor's lines behind it ask for, of at most so many: up to the first line that is none on the same
 /// view and map, or waits for another line. Where memory is refused there are fewer.
 pub(crate) fn reads_from(
@@ -46,6 +49,34 @@ pub(crate) fn reads_from(
         }
     }
     jobs
+}
+
+/// Whether the actor's lines from this read on ask for fewer than so many before one that asks for none, which must stand in sight.
+pub(crate) fn are_few(lines: &[Line], actor: u8, first: &ReadJob, most: usize) -> bool {
+    let at = lines.partition_point(|line| line.number <= first.line);
+    let (_before, behind) = lines.split_at(at);
+    let mut reads: usize = 1;
+    for line in behind.iter().take(SIGHT) {
+        if line.actor != actor {
+            continue;
+        }
+        if !is_get(line) {
+            return true;
+        }
+        reads = reads.saturating_add(1);
+        if reads >= most {
+            return false;
+        }
+    }
+    behind.len() <= SIGHT
+}
+
+// Whether a line is a `get`.
+fn is_get(line: &Line) -> bool {
+    match &line.command {
+        Command::Get { .. } => true,
+        _ => false,
+    }
 }
 
 // The view of the `get` that comes first.

@@ -7,8 +7,10 @@ ghost use Rattle.actor_pool.specs.Order.{IsOf, IsSameRun, AreAnswered, AreOfOne}
 
 use crate::gate::{Gate, Point};
 use crate::locked::{answered_locked, is_left_locked, serve_locked, unlocked};
+use crate::near::Near;
 use crate::shared::{ACTORS, Pinned, Served, Shared};
-use crate::working::{LINES, SECTIONS, work};
+use crate::worker::Worker;
+use crate::working::{LINES, SECTIONS, read_few, stride_of, work};
 use half_hash::NodeHash;
 use ledger_machine::Line;
 use node_backend::Shelf;
@@ -21,8 +23,8 @@ use std::thread::Threads;
 use store_core::{Core, Stepped};
 
 /// Answers every line of the core's script, over the core under one lock: each actor's by a worker of its own, but that where the gate is
-/// open lines that ask for no read are answered here; and what is left undone then here too, in line order. Where only one actor has lines
-/// no thread is started.
+/// open lines that ask for no read, or for few in a row, are answered here; and what is left undone then here too, in line order. Where
+/// only one actor has lines no thread is started.
 pub fn run_actors<R: Threads + Wait + Sync, H: NodeHash, Sh: Shelf, G: Gate>(
     rt: &R,
     alloc: Global,
@@ -90,7 +92,7 @@ fn run_workers<R: Threads + Wait + Sync, H: NodeHash, Sh: Shelf, G: Gate, J: Pin
 }
 
 /// Runs workers for actors that have lines left, and waits for them: one for each where a gate is passed, and else one whenever an actor's
-/// line asks for a read, while the lines of the others are answered here. One that can't be started leaves its actor's lines undone.
+/// lines ask for many reads, while the lines of the others are answered here. One that can't be started leaves its actor's lines undone.
 fn run_round<R: Threads + Wait + Sync, H: NodeHash, Sh: Shelf, G: Gate, J: Pinned + Send + Sync>(
     rt: &R,
     alloc: Global,
@@ -102,7 +104,7 @@ fn run_round<R: Threads + Wait + Sync, H: NodeHash, Sh: Shelf, G: Gate, J: Pinne
     thread::scope(thread::scope_env(), rt, |scope| {
         let mut from = 0;
         for _ in 0..lines {
-            let Some(actor) = next_worker(rt, alloc, shared, gate, from) else {
+            let Some(actor) = next_worker(rt, alloc, shared, cache, gate, from) else {
                 break;
             };
             from = actor.saturating_add(1);
@@ -116,11 +118,12 @@ fn next_worker<R: Wait, H: NodeHash, Sh: Shelf, G: Gate, J: Pinned>(
     rt: &R,
     alloc: Global,
     shared: &Mutex<Shared<H, Sh, J>>,
+    cache: &ReadCache<H>,
     gate: &G,
     from: u8,
 ) -> Option<u8> {
     if gate.is_open() {
-        return next_reader(rt, alloc, shared);
+        return next_reader(rt, alloc, shared, cache, gate);
     }
     for actor in from..ACTORS {
         if is_left_locked(rt, shared, actor) {
@@ -130,15 +133,31 @@ fn next_worker<R: Wait, H: NodeHash, Sh: Shelf, G: Gate, J: Pinned>(
     None
 }
 
-// Answers lines that ask for no read, until an actor asks for one, which is that actor.
-fn next_reader<R: Wait, H: NodeHash, Sh: Shelf, J: Pinned>(
+// Answers lines that ask for no read, or for few, until an actor asks for many, which is that actor.
+fn next_reader<R: Wait, H: NodeHash, Sh: Shelf, G: Gate, J: Pinned>(
     rt: &R,
     alloc: Global,
     shared: &Mutex<Shared<H, Sh, J>>,
+    cache: &ReadCache<H>,
+    gate: &G,
 ) -> Option<u8> {
+    let mut near = Near::new();
+    let stride = stride_of(gate);
     for _ in 0..SECTIONS {
         match serve_locked(rt, alloc, shared, LINES) {
             Served::Reader(actor) => return Some(actor),
+            Served::Few(actor) => {
+                let worker = Worker {
+                    rt,
+                    alloc,
+                    shared,
+                    cache,
+                    gate,
+                    actor,
+                    stride,
+                };
+                read_few(&worker, &mut near);
+            }
             Served::Line | Served::Slice => {}
             Served::Nothing => return None,
         }

@@ -2,7 +2,7 @@
 ghost use Rattle.std.specs.Prelude.{◌≡◌, ◌<◌, IfOk, IfSome, IsTrue};
 ghost use Rattle.actor_pool.specs.Order.{IsOf};
 
-use crate::ahead::reads_from;
+use crate::ahead::{are_few, reads_from};
 use crate::given::{Given, Lack, given_for};
 use half_hash::{Blob, Hash32, NodeHash};
 use ledger_machine::Line;
@@ -16,6 +16,9 @@ use store_core::{Core, Followed, ReadJob, Stepped};
 
 /// How many actors there are, numbered from 0.
 pub(crate) const ACTORS: u8 = 64;
+
+/// For how many reads an actor goes down before it hands in what it got, where no gate is passed between them.
+pub(crate) const READS: usize = 32;
 
 /// Which run it is: the script, the interval, the count of faults at opening and what was missed. Each
 /// call picks it.
@@ -57,7 +60,9 @@ pub(crate) enum Served {
     Line,
     /// A slice of a line was done.
     Slice,
-    /// This actor's next line asks for a read.
+    /// This actor's next lines ask for reads, fewer than a worker goes down for at once.
+    Few(u8),
+    /// This actor's next lines ask for more.
     Reader(u8),
     /// There was nothing to do.
     Nothing,
@@ -116,8 +121,8 @@ impl<H: NodeHash, Sh: Shelf, J: Pinned> Shared<H, Sh, J> {
         self.section(alloc, actor, stepped, stride)
     }
 
-    /// One section for lines that ask for no read, of actors that have no worker: up to so many, until a line of one asks for a read, which
-    /// has a worker from now on.
+    /// One section for lines that ask for no read, of actors that have no worker: up to so many, until a line of one asks for a read. Who
+    /// calls reads for that actor, or has a worker do so, and none of its lines is served here meanwhile.
     pub(crate) fn serve(&mut self, alloc: Global, lines: u32) -> Served {
         for _ in 0..lines {
             match self.serve_next(alloc) {
@@ -144,9 +149,13 @@ impl<H: NodeHash, Sh: Shelf, J: Pinned> Shared<H, Sh, J> {
         if !self.is_free(actor) {
             return Served::Nothing;
         }
-        if self.asks(actor) {
+        if let Some(first) = self.core.read_job(actor) {
             self.set_free(actor, false);
-            return Served::Reader(actor);
+            return if are_few(&self.core.script().lines, actor, &first, READS) {
+                Served::Few(actor)
+            } else {
+                Served::Reader(actor)
+            };
         }
         match self.line(alloc, actor) {
             Stepped::Answered => Served::Line,

@@ -4,7 +4,7 @@ use crate::gate::{Gate, Point};
 use crate::locked::{commit_locked, free_locked, reads_locked, step_locked};
 use crate::near::Near;
 use crate::reading::read_outside;
-use crate::shared::{Pinned, Section, Shared, Stride};
+use crate::shared::{Pinned, READS, Section, Shared, Stride};
 use crate::worker::Worker;
 use half_hash::NodeHash;
 use node_backend::Shelf;
@@ -19,9 +19,6 @@ pub(crate) const SECTIONS: u32 = u32::MAX;
 
 /// How many lines a section answers at most, where no gate is passed between them.
 pub(crate) const LINES: u32 = 16;
-
-/// For how many reads an actor goes down before it hands in what it got, where no gate is passed between them.
-const READS: usize = 32;
 
 /// How often a worker tries a line that waits before it leaves it to the next round, where a gate is passed.
 const TRIES: u32 = 64;
@@ -57,8 +54,24 @@ pub(crate) fn work<R: Wait, H: NodeHash, Sh: Shelf, G: Gate, J: Pinned>(
     free_locked(rt, shared, actor);
 }
 
+/// Answers what an actor's next lines ask to be read, and some of its lines behind those, for one that has no worker.
+pub(crate) fn read_few<R: Wait, H: NodeHash, Sh: Shelf, G: Gate, J: Pinned>(
+    worker: &Worker<R, H, Sh, G, J>,
+    near: &mut Near<H>,
+) {
+    let jobs = reads_locked(
+        worker.rt,
+        worker.alloc,
+        worker.shared,
+        worker.actor,
+        worker.stride,
+    );
+    let _ = answer(worker, near, jobs);
+    free_locked(worker.rt, worker.shared, worker.actor);
+}
+
 // One line and one read at a time where a gate is passed between them.
-fn stride_of<G: Gate>(gate: &G) -> Stride {
+pub(crate) fn stride_of<G: Gate>(gate: &G) -> Stride {
     if gate.is_open() {
         Stride {
             lines: LINES,
