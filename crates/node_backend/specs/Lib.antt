@@ -1,6 +1,7 @@
 pub mod Order
 pub mod Rising
 pub mod Counts
+pub mod Filling
 pub mod Faults
 pub mod Numbers
 pub mod Doubts

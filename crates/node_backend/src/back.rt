@@ -5,6 +5,7 @@ ghost use Rattle.std.specs.Option.{option_copied};
 ghost use Rattle.ledger_spec.specs.Bytes.{Nodes};
 ghost use Rattle.node_backend.specs.Order.{IsNext};
 ghost use Rattle.node_backend.specs.Counts.{CountsGet};
+ghost use Rattle.node_backend.specs.Filling.{filled};
 ghost use Rattle.run_io.specs.Bytes.{CountsFaults};
 ghost use Rattle.node_backend.specs.Faults.{OnFault, LeavesDevice};
 ghost use Rattle.node_backend.specs.Numbers.{exceeds, ListsNew, TakesBack};
@@ -81,6 +82,15 @@ pub trait Backend: Send + Drop {
     fn get(&mut self, alloc: Global, h: &Hash32) -> Result<Option<Blob>, BackFault>
         ensures same { IsTrue tells → held self.new ≡ held self.old }
         ensures found { IsTrue tells → IfOk result (λ b. b ≡ map.get (held self.old) h.now) }
+        ensures asked { CountsGet (gets self.old) (gets self.new) }
+        ensures doubted { doubt self.new ≡ doubt self.old }
+        ensures device { LeavesDevice number faults (OnFault result) self.old self.new };
+
+    /// Writes the form of a hash into a room, in place of what that held. False where none is held; what the room holds then, and after an
+    /// error, is open.
+    fn get_into(&mut self, alloc: Global, h: &Hash32, room: &mut Vec<u8>) -> Result<bool, BackFault>
+        ensures same { IsTrue tells → held self.new ≡ held self.old }
+        ensures found { IsTrue tells → IfOk result (λ b. filled b room.new.items ≡ map.get (held self.old) h.now) }
         ensures asked { CountsGet (gets self.old) (gets self.new) }
         ensures doubted { doubt self.new ≡ doubt self.old }
         ensures device { LeavesDevice number faults (OnFault result) self.old self.new };

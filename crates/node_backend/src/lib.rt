@@ -37,7 +37,10 @@ mod tests {
         }
         assert_eq!(rt; backend.next(alloc, None)?, Some(key));
         assert_eq!(rt; backend.next(alloc, Some(&key))?, None);
-        assert_eq!(rt; backend.gets(), 1);
+        let mut room = Vec::from_slice(alloc, b"other")?;
+        assert!(rt; backend.get_into(alloc, &key, &mut room)?);
+        assert_eq!(rt; room.as_slice(), b"form".as_slice());
+        assert_eq!(rt; backend.gets(), 2);
         assert_eq!(rt; backend.faults(), 0);
         Ok(())
     }

@@ -7,6 +7,7 @@ ghost use Rattle.run_io.specs.Bytes.{Rose};
 ghost use Rattle.node_backend.specs.Counts.{held_sum, CountsGet};
 ghost use Rattle.node_backend.specs.Calls.{fails_next, faults_after};
 ghost use Rattle.node_backend.specs.Doubts.{SetsPair};
+ghost use Rattle.node_backend.specs.Filling.{filled};
 
 use crate::table::NodeTable;
 use crate::{BackFault, Backend};
@@ -91,6 +92,26 @@ impl Backend for MemBackend {
         match self.map.get(h) {
             None => Ok(None),
             Some(form) => Ok(Some(Blob::from_slice(alloc, form.bytes())?)),
+        }
+    }
+
+    fn get_into(&mut self, _: Global, h: &Hash32, room: &mut Vec<u8>) -> Result<bool, BackFault>
+        ensures same { self.new.map ≡ self.old.map }
+        ensures found { IfOk result (λ b. filled b room.new.items ≡ map.get self.old.map h.now) }
+        ensures asked { CountsGet self.old.gets self.new.gets }
+        ensures left { LeavesMemory self.old self.new result }
+    {
+        self.gets = self.gets.saturating_add(1);
+        if call_fails(&mut self.calls, &mut self.faults, &self.failing) {
+            return Err(BackFault::Fault);
+        }
+        match self.map.get(h) {
+            None => Ok(false),
+            Some(form) => {
+                room.clear();
+                room.extend_from_slice(form.bytes())?;
+                Ok(true)
+            }
         }
     }
 
