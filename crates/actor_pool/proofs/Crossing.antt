@@ -83,7 +83,19 @@ module _ (Sh B : RattleType) (s : shelves.Ghosts Sh.Denot B.Denot) (b : backends
   RotStore-send : IsSend Sh → IsSend B → IsSend (RotStore.the_row Sh B s b)
   RotStore-send y q =
       let all : AllSend (fields (RotStoreIn.the_type Sh B s b)) =
-      (y, (q, (q, (search (q, crosses, sendable) depth 10, (search sendable, (search sendable, (search sendable, (Unchecked-send, tt)))))))) in
+      (
+        y,
+        (
+          q,
+          (
+            q,
+            (
+              search (q, crosses, sendable) depth 10,
+              (search sendable, (search sendable, (search sendable, (Unchecked-send, (search (crosses, sendable) depth 40, tt))))),
+            ),
+          ),
+        ),
+      ) in
       let i : IsSend (RotStoreIn.the_row Sh B s b) =
       recorded_send _ _ _ (RotStoreIn.the_type Sh B s b).to_one (struct_send (shape (RotStoreIn.the_type Sh B s b)) all) in
       search sendable depth 20

@@ -30,6 +30,7 @@ pub enum Left {
 pub struct CopyWalk {
     grey: Vec<Hash32>,
     black: HashSet<Hash32>,
+    room: Vec<u8>,
 }
 
 impl Model for CopyWalk {
@@ -51,6 +52,7 @@ impl CopyWalk {
         Ok(CopyWalk {
             grey,
             black: HashSet::new(alloc),
+            room: Vec::new(alloc),
         })
     }
 
@@ -138,13 +140,14 @@ impl CopyWalk {
         Ok(())
     }
 
-    // Takes the grey hash at a place, which isn't black.
+    // Takes the grey hash at a place, which isn't black. Its form is written into a room.
     fn take_at<Sh: Shelf>(
         &mut self,
         alloc: Global,
         store: &mut RotStore<Sh>,
         place: usize,
         hash: &Hash32,
+        room: &mut Vec<u8>,
     ) -> Result<(), StoreFault>
         requires at { slice_get self.old.grey place ≡ Some hash.now }
         requires new { Contains self.old.black hash.now → ⊥ }
@@ -152,11 +155,12 @@ impl CopyWalk {
         ensures store { LeavesStore StoreFault.Fault store.old store.new result }
         ensures kind { IfErr result IsPlain }
     {
-        let Some(form) = copy_one(alloc, store, hash)? else {
+        let there = copy_one(alloc, store, hash, room)?;
+        if !there {
             self.grey.swap_remove(place);
             return Ok(());
-        };
-        self.blacken(place, hash, form.bytes())?;
+        }
+        self.blacken(place, hash, room)?;
         Ok(())
     }
 
@@ -173,7 +177,9 @@ impl CopyWalk {
             self.grey.swap_remove(place);
             return Ok(());
         }
-        self.take_at(alloc, store, place, &hash)?;
-        Ok(())
+        let mut room = std::mem::replace(&mut self.room, Vec::new(alloc));
+        let taken = self.take_at(alloc, store, place, &hash, &mut room);
+        self.room = room;
+        taken
     }
 }

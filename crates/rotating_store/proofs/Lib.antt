@@ -4,3 +4,4 @@ pub mod Keeping
 pub mod Nexts
 pub mod Checking
 pub mod Spares
+mod Filled

@@ -1,5 +1,5 @@
 -- What a copy forward answers.
-use Rattle.std.specs.Prelude.{◌≡◌, ◌⊎◌, Bool, IsTrue, Option, None, Some, Result, Ok, Err, IsSome, OnOk}
+use Rattle.std.specs.Prelude.{◌≡◌, ◌⊎◌, Bool, true, false, IsTrue, Option, None, Some, Result, Ok, Err, IsSome, OnOk}
 use Rattle.std.specs.FinMap as finite
 use Rattle.ledger_spec.specs.Bytes.{Bytes, Hash, Nodes}
 use Rattle.node_backend.specs.Doubts.{Pair, FailedPut}
@@ -18,10 +18,11 @@ Moves w a h (Ok moved.There) w' = IsSome (finite.get w h) × (w' ≡ w)
 Moves w a h (Ok moved.Nowhere) w' = (finite.get w h ≡ None) × (finite.get a h ≡ None) × (w' ≡ w)
 Moves w a h (Err e) w' = (w' ≡ w) ⊎ ((form : Bytes) × IsOld w a h form × (w' ≡ finite.insert w h form))
 
--- the answer without the form
-abbrev pub moved_of : {E : Type 0} → Result (Moved × Option Bytes) E → Result Moved E
-moved_of (Ok r) = Ok r.0
-moved_of (Err e) = Err e
+-- one of the two has the form
+abbrev pub is_found : Moved → Bool
+is_found moved.Copied = true
+is_found moved.There = true
+is_found moved.Nowhere = false
 
 -- the backend that is written, and its pair in doubt, are as before, or after a put of what the archive alone has
 abbrev pub Writes : Nodes → Nodes → Option Pair → Hash → Nodes → Option Pair → Type 0

@@ -12,7 +12,7 @@ mod turning;
 mod unchecked;
 
 pub use outcome::{Put, StoreFault};
-pub use own::own_form;
+pub use own::{own_form, own_form_into};
 pub use pair::Moved;
 pub use source::Filed;
 pub use store::{Parts, RotStore, Unopened};

@@ -3,12 +3,13 @@ ghost use Rattle.std.specs.Prelude.{◌≡◌, ◌≤◌, ◌+◌, IsTrue, is_so
 ghost use Rattle.std.specs.FinMap as map;
 ghost use Rattle.std.specs.Option.{option_copied};
 ghost use Rattle.node_backend.specs.Order.{IsNext};
+ghost use Rattle.node_backend.specs.Filling.{filled};
 ghost use Rattle.rotating_store.specs.Stores.{nodes_of, Counted, LeavesStore};
 ghost use Rattle.rotating_store.specs.Puts.{Puts, TellsWrongHash, Compares, IsPlain};
-ghost use Rattle.rotating_store.specs.Moves.{Forwards, moved_of};
+ghost use Rattle.rotating_store.specs.Moves.{Forwards, is_found};
 
 use crate::outcome::{Put, StoreFault};
-use crate::pair::{Moved, copy_form, get_either, next_of_either};
+use crate::pair::{Moved, copy_into, get_either, get_either_into, next_of_either};
 use crate::store::RotStore;
 use half_hash::{Blob, Hash32, NodeHash};
 use node_backend::{Backend, Shelf};
@@ -25,6 +26,24 @@ impl<Sh: Shelf> RotStore<Sh> {
     {
         let form = get_either(&mut self.writable, &mut self.archive, alloc, h)?;
         Ok(form)
+    }
+
+    /// Writes the form of a hash into a room, in place of what that held. False where neither backend holds one; what the room holds then,
+    /// and after an error, is open.
+    pub fn get_into(
+        &mut self,
+        alloc: Global,
+        h: &Hash32,
+        room: &mut Vec<u8>,
+    ) -> Result<bool, StoreFault>
+        ensures found { IsTrue Sh.B.tells → IfOk result (λ b. filled b room.new.items ≡ map.get (nodes_of self.old) h.now) }
+        ensures same { IsTrue Sh.B.tells → Counted self.old self.new }
+        ensures few { self.new.gets ≤ self.old.gets + 2 }
+        ensures store { LeavesStore StoreFault.Fault self.old self.new result }
+        ensures kind { IfErr result IsPlain }
+    {
+        let found = get_either_into(&mut self.writable, &mut self.archive, alloc, h, room)?;
+        Ok(found)
     }
 
     /// Whether a form has the hash.
@@ -85,23 +104,26 @@ impl<Sh: Shelf> RotStore<Sh> {
         ensures store { LeavesStore StoreFault.Fault self.old self.new result }
         ensures kind { IfErr result IsPlain }
     {
-        let (moved, _) = self.forward_form(alloc, h)?;
+        let mut room = Vec::new(alloc);
+        let moved = self.forward_into(alloc, h, &mut room)?;
         Ok(moved)
     }
 
-    /// The same, and it hands out the form that was copied or found there, which is looked for once.
-    pub fn forward_form(
+    /// The same, and it writes the form that was copied or found there, which is looked for once, into a room, in place of what that held.
+    /// Where neither backend has one, and after an error, what the room holds is open.
+    pub fn forward_into(
         &mut self,
         alloc: Global,
         h: &Hash32,
-    ) -> Result<(Moved, Option<Blob>), StoreFault>
-        ensures forwards { Forwards Sh.B.tells self.old h.now (moved_of result) self.new }
-        ensures form { IsTrue Sh.B.tells → IfOk result (λ r. r.1 ≡ map.get (nodes_of self.old) h.now) }
+        room: &mut Vec<u8>,
+    ) -> Result<Moved, StoreFault>
+        ensures forwards { Forwards Sh.B.tells self.old h.now result self.new }
+        ensures form { IsTrue Sh.B.tells → IfOk result (λ m. filled (is_found m) room.new.items ≡ map.get (nodes_of self.old) h.now) }
         ensures store { LeavesStore StoreFault.Fault self.old self.new result }
         ensures kind { IfErr result IsPlain }
     {
         self.unchecked.carry(h)?;
-        let moved = copy_form(&mut self.writable, &mut self.archive, alloc, h)?;
+        let moved = copy_into(&mut self.writable, &mut self.archive, alloc, h, room)?;
         Ok(moved)
     }
 

@@ -6,6 +6,7 @@ ghost use Rattle.run_io.specs.Bytes.{Rose};
 ghost use Rattle.ledger_spec.specs.Bytes.{same_bytes};
 ghost use Rattle.ledger_spec.specs.Findings.{held_of};
 ghost use Rattle.ledger_spec.specs.Own.{is_own as stands, own_form as held_at, own_forms};
+ghost use Rattle.node_backend.specs.Filling.{filled};
 ghost use Rattle.rotating_store.specs.Stores.{is_noted, nodes_of};
 ghost use Rattle.rotating_store.specs.Reading.{IsReadable, MayNote, WasRead};
 
@@ -28,27 +29,49 @@ pub fn own_form<H: NodeHash, Sh: Shelf>(
     ensures few { store.new.gets ≤ store.old.gets + 2 }
     ensures fault { IfErr result (λ e. e ≡ BackFault.Fault → Rose store.old.faults store.new.faults) }
 {
-    match store.get(alloc, h) {
-        Ok(Some(form)) => Ok(if_own::<H, Sh>(store, h, form)),
-        Ok(None) => Ok(None),
+    let mut room = Vec::new(alloc);
+    if own_form_into::<H, Sh>(alloc, store, h, &mut room)? {
+        return Ok(Some(Blob::new(room)));
+    }
+    Ok(None)
+}
+
+/// The same, written into a room, in place of what that held. False where none is held; what the room holds then, and after an error, is
+/// open.
+pub fn own_form_into<H: NodeHash, Sh: Shelf>(
+    alloc: Global,
+    store: &mut RotStore<Sh>,
+    h: &Hash32,
+    room: &mut Vec<u8>,
+) -> Result<bool, BackFault>
+    ensures form { IsReadable Sh.B.tells H.half store.old
+        → IfOk result (λ b. filled b room.new.items ≡ own_forms H.half (map.get (nodes_of store.old)) h.now) }
+    ensures read { WasRead Sh.B.tells H.half store.old store.new }
+    ensures few { store.new.gets ≤ store.old.gets + 2 }
+    ensures fault { IfErr result (λ e. e ≡ BackFault.Fault → Rose store.old.faults store.new.faults) }
+{
+    match store.get_into(alloc, h, room) {
+        Ok(true) => Ok(noted_own::<H, Sh>(store, h, room)),
+        Ok(false) => Ok(false),
         Err(fault) => Err(fault.plain()),
     }
 }
 
-// The form that the store holds, where it is its hash's own. It isn't checked where that was noted, and noted where it was checked.
-fn if_own<H: NodeHash, Sh: Shelf>(store: &mut RotStore<Sh>, h: &Hash32, form: Blob) -> Option<Blob>
-    requires held { IsTrue Sh.B.tells → map.get (nodes_of store.old) h.now ≡ Some form }
-    ensures form { (IsTrue (is_noted store.old h.now) → IsTrue (stands H.half h.now form)) → result ≡ held_at H.half h.now (Some form) }
-    ensures noted { MayNote H.half store.old h.now form store.new }
+// Whether the form that the store holds is its hash's own. It isn't checked where that was noted, and noted where it was checked.
+fn noted_own<H: NodeHash, Sh: Shelf>(store: &mut RotStore<Sh>, h: &Hash32, form: &[u8]) -> bool
+    requires held { IsTrue Sh.B.tells → map.get (nodes_of store.old) h.now ≡ Some form.now }
+    ensures form { (IsTrue (is_noted store.old h.now) → IsTrue (stands H.half h.now form.now))
+        → filled result form.now ≡ held_at H.half h.now (Some form.now) }
+    ensures noted { MayNote H.half store.old h.now form.now store.new }
 {
     if store.is_noted(h) {
-        return Some(form);
+        return true;
     }
-    if !is_own::<H>(h, form.bytes()) {
-        return None;
+    if !is_own::<H>(h, form) {
+        return false;
     }
     store.note(h);
-    Some(form)
+    true
 }
 
 // Whether the bytes have this hash, and are a form.

@@ -5,7 +5,9 @@ ghost use Rattle.std.specs.Option.{option_copied};
 ghost use Rattle.node_backend.specs.Order.{IsNext};
 ghost use Rattle.run_io.specs.Bytes.{Rose};
 ghost use Rattle.node_backend.specs.Counts.{held_sum};
+ghost use Rattle.node_backend.specs.Filling.{filled};
 ghost use Rattle.rotating_store.specs.Stores.{merged, lesser_of};
+ghost use Rattle.rotating_store.specs.Moves.{is_found};
 ghost use Rattle.rotating_store.specs.Pairs.{WasAsked, IsLaterBackend, CopiesForm};
 
 use half_hash::{Blob, Hash32};
@@ -21,6 +23,18 @@ pub enum Moved {
     There,
     /// Neither backend has it.
     Nowhere,
+}
+
+impl Moved {
+    /// Whether one of the two backends has the form.
+    pub fn is_found(self) -> bool
+        ensures { result ≡ is_found self }
+    {
+        match self {
+            Moved::Copied | Moved::There => true,
+            Moved::Nowhere => false,
+        }
+    }
 }
 
 /// The form of a hash.
@@ -43,6 +57,31 @@ pub(crate) fn get_either<B: Backend>(
     }
     let form = second.get(alloc, h)?;
     Ok(form)
+}
+
+/// Writes the form of a hash into a room; false where neither has one.
+pub(crate) fn get_either_into<B: Backend>(
+    first: &mut B,
+    second: &mut B,
+    alloc: Global,
+    h: &Hash32,
+    room: &mut Vec<u8>,
+) -> Result<bool, BackFault>
+    ensures first { WasAsked B.tells B.held B.doubt B.number B.faults first.old first.new }
+    ensures second { WasAsked B.tells B.held B.doubt B.number B.faults second.old second.new }
+    ensures found { IsTrue B.tells
+        → IfOk result (λ b. filled b room.new.items ≡ map.get (merged (B.held first.old) (B.held second.old)) h.now) }
+    ensures asked { (B.gets first.new ≡ held_sum (B.gets first.old) 1)
+        × ((B.gets second.new ≡ B.gets second.old) ⊎ (B.gets second.new ≡ held_sum (B.gets second.old) 1)) }
+    ensures cause { result ≡ Err BackFault.Fault
+        → Rose (B.faults first.old) (B.faults first.new) ⊎ Rose (B.faults second.old) (B.faults second.new) }
+{
+    let here = first.get_into(alloc, h, room)?;
+    if here {
+        return Ok(true);
+    }
+    let there = second.get_into(alloc, h, room)?;
+    Ok(there)
 }
 
 /// The lesser of two hashes, or the one that there is.
@@ -75,14 +114,15 @@ pub(crate) fn next_of_either<B: Backend>(
     Ok(lesser(a, b))
 }
 
-/// Copies a form from the second to the first, where that lacks it, and hands it out.
-pub(crate) fn copy_form<B: Backend>(
+/// Copies a form from the second to the first, where that lacks it, and writes it into a room.
+pub(crate) fn copy_into<B: Backend>(
     first: &mut B,
     second: &mut B,
     alloc: Global,
     h: &Hash32,
-) -> Result<(Moved, Option<Blob>), BackFault>
-    ensures copies { CopiesForm B.tells (B.held first.old) (B.held second.old) (B.doubt first.old) h.now result
+    room: &mut Vec<u8>,
+) -> Result<Moved, BackFault>
+    ensures copies { CopiesForm B.tells (B.held first.old) (B.held second.old) (B.doubt first.old) h.now result room.new.items
         (B.held first.new) (B.doubt first.new) }
     ensures first { IsLaterBackend B.number B.faults first.old first.new }
     ensures second { WasAsked B.tells B.held B.doubt B.number B.faults second.old second.new }
@@ -90,12 +130,14 @@ pub(crate) fn copy_form<B: Backend>(
     ensures cause { result ≡ Err BackFault.Fault
         → Rose (B.faults first.old) (B.faults first.new) ⊎ Rose (B.faults second.old) (B.faults second.new) }
 {
-    if let Some(form) = first.get(alloc, h)? {
-        return Ok((Moved::There, Some(form)));
+    let here = first.get_into(alloc, h, room)?;
+    if here {
+        return Ok(Moved::There);
     }
-    let Some(form) = second.get(alloc, h)? else {
-        return Ok((Moved::Nowhere, None));
-    };
-    first.put(alloc, h, form.bytes())?;
-    Ok((Moved::Copied, Some(form)))
+    let there = second.get_into(alloc, h, room)?;
+    if there {
+        first.put(alloc, h, room)?;
+        return Ok(Moved::Copied);
+    }
+    Ok(Moved::Nowhere)
 }

@@ -31,19 +31,17 @@ impl<H: NodeHash, Sh: Shelf> NodeSource<H> for RotStore<Sh> {
     ghost faults = { λ s. s.faults };
 
     fn fetch(&mut self, alloc: Global, h: &Hash32) -> Result<Option<Arc<Node>>, FetchFault> {
-        match self.writable.get(alloc, h) {
-            Ok(Some(form)) => return node_of_form(alloc, h, &H::half(form.bytes()), form.bytes()),
-            Ok(None) => {}
+        match self.writable.get_into(alloc, h, &mut self.room) {
+            Ok(true) => return node_of_form(alloc, h, &H::half(&self.room), &self.room),
+            Ok(false) => {}
             Err(fault) => return Err(not_fetched(fault)),
         }
-        let there = match self.archive.get(alloc, h) {
-            Ok(there) => there,
+        match self.archive.get_into(alloc, h, &mut self.room) {
+            Ok(true) => {}
+            Ok(false) => return Ok(None),
             Err(fault) => return Err(not_fetched(fault)),
-        };
-        let Some(form) = there else {
-            return Ok(None);
-        };
-        node_of_form(alloc, h, &H::half(form.bytes()), form.bytes())
+        }
+        node_of_form(alloc, h, &H::half(&self.room), &self.room)
     }
 }
 
@@ -83,25 +81,25 @@ impl<H: NodeHash, Sh: Shelf> NodeSource<H> for Filed<'_, H, Sh> {
 
     fn fetch(&mut self, alloc: Global, h: &Hash32) -> Result<Option<Arc<Node>>, FetchFault> {
         let store = &mut *self.store;
-        match store.writable.get(alloc, h) {
-            Ok(Some(form)) => {
+        match store.writable.get_into(alloc, h, &mut store.room) {
+            Ok(true) => {
                 if Sh::B::is_telling() {
-                    return node_of_form(alloc, h, h, form.bytes());
+                    return node_of_form(alloc, h, h, &store.room);
                 }
-                return node_of_form(alloc, h, &H::half(form.bytes()), form.bytes());
+                return node_of_form(alloc, h, &H::half(&store.room), &store.room);
             }
-            Ok(None) => {}
+            Ok(false) => {}
             Err(fault) => return Err(not_fetched(fault)),
         }
-        let form = match store.archive.get(alloc, h) {
-            Ok(Some(form)) => form,
-            Ok(None) => return Ok(None),
+        match store.archive.get_into(alloc, h, &mut store.room) {
+            Ok(true) => {}
+            Ok(false) => return Ok(None),
             Err(fault) => return Err(not_fetched(fault)),
-        };
+        }
         if Sh::B::is_telling() {
-            return node_of_form(alloc, h, h, form.bytes());
+            return node_of_form(alloc, h, h, &store.room);
         }
-        node_of_form(alloc, h, &H::half(form.bytes()), form.bytes())
+        node_of_form(alloc, h, &H::half(&store.room), &store.room)
     }
 }
 

@@ -36,6 +36,7 @@ pub struct RotStore<Sh: Shelf> {
     pub(crate) past_faults: u64,
     pub(crate) past_gets: u64,
     pub(crate) unchecked: Unchecked,
+    pub(crate) room: Vec<u8>,
 }
 
 /// The very shelf and backends of a store.
@@ -117,6 +118,7 @@ impl<Sh: Shelf> RotStore<Sh> {
             past_faults: 0,
             past_gets: 0,
             unchecked: Unchecked::new(alloc),
+            room: Vec::new(alloc),
         })
     }
 

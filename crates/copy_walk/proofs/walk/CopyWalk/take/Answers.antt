@@ -39,14 +39,14 @@ returns-then-contains-clause-takes g c = record {
 }
 
 -- it stands at the last place
-pub take_at-requires-clause-at : goal.take_at-requires-clause-at
-take_at-requires-clause-at g c κs within =
+pub take_at-taken-requires-clause-at : goal.take_at-taken-requires-clause-at
+take_at-taken-requires-clause-at g c κs within =
     let some : 0 < length c.self.inside.grey.items =
     some_grey c.self.inside.grey.items (subst (λ (w : Walk). w.grey ≢ []) (sym c.self.view_is) c.requires) in
-    rw (← c.self.view_is) (slice_get_read c.self.inside.grey.items (length c.self.inside.grey.items) (c.len-place.result - 1)
-    c.index.result.now refl (omega (arith, some, c.len-place.ensures, c.self.inside.grey.ok.0)) c.index.ensures)
+    slice_get_read c.self.inside.grey.items (length c.self.inside.grey.items) (c.len-place.result - 1) c.index.result.now refl
+    (omega (arith, some, c.len-place.ensures, c.self.inside.grey.ok.0)) c.index.ensures
 
 -- and isn't black
-pub take_at-requires-clause-new : goal.take_at-requires-clause-new
-take_at-requires-clause-new g c κs within =
-    rw (← c.self.view_is) (not_black c.self.inside.black c.index.result.now (sym c.contains.ensures ∙ c.if-contains.false))
+pub take_at-taken-requires-clause-new : goal.take_at-taken-requires-clause-new
+take_at-taken-requires-clause-new g c κs within =
+    not_black c.self.inside.black c.index.result.now (sym c.contains.ensures ∙ c.if-contains.false)

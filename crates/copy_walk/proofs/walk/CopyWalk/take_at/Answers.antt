@@ -1,5 +1,5 @@
 -- the form is copied first; then its hash leaves the grey list, or becomes black once all that it names is shaded
-use Rattle.std.proofs.Common.{◌≡◌, ◌∙◌, ◌<◌, Some, length, slice_get, refl, sym, subst, arith, rules}
+use Rattle.std.proofs.Common.{◌≡◌, ◌<◌, Some, length, slice_get, refl, sym, subst, arith, rules}
 use Rattle.std.proofs.lemmas.Grind.{common_steps}
 use Rattle.std.specs.FinMap as finite
 use Rattle.ledger_spec.specs.Bytes.{Bytes}
@@ -8,13 +8,14 @@ use Rattle.rotating_store.specs.Stores.{nodes_of}
 use Rattle.copy_walk.specs.Walks.{Walk, ShadesSome}
 use Rattle.copy_walk.specs.Strides.{Leaves}
 use Rattle.copy_walk.specs.Slices.{Blackens}
+use Rattle.node_backend.proofs.shared.Filling.{has_some, has_none}
 use Rattle.copy_walk.proofs.Shading.{stands_at, leaves_at, grey_at, left_less}
 use Rattle.copy_walk.proofs.Taking.{on_err, strode_copy, strode_absent, strode_named, strode_found}
 use Rattle.copy_walk.proofs.walk.CopyWalk.take_at.Goals as goal
 
 -- the form can't be copied
-pub returns-in_err-form-clause-takes : goal.returns-in_err-form-clause-takes
-returns-in_err-form-clause-takes g c = record {
+pub returns-in_err-there-clause-takes : goal.returns-in_err-there-clause-takes
+returns-in_err-there-clause-takes g c = record {
   ok = first_of (search rules, grind (arith, common_steps));
   err = λ told.
       on_err _ c.from_residual.result
@@ -32,8 +33,8 @@ swap_remove-requires g c =
     omega (arith, within, c.self.inside.grey.ok.0)
 
 -- nothing is stored under it
-pub returns-in_default-clause-takes : goal.returns-in_default-clause-takes
-returns-in_default-clause-takes g c = record {
+pub returns-then-not-there-clause-takes : goal.returns-then-not-there-clause-takes
+returns-then-not-there-clause-takes g c = record {
   ok = λ told.
       let was : Walk = record { grey = c.self.inside.grey.items; black = c.self.inside.black.keys } in
       let now : Walk = record { grey = c.swap_remove.new.self.items; black = c.self.inside.black.keys } in
@@ -44,7 +45,7 @@ returns-in_default-clause-takes g c = record {
       c.swap_remove.ensures.value c.swap_remove.ensures.items in
       rw (← c.self.view_is)
       (strode_absent was c.args.store.now c.copy_one.new.store c.args.hash.now (grey_at was c.args.place c.args.hash.now at)
-      (c.copy_one.ensures.one told) now (sym (c.in_ok-form.ensures.form told) ∙ c.in_default.is) leaves refl);
+      (c.copy_one.ensures.one told) now (has_none _ _ _ (c.in_ok-there.ensures.form told) c.if-not-there.true) leaves refl);
   err = first_of (search rules, grind (arith, common_steps));
   less =
       let was : Walk = record { grey = c.self.inside.grey.items; black = c.self.inside.black.keys } in
@@ -62,13 +63,14 @@ pub returns-in_err-blacken-clause-takes : goal.returns-in_err-blacken-clause-tak
 returns-in_err-blacken-clause-takes g c = record {
   ok = first_of (search rules, grind (arith, common_steps));
   err = λ told.
-      let is : finite.get (nodes_of c.args.store.now) c.args.hash.now ≡ Some c.in-Some.form =
-      sym (c.in_ok-form.ensures.form told) ∙ c.in-Some.is in
+      let is : finite.get (nodes_of c.args.store.now) c.args.hash.now ≡ Some c.copy_one.new.room.items =
+      has_some _ _ _ (c.in_ok-there.ensures.form told) c.if-not-there.false in
       on_err _ c.from_residual-in_err-blacken.result
       (strode_named c.args.self.now c.args.store.now c.copy_one.new.store c.args.hash.now
-      (grey_at c.args.self.now c.args.place c.args.hash.now c.requires.at) (c.copy_one.ensures.one told) c.in-Some.form
+      (grey_at c.args.self.now c.args.place c.args.hash.now c.requires.at) (c.copy_one.ensures.one told) c.copy_one.new.room.items
       c.blacken.new.self is
-      (subst (λ (form : Bytes). ShadesSome c.args.self.now (kids form) c.blacken.new.self) c.bytes.ensures c.in_err-blacken.ensures.err));
+      (subst (λ (form : Bytes). ShadesSome c.args.self.now (kids form) c.blacken.new.self) c.deref.ensures.value
+      c.in_err-blacken.ensures.err));
   less = first_of (search rules, grind (arith, common_steps));
 }
 
@@ -76,12 +78,12 @@ returns-in_err-blacken-clause-takes g c = record {
 pub returns-clause-takes : goal.returns-clause-takes
 returns-clause-takes g c = record {
   ok = λ told.
-      let is : finite.get (nodes_of c.args.store.now) c.args.hash.now ≡ Some c.in-Some.form =
-      sym (c.in_ok-form.ensures.form told) ∙ c.in-Some.is in
+      let is : finite.get (nodes_of c.args.store.now) c.args.hash.now ≡ Some c.copy_one.new.room.items =
+      has_some _ _ _ (c.in_ok-there.ensures.form told) c.if-not-there.false in
       strode_found c.args.self.now c.args.store.now c.copy_one.new.store c.args.hash.now
-      (grey_at c.args.self.now c.args.place c.args.hash.now c.requires.at) (c.copy_one.ensures.one told) c.in-Some.form
-      c.blacken.new.self is (c.in_ok-form.ensures.there told)
-      (subst (λ (form : Bytes). Blackens c.args.self.now c.args.hash.now (kids form) c.blacken.new.self) c.bytes.ensures
+      (grey_at c.args.self.now c.args.place c.args.hash.now c.requires.at) (c.copy_one.ensures.one told) c.copy_one.new.room.items
+      c.blacken.new.self is (c.in_ok-there.ensures.there told)
+      (subst (λ (form : Bytes). Blackens c.args.self.now c.args.hash.now (kids form) c.blacken.new.self) c.deref.ensures.value
       c.in_ok-blacken.ensures.ok);
   err = first_of (search rules, grind (arith, common_steps));
   less = c.in_ok-blacken.ensures.less;

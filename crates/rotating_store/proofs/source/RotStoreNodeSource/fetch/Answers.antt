@@ -1,33 +1,33 @@
-use Rattle.std.proofs.Common.{rules, ◌≡◌, Some, None, sym, subst, ◌∙◌}
+use Rattle.std.proofs.Common.{rules, ◌≡◌, Some, None, subst}
 use Rattle.std.specs.FinMap as finite
 use Rattle.ledger_spec.specs.Own.{own_form}
 use Rattle.path_proof.specs.Sources.{Gives}
 use Rattle.rotating_store.specs.Stores.{Store, nodes_of}
-use Rattle.rotating_store.proofs.shared.Merging.{found_first, found_second}
+use Rattle.rotating_store.proofs.Filled.{from_first, in_second, in_neither}
 use Rattle.rotating_store.proofs.shared.Sources.{given_at, none_at}
 use Rattle.rotating_store.proofs.source.RotStoreNodeSource.fetch.Goals as goal
 
-pub returns-in-Ok-Some-clause-hash : goal.returns-in-Ok-Some-clause-hash
-returns-in-Ok-Some-clause-hash g c = c.node_of_form.ensures.hash g.H.NodeHash.half (search rules)
+pub returns-in-Ok-true-clause-hash : goal.returns-in-Ok-true-clause-hash
+returns-in-Ok-true-clause-hash g c = c.node_of_form.ensures.hash g.H.NodeHash.half (search rules)
 
 -- the writable backend has the form
-pub returns-in-Ok-Some-clause-exact : goal.returns-in-Ok-Some-clause-exact
-returns-in-Ok-Some-clause-exact g c = λ told.
+pub returns-in-Ok-true-clause-exact : goal.returns-in-Ok-true-clause-exact
+returns-in-Ok-true-clause-exact g c = λ told.
     let half = g.H.NodeHash.half in
-    let there : Some c.in-Ok-Some.form ≡ finite.get (nodes_of c.args.self.now) c.args.h.now =
-    subst (λ (s : Store). Some c.in-Ok-Some.form ≡ finite.get (nodes_of s) c.args.h.now) c.self.view_is
-    (found_first _ _ c.args.h.now _ c.in-Ok-Some.form (c.in-Ok-Some.ensures.found told) c.in-Ok-Some.field-0-is) in
-    given_at half (nodes_of c.args.self.now) c.args.h.now c.in-Ok-Some.form _ there
-    (subst (λ form. Gives half (own_form half c.args.h.now (Some form)) c.node_of_form.result) c.bytes-in-Ok-Some.ensures
+    let there : Some c.get_into.new.room.items ≡ finite.get (nodes_of c.args.self.now) c.args.h.now =
+    subst (λ (s : Store). Some c.get_into.new.room.items ≡ finite.get (nodes_of s) c.args.h.now) c.self.view_is
+    (from_first _ _ c.args.h.now _ _ (c.in-Ok-true.ensures.found told) c.in-Ok-true.field-0-test) in
+    given_at half (nodes_of c.args.self.now) c.args.h.now c.get_into.new.room.items _ there
+    (subst (λ form. Gives half (own_form half c.args.h.now (Some form)) c.node_of_form.result) c.deref-in-Ok-true.ensures.value
     (c.node_of_form.ensures.exact half (search rules)))
 
 -- neither backend has one
-pub returns-in_default-clause-exact : goal.returns-in_default-clause-exact
-returns-in_default-clause-exact g c = λ told.
+pub returns-in-Ok-false-get_into-clause-exact : goal.returns-in-Ok-false-get_into-clause-exact
+returns-in-Ok-false-get_into-clause-exact g c = λ told.
     let none : None ≡ finite.get (nodes_of c.args.self.now) c.args.h.now =
     subst (λ (s : Store). None ≡ finite.get (nodes_of s) c.args.h.now) c.self.view_is
-    (sym c.in_default.is ∙ found_second _ _ c.args.h.now _ _ (c.in-Ok-None.ensures.found told) c.in-Ok-None.field-0-is
-    (c.in-Ok.ensures.found told)) in
+    (in_neither _ _ c.args.h.now _ _ _ _ (c.in-Ok-false.ensures.found told) c.in-Ok-false.field-0-test
+    (c.in-Ok-false-get_into.ensures.found told) c.in-Ok-false-get_into.field-0-test) in
     none_at g.H.NodeHash.half (nodes_of c.args.self.now) c.args.h.now none
 
 pub returns-clause-hash : goal.returns-clause-hash
@@ -37,10 +37,10 @@ returns-clause-hash g c = c.node_of_form-2.ensures.hash g.H.NodeHash.half (searc
 pub returns-clause-exact : goal.returns-clause-exact
 returns-clause-exact g c = λ told.
     let half = g.H.NodeHash.half in
-    let there : Some c.in-Some.form ≡ finite.get (nodes_of c.args.self.now) c.args.h.now =
-    subst (λ (s : Store). Some c.in-Some.form ≡ finite.get (nodes_of s) c.args.h.now) c.self.view_is
-    (sym c.in-Some.is ∙ found_second _ _ c.args.h.now _ _ (c.in-Ok-None.ensures.found told) c.in-Ok-None.field-0-is
-    (c.in-Ok.ensures.found told)) in
-    given_at half (nodes_of c.args.self.now) c.args.h.now c.in-Some.form _ there
-    (subst (λ form. Gives half (own_form half c.args.h.now (Some form)) c.node_of_form-2.result) c.bytes-3.ensures
+    let there : Some c.get_into-2.new.room.items ≡ finite.get (nodes_of c.args.self.now) c.args.h.now =
+    subst (λ (s : Store). Some c.get_into-2.new.room.items ≡ finite.get (nodes_of s) c.args.h.now) c.self.view_is
+    (in_second _ _ c.args.h.now _ _ _ _ (c.in-Ok-false.ensures.found told) c.in-Ok-false.field-0-test
+    (c.in-Ok-true-get_into.ensures.found told) c.in-Ok-true-get_into.field-0-test) in
+    given_at half (nodes_of c.args.self.now) c.args.h.now c.get_into-2.new.room.items _ there
+    (subst (λ form. Gives half (own_form half c.args.h.now (Some form)) c.node_of_form-2.result) c.deref-3.ensures.value
     (c.node_of_form-2.ensures.exact half (search rules)))
