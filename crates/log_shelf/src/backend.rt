@@ -7,6 +7,7 @@ ghost use Rattle.node_backend.specs.Order.{IsNext};
 ghost use Rattle.run_io.specs.Bytes.{Rose};
 ghost use Rattle.node_backend.specs.Counts.{CountsGet};
 ghost use Rattle.node_backend.specs.Faults.{LeavesDevice, OnFault};
+ghost use Rattle.node_backend.specs.Filling.{filled};
 ghost use Rattle.node_backend.specs.Doubts.{MayDoubt, FailedPut, SetsPair, Doubts};
 ghost use Rattle.log_shelf.specs.Places.{Shows};
 ghost use Rattle.log_shelf.specs.Backends.{held_in, pair_in_doubt};
@@ -146,6 +147,24 @@ impl<D: Disk + Send> Backend for LogBackend<D> {
                 let outcome = self.log.bytes(alloc, place.at, place.len);
                 let bytes = count_fault(&mut self.faults, outcome)?;
                 Ok(Some(Blob::new(bytes)))
+            }
+        }
+    }
+
+    fn get_into(&mut self, alloc: Global, h: &Hash32, room: &mut Vec<u8>) -> Result<bool, BackFault>
+        ensures same { held_of self.new ≡ held_of self.old }
+        ensures found { IfOk result (λ b. filled b room.new.items ≡ map.get (held_of self.old) h.now) }
+        ensures asked { CountsGet self.old.gets self.new.gets }
+        ensures doubted { doubt_of self.new ≡ doubt_of self.old }
+        ensures left { LeavesLog self.old self.new result }
+    {
+        self.gets = self.gets.saturating_add(1);
+        match self.index.get(h) {
+            None => Ok(false),
+            Some(place) => {
+                let outcome = self.log.bytes(alloc, place.at, place.len);
+                *room = count_fault(&mut self.faults, outcome)?;
+                Ok(true)
             }
         }
     }
