@@ -53,6 +53,11 @@ abbrev pub step_of : Result Bytes Block → (List Hash → way.Spot) → way.Spo
 step_of (Ok form) on = option_map_or on (inner_of form) way.no_base
 step_of (Err b) on = blocked b
 
+-- the form that was written into a room, where nothing stands in the way, or what does
+abbrev pub way_on : Option Block → Bytes → Result Bytes Block
+way_on None room = Ok room
+way_on (Some b) room = Err b
+
 -- a form there is an inner node's
 abbrev pub HasInner : Result Bytes Block → Type 0
 HasInner (Ok form) = IsTrue (is_some (inner_of form))

@@ -9,17 +9,18 @@ ghost use Rattle.ledger_spec.specs.Spots as way;
 ghost use Rattle.ledger_spec.specs.Spots.{header_in, header_root, spot_from, spot_of};
 ghost use Rattle.run_io.specs.Bytes.{Rose};
 ghost use Rattle.ledger_spec.specs.Own.{own_forms};
+ghost use Rattle.node_backend.specs.Filling.{filled};
 ghost use Rattle.rotating_store.specs.Stores.{nodes_of};
 ghost use Rattle.rotating_store.specs.Reading.{WasRead, IsReadable};
 ghost use Rattle.node_offer.specs.Stored.{IsPlain};
-ghost use Rattle.node_offer.specs.Ways.{hashes_of_parent, spot, spot_found, step_down, step_of, HasInner};
+ghost use Rattle.node_offer.specs.Ways.{hashes_of_parent, spot, spot_found, step_down, step_of, way_on, HasInner};
 
 use crate::fault::OfferFault;
 use half_hash::{Blob, Hash32, NodeHash};
 use ledger_header::Header;
 use nib_path::{NodeId, nibble};
 use node_backend::{BackFault, Shelf};
-use rotating_store::{RotStore, own_form};
+use rotating_store::{RotStore, own_form_into};
 use shamap_node::{Inner, Kind, inner_branch, inner_of, is_inner_form};
 use std::alloc::Global;
 
@@ -113,10 +114,11 @@ pub(crate) fn find<H: NodeHash, Sh: Shelf>(
     ensures fault { IfErr result (λ e. e ≡ OfferFault.Fault → Rose store.old.faults store.new.faults) }
     ensures kind { IfErr result IsPlain }
 {
-    let root = root_in::<H, Sh>(alloc, store, target, kind)?;
+    let mut room = Vec::new(alloc);
+    let root = root_into::<H, Sh>(alloc, store, target, kind, &mut room)?;
     match root {
         None => Ok(Found::NoBase),
-        Some(root) => Ok(walk::<H, Sh>(alloc, store, root, id)?),
+        Some(root) => Ok(walk::<H, Sh>(alloc, store, root, id, room)?),
     }
 }
 
@@ -133,10 +135,30 @@ pub fn root_in<H: NodeHash, Sh: Shelf>(
     ensures few { store.new.gets ≤ store.old.gets + 2 }
     ensures fault { IfErr result (λ e. e ≡ BackFault.Fault → Rose store.old.faults store.new.faults) }
 {
-    match own_form::<H, Sh>(alloc, store, target)? {
-        None => Ok(None),
-        Some(form) => Ok(root_of(form.bytes(), kind)),
+    let mut room = Vec::new(alloc);
+    let root = root_into::<H, Sh>(alloc, store, target, kind, &mut room)?;
+    Ok(root)
+}
+
+// The same, with a room for the header's form.
+fn root_into<H: NodeHash, Sh: Shelf>(
+    alloc: Global,
+    store: &mut RotStore<Sh>,
+    target: &Hash32,
+    kind: Kind,
+    room: &mut Vec<u8>,
+) -> Result<Option<Hash32>, BackFault>
+    ensures root { IsReadable Sh.B.tells H.half store.old → IfOk result (λ root. root
+        ≡ option_map (header_root kind) (header_in (own_forms H.half (map.get (nodes_of store.old))) target.now)) }
+    ensures read { WasRead Sh.B.tells H.half store.old store.new }
+    ensures few { store.new.gets ≤ store.old.gets + 2 }
+    ensures fault { IfErr result (λ e. e ≡ BackFault.Fault → Rose store.old.faults store.new.faults) }
+{
+    let there = own_form_into::<H, Sh>(alloc, store, target, room)?;
+    if there {
+        return Ok(root_of(room, kind));
     }
+    Ok(None)
 }
 
 // The same, of the header whose form this is.
@@ -151,12 +173,13 @@ fn root_of(form: &[u8], kind: Kind) -> Option<Hash32>
     })
 }
 
-// The place, from the root on.
+// The place, from the root on. The forms on the way are read into one room.
 fn walk<H: NodeHash, Sh: Shelf>(
     alloc: Global,
     store: &mut RotStore<Sh>,
     root: Hash32,
     id: &NodeId,
+    room: Vec<u8>,
 ) -> Result<Found, BackFault>
     ensures spot { IsReadable Sh.B.tells H.half store.old
         → IfOk result (λ s. spot_found s ≡ spot_from (own_forms H.half (map.get (nodes_of store.old))) [] None root id.now) }
@@ -166,22 +189,34 @@ fn walk<H: NodeHash, Sh: Shelf>(
 {
     id.known();
     let key = id.id();
+    let mut room = room;
     let mut hash = root;
-    let mut parent: Option<Blob> = None;
+    let mut below = false;
     for depth in 0..id.depth() {
         let at = NodeId::of_key(&key, depth);
-        match step::<H, Sh>(alloc, store, &hash, at)? {
-            Ok(form) => {
-                hash = inner_branch(form.bytes(), nibble(&key, depth));
-                parent = Some(form);
+        let stop = step::<H, Sh>(alloc, store, &hash, at, &mut room)?;
+        match stop {
+            None => {
+                hash = inner_branch(&room, nibble(&key, depth));
+                below = true;
             }
-            Err(block) => return Ok(Found::Blocked(block)),
+            Some(block) => return Ok(Found::Blocked(block)),
         }
     }
     if hash.is_zero() {
         return Ok(Found::Blocked(Block::EmptyBranch(*id)));
     }
-    Ok(Found::Wanted { hash, parent })
+    Ok(Found::Wanted {
+        hash,
+        parent: form_in(below, room),
+    })
+}
+
+// What a room holds, where it was filled.
+fn form_in(there: bool, room: Vec<u8>) -> Option<Blob>
+    ensures { result ≡ filled there room.items }
+{
+    if there { Some(Blob::new(room)) } else { None }
 }
 
 // The inner node whose form this is, if one is given.
@@ -194,37 +229,41 @@ fn inner_in(form: &Option<Blob>) -> Option<Inner>
     }
 }
 
-// The form of the inner node that is held at a place on the way, or what stands in the way there.
+// What stands in the way at a place; where nothing does, the form of the inner node that is held there is written into the room.
 fn step<H: NodeHash, Sh: Shelf>(
     alloc: Global,
     store: &mut RotStore<Sh>,
     hash: &Hash32,
     at: NodeId,
-) -> Result<Result<Blob, Block>, BackFault>
+    room: &mut Vec<u8>,
+) -> Result<Option<Block>, BackFault>
     ensures step { IsReadable Sh.B.tells H.half store.old → IfOk result (λ s. (on : List Hash → way.Spot)
-        → step_of s on ≡ step_down at on hash.now (own_forms H.half (map.get (nodes_of store.old)) hash.now)) }
-    ensures inner { IfOk result HasInner }
+        → step_of (way_on s room.new.items) on
+        ≡ step_down at on hash.now (own_forms H.half (map.get (nodes_of store.old)) hash.now)) }
+    ensures inner { IfOk result (λ s. HasInner (way_on s room.new.items)) }
     ensures read { WasRead Sh.B.tells H.half store.old store.new }
     ensures few { store.new.gets ≤ store.old.gets + 2 }
     ensures fault { IfErr result (λ e. e ≡ BackFault.Fault → Rose store.old.faults store.new.faults) }
 {
     if hash.is_zero() {
-        return Ok(Err(Block::EmptyBranch(at)));
+        return Ok(Some(Block::EmptyBranch(at)));
     }
-    match own_form::<H, Sh>(alloc, store, hash)? {
-        None => Ok(Err(Block::NoParent(at))),
-        Some(form) => Ok(inner_at(form, at)),
+    let there = own_form_into::<H, Sh>(alloc, store, hash, room)?;
+    if there {
+        return Ok(no_inner(room, at));
     }
+    Ok(Some(Block::NoParent(at)))
 }
 
-// The form, which is held at this place, where it is an inner node's, or what stands in the way there.
-fn inner_at(form: Blob, at: NodeId) -> Result<Blob, Block>
-    ensures way { (on : List Hash → way.Spot) → step_of result on ≡ option_map_or on (inner_form form) (way.under_leaf at) }
-    ensures inner { HasInner result }
+// What stands in the way where this form is held at a place: one that is no inner node's does.
+fn no_inner(form: &[u8], at: NodeId) -> Option<Block>
+    ensures way { (on : List Hash → way.Spot)
+        → step_of (way_on result form.now) on ≡ option_map_or on (inner_form form.now) (way.under_leaf at) }
+    ensures inner { HasInner (way_on result form.now) }
 {
-    if is_inner_form(form.bytes()) {
-        Ok(form)
+    if is_inner_form(form) {
+        None
     } else {
-        Err(Block::UnderLeaf(at))
+        Some(Block::UnderLeaf(at))
     }
 }

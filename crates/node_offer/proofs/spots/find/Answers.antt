@@ -20,8 +20,8 @@ below_is nodes kind path (Some header) = refl
 pub returns-in_ok-walk-in-Some-clause-spot : goal.returns-in_ok-walk-in-Some-clause-spot
 returns-in_ok-walk-in-Some-clause-spot g c tells =
     let half = g.H.NodeHash.half in
-    let t = c.root_in.ensures.read.notes tells in
-    let same = same_nodes c.args.store.now c.root_in.new.store (c.root_in.ensures.read.same tells.0) in
+    let t = c.root_into.ensures.read.notes tells in
+    let same = same_nodes c.args.store.now c.root_into.new.store (c.root_into.ensures.read.same tells.0) in
     c.in_ok-walk-in-Some.ensures.spot t
     ∙ ap (λ (n : Nodes). spot_from (own_forms half (map.get n)) [] None c.in-Some.root c.args.id.now) same
     ∙ ap (λ (o : Option Hash). option_map_or
