@@ -65,26 +65,26 @@ pub enum Form {
     Swap,
 }
 
-/// All forms.
+/// All forms, the commonest first: a form is looked for from the front.
 const FORMS: [Form; 20] = [
-    Form::Want,
-    Form::Peer,
-    Form::Base,
-    Form::BaseState,
-    Form::BaseTx,
     Form::Node,
+    Form::Get,
+    Form::Put,
+    Form::Tx,
+    Form::Del,
+    Form::Peer,
+    Form::Page,
+    Form::Want,
     Form::Check,
     Form::Tick,
     Form::View,
     Form::Unview,
-    Form::Get,
-    Form::Page,
     Form::Edit,
-    Form::Put,
-    Form::Del,
-    Form::Tx,
     Form::Close,
     Form::Abandon,
+    Form::Base,
+    Form::BaseState,
+    Form::BaseTx,
     Form::Begin,
     Form::Swap,
 ];
@@ -248,7 +248,7 @@ pub(crate) fn form_of(word: &[u8], count: usize) -> Option<Form>
         (λ f. (word.now ≡ word_in f) × (count ≡ length (arguments_in f))) }
 {
     for form in &FORMS {
-        if form.has_word(word) && form.arguments().len() == count {
+        if form.arguments().len() == count && form.has_word(word) {
             return Some(*form);
         }
     }
