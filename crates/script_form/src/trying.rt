@@ -1,5 +1,5 @@
 //! The causes that a line's text may have, tried one after the other, and what a line is by its first word.
-ghost use Rattle.std.specs.Prelude.{◌≡◌, map, IfOk, MatchBool};
+ghost use Rattle.std.specs.Prelude.{◌≡◌, ◌≢◌, codes, map, IfOk, MatchBool};
 ghost use Rattle.std.specs.List.{list_all};
 ghost use Rattle.std.specs.List.Sorted.{IsNonDecreasing};
 ghost use Rattle.script_form.specs.Words.{words_of as text_words};
@@ -13,7 +13,7 @@ use crate::cause::Cause;
 use crate::forms::{form_of, is_command};
 use crate::limits::{MOST_COMMANDS, MOST_TEXT};
 use crate::line::{call_of, names_no_line};
-use crate::words::{is_text, number};
+use crate::words::number;
 use crate::wrong::has_wrong;
 use half_hash::Memory;
 use std::alloc::Global;
@@ -57,12 +57,19 @@ pub(crate) fn is_skipped(words: &[&[u8]]) -> bool
     }
 }
 
+/// Whether a word is `store`.
+fn is_store_word(word: &[u8]) -> bool
+    ensures { MatchBool result (word.now ≡ codes "store") (word.now ≢ codes "store") }
+{
+    matches!(word, b"store")
+}
+
 /// Whether the words are a record's: the first is `store`.
 pub(crate) fn is_store(words: &[&[u8]]) -> bool
     ensures { result ≡ word_is_store (map (λ w. w.now) words.now) }
 {
     match words {
-        [word, ..] => is_text(word, b"store"),
+        [word, ..] => is_store_word(word),
         [] => false,
     }
 }

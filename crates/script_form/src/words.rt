@@ -1,5 +1,6 @@
 //! The words of a line, and what single words say.
-ghost use Rattle.std.specs.Prelude.{◌≡◌, ◌≢◌, ◌≤◌, ◌<◌, ◌∷◌, ◌^◌, ℕ, List, Ok, length, map, slice_index, IfOk, MatchBool, MatchOption};
+ghost use Rattle.std.specs.Prelude.{◌≡◌, ◌≢◌, ◌≤◌, ◌<◌, ◌∷◌, ◌^◌, ℕ, List, Ok, codes, length, map, slice_index};
+ghost use Rattle.std.specs.Prelude.{IfOk, MatchBool, MatchOption};
 ghost use Rattle.half_hash.specs.Hex.{IsHexOf};
 ghost use Rattle.ledger_spec.specs.declared.Kind.{Kind};
 ghost use Rattle.script_form.specs.Words.{words_of as text_words, IsNumber, IsCount, IsTarget, IsKind, IsBlob, IsData, IsId, IsIdText};
@@ -25,14 +26,30 @@ pub(crate) fn piece_end(bytes: &[u8], separator: u8) -> usize
     }
 }
 
-/// The words of a text: what stands between its spaces.
+/// Where the first space stands, or the end. A word is short mostly, so its first bytes are looked at one by one.
+fn word_end(text: &[u8]) -> usize
+    ensures within { result ≤ length text.now }
+    ensures before { (k : ℕ) → k < result → slice_index text.now k ≢ 32 }
+    ensures at { result < length text.now → slice_index text.now result ≡ 32 }
+{
+    let mut at = 0;
+    while at < 8 && at < text.len() {
+        if text[at] == b' ' {
+            return at;
+        }
+        at += 1;
+    }
+    at + piece_end(text.split_at(at).1, b' ')
+}
+
+/// The words of a text: what stands between its spaces. There is room for those of most lines at once.
 pub fn words_of(alloc: Global, text: &[u8]) -> Result<Vec<&[u8]>, Memory>
     ensures { IfOk result (λ words. map (λ w. w.now) words.items ≡ text_words text.now) }
 {
-    let mut words = Vec::new(alloc);
+    let mut words = Vec::with_capacity(alloc, 8)?;
     let mut rest = text;
     loop {
-        let end = piece_end(rest, b' ');
+        let end = word_end(rest);
         let (word, behind) = rest.split_at(end);
         if !word.is_empty() {
             words.push(word)?;
@@ -49,6 +66,13 @@ pub(crate) fn is_text(word: &[u8], text: &[u8]) -> bool
     ensures { MatchBool result (word.now ≡ text.now) (word.now ≢ text.now) }
 {
     word == text
+}
+
+/// Whether a word is `state`.
+fn is_state(word: &[u8]) -> bool
+    ensures { MatchBool result (word.now ≡ codes "state") (word.now ≢ codes "state") }
+{
+    matches!(word, b"state")
 }
 
 /// The number of 1 to 20 decimal digits that a word is, where it is at most `most`.
@@ -122,7 +146,7 @@ pub(crate) fn id_text(word: &[u8]) -> Option<[u8; 33]>
 pub fn kind_word(word: &[u8]) -> Option<Kind>
     ensures { MatchOption result ((kind : Kind) → IsKind word.now kind → ⊥) (IsKind word.now) }
 {
-    if is_text(word, b"state") {
+    if is_state(word) {
         return Some(Kind::State);
     }
     if is_text(word, b"tx") {

@@ -9,35 +9,35 @@ use Rattle.script_form.proofs.words.words_of.Goals.{then-not-is_empty+in_ok-push
 -- the piece before the next space is a word unless it is empty, and the words of what is behind that space are left
 pub loop-words-preserved : goal.loop-words-preserved
 loop-words-preserved c =
-    let found = c.piece_end-end.ensures in
+    let found = c.word_end-end.ensures in
     let parts = c.split_at.ensures in
-    let lt : c.piece_end-end.result < length c.loop-words.rest.now =
+    let lt : c.word_end-end.result < length c.loop-words.rest.now =
     grind (arith, nat_tests, parts.back_len, c.if-is_empty.false, c.is_empty-in-loop-words.ensures) in
-    let rest : c.split_at-in-loop-words.result.1.now ≡ drop (c.piece_end-end.result + 1) c.loop-words.rest.now =
-    c.split_at-in-loop-words.ensures.back ∙ ap (drop 1) parts.back ∙ drop-drop 1 c.piece_end-end.result c.loop-words.rest.now in
+    let rest : c.split_at-in-loop-words.result.1.now ≡ drop (c.word_end-end.result + 1) c.loop-words.rest.now =
+    c.split_at-in-loop-words.ensures.back ∙ ap (drop 1) parts.back ∙ drop-drop 1 c.word_end-end.result c.loop-words.rest.now in
     elim c.if-not-is_empty.branch [
       | then-not-is_empty+in_ok-push w ↦
           let some : nat_lt 0 (length c.split_at.result.0.now) ≡ true =
           grind (arith, nat_tests, c.is_empty.ensures, w.if-not-is_empty.true) in
           rw (w.words-is, w.in_ok-push.ensures.items, rest)
-          (cuts_word c.args.text.now c.loop-words.words.items c.split_at.result.0 c.loop-words.rest.now c.piece_end-end.result
+          (cuts_word c.args.text.now c.loop-words.words.items c.split_at.result.0 c.loop-words.rest.now c.word_end-end.result
           c.loop-words.invariant lt found.before (found.at lt) parts.front some)
       | else-not-is_empty w ↦
           let none : nat_lt 0 (length c.split_at.result.0.now) ≡ false =
           grind (arith, nat_tests, c.is_empty.ensures, w.if-not-is_empty.false) in
           rw (w.words-is, rest)
-          (cuts_none c.args.text.now c.loop-words.words.items c.split_at.result.0.now c.loop-words.rest.now c.piece_end-end.result
+          (cuts_none c.args.text.now c.loop-words.words.items c.split_at.result.0.now c.loop-words.rest.now c.word_end-end.result
           c.loop-words.invariant lt found.before (found.at lt) parts.front none)
     ]
 
 -- no space is left, so the rest of the text is the last word, or there is none in it
 pub returns-then-is_empty : goal.returns-then-is_empty
 returns-then-is_empty c =
-    let found = c.piece_end-end.ensures in
+    let found = c.word_end-end.ensures in
     let parts = c.split_at.ensures in
-    let le : length c.loop-words.rest.now ≤ c.piece_end-end.result =
+    let le : length c.loop-words.rest.now ≤ c.word_end-end.result =
     grind (arith, nat_tests, parts.back_len, c.if-is_empty.true, c.is_empty-in-loop-words.ensures) in
-    let whole = parts.front ∙ take_all c.piece_end-end.result c.loop-words.rest.now le in
+    let whole = parts.front ∙ take_all c.word_end-end.result c.loop-words.rest.now le in
     elim c.if-not-is_empty.branch [
       | then-not-is_empty+in_ok-push w ↦
           let some : nat_lt 0 (length c.split_at.result.0.now) ≡ true =
