@@ -112,6 +112,23 @@ pub rest_fine : (half : Half) (rest : Bytes) → 5 + length rest ≤ most_bytes
 rest_fine half rest few fine cause.ScriptTooLong has = absurd (omega (arith, few, has))
 rest_fine half rest few fine c has = fine c has
 
+-- the first cause of its words is that of the line, which is within the limit
+pub rest_first : (half : Half) (records : List Record) (words : List Bytes) (rest : Bytes) (c : Cause) → records ≡ []
+    → words ≡ words_of rest → 5 + length rest ≤ most_bytes → IsFirstOf (StoreHas half (earlier_in [] records) words) c → IsFirstOf (RestHas half rest) c
+rest_first half records words rest c none cut few first =
+    let P : List Record → Type 0 = λ rs. IsFirstOf (StoreHas half (earlier_in [] rs) words) c in
+    let Q : List Bytes → Type 0 = λ ws. IsFirstOf (StoreHas half nothing_earlier ws) c in
+    let here : IsFirstOf (StoreHas half nothing_earlier (words_of rest)) c = subst Q cut (subst P none first) in
+    record { has = over c here.has; none_before = λ d less has. here.none_before d less (under d has) }
+  where
+    over : (d : Cause) → StoreHas half nothing_earlier (words_of rest) d → RestHas half rest d
+    over cause.ScriptTooLong has = absurd has
+    over d has = has
+
+    under : (d : Cause) → RestHas half rest d → StoreHas half nothing_earlier (words_of rest) d
+    under cause.ScriptTooLong has = absurd (omega (arith, few, has))
+    under d has = has
+
 -- ---- of a record's line
 abbrev texts : List (Bor Bytes) → List Bytes
 texts words = map (λ w. w.now) words

@@ -6,14 +6,14 @@ ghost use Rattle.ledger_machine.specs.Records.{hashes_of};
 use half_hash::{Hash32, Memory};
 use ledger_machine::Record;
 use std::alloc::Global;
-use std::collections::BTreeSet;
+use std::collections::HashSet;
 use std::marker::Model;
 
 /// Records. Contracts see the list of them.
 #[derive(Drop)]
 pub(crate) struct Records {
     records: Vec<Record>,
-    hashes: BTreeSet<Hash32>,
+    hashes: HashSet<Hash32>,
 }
 
 impl Model for Records {
@@ -36,7 +36,7 @@ impl Records {
     {
         Records {
             records: Vec::new(alloc),
-            hashes: BTreeSet::new(alloc),
+            hashes: HashSet::new(alloc),
         }
     }
 

@@ -1,11 +1,27 @@
-use Rattle.std.proofs.Common.{◌+◌, ◌<◌, ◌≤◌, ℕ, List, length, subst}
+use Rattle.std.proofs.Common.{◌≡◌, ◌+◌, ◌<◌, ◌≤◌, ℕ, List, length, subst, arith}
+use Rattle.std.proofs.lemmas.Bool.Decides.{nat_tests}
 use Rattle.script_form.specs.Records.{earlier_in}
 use Rattle.script_form.specs.Causes.{most_bytes, most_pages, LineHas, IsFirstOf}
 use Rattle.script_form.specs.Judging.{IsFineLine, IsSaid, pages_with}
-use Rattle.script_form.proofs.Scripts.{reads_skip, reads_record, reads_line, refused_text, refused_size, refused_named}
+use Rattle.script_form.proofs.Scripts.{reads_start, reads_skip, reads_record, reads_line, reads_end}
+use Rattle.script_form.proofs.Scripts.{refused_text, refused_size, refused_named}
 use Rattle.script_form.proofs.script.read_lines.Goals as goal
 use Rattle.script_form.proofs.script.read_lines.Goals.{in-Nothing, in-Record+in_ok-push-in-Record}
 use Rattle.script_form.proofs.script.read_lines.Goals.{in-Line+in_ok-push-in-Line+in_ok-push-in-Line-2}
+
+-- nothing is read yet
+pub loop-rest-init : goal.loop-rest-init
+loop-rest-init g c =
+    rw (c.new-records.ensures, c.new-lines.ensures.items, c.new-earlier.ensures.items) (reads_start g.H.NodeHash.half c.args.bytes.now)
+
+-- all is read
+pub returns-clause-script : goal.returns-clause-script
+returns-clause-script g c =
+    let now = c.loop-rest in
+    let none : length now.rest.now ≡ 0 = grind (arith, nat_tests, c.is_empty.ensures, c.loop-rest-test.ensures, c.loop-rest-test.false) in
+    rw c.into_records.ensures
+    (reads_end g.H.NodeHash.half c.args.bytes.now now.records now.lines.items now.earlier.items now.n now.rest.now now.pages now.invariant
+    none)
 
 -- the line is fine behind those before it, and what it says is nothing, or is added as a record or a command line
 pub loop-rest-preserved : goal.loop-rest-preserved

@@ -1,4 +1,4 @@
-use Rattle.std.proofs.Common.{◌≡◌, ◌∙◌, ◌+◌, ◌<◌, [], ◌∷◌, ◌++◌, sym, ap, subst, List, length, take, arith, true, IsSome, length-append}
+use Rattle.std.proofs.Common.{◌≡◌, ◌∙◌, [], ◌∷◌, ◌++◌, sym, ap, subst, List, length, take, arith, true, IsSome, length-append}
 use Rattle.std.proofs.Common.{Option, None, Some, Result, Ok, Err, OnErr}
 use Rattle.std.specs.Option.{option_to_list}
 use Rattle.std.specs.Result.{is_err}
@@ -8,7 +8,7 @@ use Rattle.ledger_spec.specs.Bytes.{Hash}
 use Rattle.ledger_machine.specs.declared.commands.Record.{Record}
 use Rattle.ledger_machine.specs.Records.{hashes_of}
 use Rattle.script_form.specs.Finding.{Finds}
-use Rattle.script_form.proofs.Finding.{at_ok, one_more}
+use Rattle.script_form.proofs.Finding.{at_ok, one_more, finds_same}
 use Rattle.script_form.proofs.records.Records.push.Goals as goal
 
 -- the hash went into the set as the record went into the list, so the set still tells the records' hashes
@@ -44,4 +44,4 @@ invariant_of-self-then-is_err c =
     left_again c.self.inside.records.items c.push.new.self.items c.pop.new.self.items c.args.one c.pop.result
     c.in_ok-push.ensures.items c.pop.ensures.items (c.pop.ensures.variant.1 (omega (arith, c.in_ok-push.ensures.len))) in
     subst (λ (rs : List Record). Finds c.insert.new.self (hashes_of rs)) (sym same)
-    (subst (λ (ks : List Hash). Finds (record { keys = ks }) (hashes_of c.self.inside.records.items)) (sym kept) c.self.invariant)
+    (finds_same c.self.inside.hashes c.insert.new.self (hashes_of c.self.inside.records.items) kept c.self.invariant)
