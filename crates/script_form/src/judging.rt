@@ -13,7 +13,7 @@ use crate::line::line_of;
 use crate::records::Records;
 use crate::store_line::stored;
 use crate::trying::{first_cause, is_printable, is_skipped, is_store};
-use crate::words::words_of;
+use crate::words::put_words;
 use half_hash::{Memory, NodeHash};
 use ledger_machine::{Command, Line, Record};
 use std::alloc::Global;
@@ -45,11 +45,12 @@ pub(crate) fn pages_with(pages: usize, content: &Content) -> usize
 }
 
 /// What the text of line `n` says, or the first cause for which it is refused; command lines of these
-/// numbers stand before it, and these records.
-pub(crate) fn judge<H: NodeHash>(
+/// numbers stand before it, and these records. Its words are put into the list.
+pub(crate) fn judge<'a, H: NodeHash>(
     alloc: Global,
     n: u32,
-    text: &[u8],
+    text: &'a [u8],
+    words: &mut Vec<&'a [u8]>,
     earlier: &[u32],
     records: &Records,
 ) -> Result<Content, TextFault>
@@ -58,11 +59,11 @@ pub(crate) fn judge<H: NodeHash>(
     ensures fine { IfOk result (λ _. IsFineLine H.half (earlier_in earlier.now records.now) text.now) }
     ensures cause { IfErr result (IsFirstCause (LineHas H.half (earlier_in earlier.now records.now) text.now)) }
 {
-    let words = words_of(alloc, text)?;
-    if is_store(&words) {
-        judge_record::<H>(alloc, text, &words, earlier, records)
+    put_words(words, text)?;
+    if is_store(words) {
+        judge_record::<H>(alloc, text, words, earlier, records)
     } else {
-        judge_command(alloc, n, text, &words, earlier)
+        judge_command(alloc, n, text, words, earlier)
     }
 }
 

@@ -62,6 +62,7 @@ fn read_lines<H: NodeHash>(alloc: Global, bytes: &[u8]) -> Result<Script, Script
     let mut records = Records::new(alloc);
     let mut lines = Vec::new(alloc);
     let mut earlier: Vec<u32> = Vec::new(alloc);
+    let mut words: Vec<&[u8]> = Vec::new(alloc);
     let mut rest = bytes;
     let mut n: u32 = 1;
     let mut pages = 0;
@@ -70,7 +71,7 @@ fn read_lines<H: NodeHash>(alloc: Global, bytes: &[u8]) -> Result<Script, Script
         if bytes.len() - rest.len() + size > MOST_BYTES {
             return Err(refused(n, Cause::ScriptTooLong));
         }
-        let content = match judge::<H>(alloc, n, text, &earlier, &records) {
+        let content = match judge::<H>(alloc, n, text, &mut words, &earlier, &records) {
             Ok(content) => content,
             Err(TextFault::Cause(cause)) => return Err(refused(n, cause)),
             Err(TextFault::Memory) => return Err(ScriptFault::Memory),

@@ -1,6 +1,6 @@
 //! The words of a line, and what single words say.
 ghost use Rattle.std.specs.Prelude.{◌≡◌, ◌≢◌, ◌≤◌, ◌<◌, ◌∷◌, ◌^◌, ℕ, List, Ok, codes, length, map, slice_index};
-ghost use Rattle.std.specs.Prelude.{IfOk, MatchBool, MatchOption};
+ghost use Rattle.std.specs.Prelude.{IfOk, OnOk, MatchBool, MatchOption};
 ghost use Rattle.half_hash.specs.Hex.{IsHexOf};
 ghost use Rattle.ledger_spec.specs.declared.Kind.{Kind};
 ghost use Rattle.script_form.specs.Words.{words_of as text_words, IsNumber, IsCount, IsTarget, IsKind, IsBlob, IsData, IsId, IsIdText};
@@ -47,6 +47,15 @@ pub fn words_of(alloc: Global, text: &[u8]) -> Result<Vec<&[u8]>, Memory>
     ensures { IfOk result (λ words. map (λ w. w.now) words.items ≡ text_words text.now) }
 {
     let mut words = Vec::with_capacity(alloc, 8)?;
+    put_words(&mut words, text)?;
+    Ok(words)
+}
+
+/// The same, in the place of the words that a list held, whose room serves again.
+pub(crate) fn put_words<'a>(words: &mut Vec<&'a [u8]>, text: &'a [u8]) -> Result<(), Memory>
+    ensures { OnOk result (map (λ w. w.now) words.new.items ≡ text_words text.now) }
+{
+    words.clear();
     let mut rest = text;
     loop {
         let end = word_end(rest);
@@ -55,7 +64,7 @@ pub fn words_of(alloc: Global, text: &[u8]) -> Result<Vec<&[u8]>, Memory>
             words.push(word)?;
         }
         if behind.is_empty() {
-            return Ok(words);
+            return Ok(());
         }
         rest = behind.split_at(1).1;
     }

@@ -3,8 +3,8 @@ use Rattle.std.proofs.lemmas.List.{drop-drop, take_all}
 use Rattle.std.proofs.lemmas.Bool.Decides.{nat_tests}
 use Rattle.std.specs.Prelude.{nat_lt, true, false}
 use Rattle.script_form.proofs.Cuts.{cuts_word, cuts_none, cuts_end, cuts_over}
-use Rattle.script_form.proofs.words.words_of.Goals as goal
-use Rattle.script_form.proofs.words.words_of.Goals.{then-not-is_empty+in_ok-push, else-not-is_empty}
+use Rattle.script_form.proofs.words.put_words.Goals as goal
+use Rattle.script_form.proofs.words.put_words.Goals.{then-not-is_empty+in_ok-push, else-not-is_empty}
 
 -- the piece before the next space is a word unless it is empty, and the words of what is behind that space are left
 pub loop-words-preserved : goal.loop-words-preserved
