@@ -43,7 +43,8 @@ impl Search {
         Ok(put_back(&mut self.stack, &mut self.missing)?)
     }
 
-    /// Goes on as far as so many places, and then as many more, and answers whether there is nothing more to look at.
+    /// Goes on as far as so many places, and then as many more, and answers whether there is nothing more to look at. The forms that it
+    /// looks at are written into a room, one after the other.
     pub(crate) fn run_both<H: NodeHash, Sh: Shelf>(
         &mut self,
         alloc: Global,
@@ -52,6 +53,7 @@ impl Search {
         marks: &mut Marks,
         first: usize,
         more: usize,
+        room: &mut Vec<u8>,
     ) -> Result<bool, BackFault>
         ensures passes { IsIdle self.old marks.old → length self.old.stack.items ≤ more
             → AnswersTrue result × (store.new.gets ≡ store.old.gets) }
@@ -61,11 +63,11 @@ impl Search {
         ensures leaves { LeavesUsed Sh.B.tells H.half BackFault.Fault (store.old.gets + 2 * (first + more))
             store.old store.new cache.old cache.new marks.old marks.new result }
     {
-        let over = self.run::<H, Sh>(alloc, store, cache, marks, first)?;
+        let over = self.run::<H, Sh>(alloc, store, cache, marks, first, room)?;
         if over {
             return Ok(over);
         }
-        self.run::<H, Sh>(alloc, store, cache, marks, more)
+        self.run::<H, Sh>(alloc, store, cache, marks, more, room)
     }
 
     /// Whether there is nothing to look at.
@@ -83,6 +85,7 @@ impl Search {
         cache: &mut TreeCache,
         marks: &mut Marks,
         most: usize,
+        room: &mut Vec<u8>,
     ) -> Result<bool, BackFault>
         ensures passes { IsIdle self.old marks.old → IsOk result × PassesSome self.old self.new marks.new store.old.gets store.new.gets }
         ensures all { IsIdle self.old marks.old → length self.old.stack.items ≤ most → AnswersTrue result }
@@ -96,7 +99,7 @@ impl Search {
             if self.is_over() {
                 return Ok(true);
             }
-            self.turn::<H, Sh>(alloc, store, cache, marks)?;
+            self.turn::<H, Sh>(alloc, store, cache, marks, room)?;
         }
         Ok(self.is_over())
     }
@@ -108,6 +111,7 @@ impl Search {
         store: &mut RotStore<Sh>,
         cache: &mut TreeCache,
         marks: &mut Marks,
+        room: &mut Vec<u8>,
     ) -> Result<(), BackFault>
         requires { has_ended self.old ≡ false }
         ensures passes { IsIdle self.old marks.old
@@ -123,7 +127,7 @@ impl Search {
             return Ok(());
         };
         let place = top.place();
-        let view = see::<H, Sh>(alloc, store, cache, marks, top)?;
+        let view = see::<H, Sh>(alloc, store, cache, marks, top, room)?;
         Ok(self.heed(view, place)?)
     }
 

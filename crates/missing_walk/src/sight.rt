@@ -21,7 +21,7 @@ use ledger_header::Header;
 use ledger_spec::{Kind, ShapeFault};
 use nib_path::NodeId;
 use node_backend::{BackFault, Shelf};
-use rotating_store::{RotStore, own_form};
+use rotating_store::{RotStore, own_form_into};
 use shamap_node::{Inner, Item, Leaf, Node, inner_of, leaf_head, shape};
 use std::alloc::Global;
 use std::sync::Arc;
@@ -37,7 +37,7 @@ pub(crate) enum View {
 }
 
 /// What is seen at a place below this parent, in a map of this kind, at this path. Where it is an inner node that belongs there, that
-/// takes the memory of one node.
+/// takes the memory of one node. A form that is held there is written into a room.
 pub(crate) fn look<H: NodeHash, Sh: Shelf>(
     alloc: Global,
     store: &mut RotStore<Sh>,
@@ -45,16 +45,17 @@ pub(crate) fn look<H: NodeHash, Sh: Shelf>(
     parent: Option<&Inner>,
     id: &NodeId,
     hash: &Hash32,
+    room: &mut Vec<u8>,
 ) -> Result<View, BackFault>
     ensures sight { IsReadable Sh.B.tells H.half store.old → IfOk result (λ v. ShowsAs v (sight_of H.half
         (λ n. fault_of n (hashes_above parent.entry) kind id.now) (own_forms H.half (map.get (nodes_of store.old)) hash.now))) }
     ensures levels { IfOk result (HasLevels (length id.now)) }
     ensures asks { Asks Sh.B.tells H.half BackFault.Fault (store.old.gets + 2) store.old store.new result }
 {
-    match own_form::<H, Sh>(alloc, store, hash)? {
-        Some(form) => Ok(judge::<H>(alloc, form.bytes(), kind, parent, id)?),
-        None => Ok(View::Missing),
+    if own_form_into::<H, Sh>(alloc, store, hash, room)? {
+        return Ok(judge::<H>(alloc, room, kind, parent, id)?);
     }
+    Ok(View::Missing)
 }
 
 // What is seen where this form is stored. A leaf takes no memory: the allocator is that of its empty data.

@@ -1,8 +1,9 @@
 //! The search of a ledger in slices. Between two of them the store may grow, while the generation stands; where that has turned, the
 //! search starts anew.
 ghost use Rattle.std.specs.Prelude.{◌≡◌, ◌+◌, ◌*◌, ◌<◌, ◌≤◌, true, None, IfOk, is_some};
-ghost use Rattle.ledger_spec.specs.Bytes.{Lookup};
-ghost use Rattle.missing_walk.specs.Views.{Tells};
+ghost use Rattle.ledger_spec.specs.Bytes.{Half, Lookup};
+ghost use Rattle.missing_walk.specs.Pending.{IsCachedTrue};
+ghost use Rattle.missing_walk.specs.Views.{KeepsCache, Tells};
 ghost use Rattle.missing_walk.specs.Searching.{Rule, Holding, stale_in};
 ghost use Rattle.missing_walk.specs.Searching.{Renews};
 ghost use Rattle.missing_walk.specs.Passes.{IsReady, IsDone, HasMarkedRoots};
@@ -11,8 +12,8 @@ ghost use Rattle.missing_walk.specs.Leaving.{LeavesUsed};
 ghost use Rattle.missing_walk.specs.Runs.{StaysWhole};
 ghost use Rattle.missing_walk.specs.Answering.{Answers, KeepsRule, KeepsHolding, EntersFrom, StaysUnbroken};
 
-use crate::SearchFault;
 use crate::search::{MOST_MISSING, Search, Slice};
+use crate::{Found, SearchFault};
 use full_below::Marks;
 use half_hash::NodeHash;
 use node_backend::{BackFault, Shelf};
@@ -122,10 +123,23 @@ impl Search {
     {
         let again = self.missing.len().min(MOST_MISSING);
         self.take_up()?;
-        let over = self.run_both::<H, Sh>(alloc, store, cache, marks, again, n)?;
+        let mut room = Vec::new(alloc);
+        let over = self.run_both::<H, Sh>(alloc, store, cache, marks, again, n, &mut room)?;
         if !over {
             return Ok(Slice::More);
         }
-        Ok(Slice::Done(self.finish(alloc, marks)?))
+        let found = self.finish(alloc, marks)?;
+        let_go(cache, &found);
+        Ok(Slice::Done(found))
+    }
+}
+
+// Of a ledger that was found whole each inner node is marked, so that none is looked at again: what is cached goes.
+fn let_go(cache: &mut TreeCache, found: &Found)
+    ensures stays { (half : Half) (nodes : Lookup) → KeepsCache (IsCachedTrue half nodes) cache.old cache.new }
+    ensures generation { cache.new.generation ≡ cache.old.generation }
+{
+    if found.missing.is_empty() && found.broken.is_none() {
+        cache.clear();
     }
 }

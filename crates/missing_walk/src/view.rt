@@ -21,13 +21,14 @@ use std::alloc::Global;
 use std::sync::Arc;
 use tree_cache::TreeCache;
 
-/// What is seen at a place. It asks each backend at most once.
+/// What is seen at a place. It asks each backend at most once; a form that is held there is written into a room.
 pub(crate) fn see<H: NodeHash, Sh: Shelf>(
     alloc: Global,
     store: &mut RotStore<Sh>,
     cache: &mut TreeCache,
     marks: &mut Marks,
     todo: &Todo,
+    room: &mut Vec<u8>,
 ) -> Result<View, BackFault>
     ensures seen { SeesAt Sh.B.tells H.half store.old cache.old marks.old todo.now result }
     ensures cached { KeepsCached Sh.B.tells H.half store.old cache.old cache.new }
@@ -45,7 +46,7 @@ pub(crate) fn see<H: NodeHash, Sh: Shelf>(
     }
     match cached(cache, &todo.at.hash)? {
         Some(node) => Ok(judge_node(node, todo.at.kind, inner_above(&todo.parent), &todo.at.id)),
-        None => Ok(fetch::<H, Sh>(alloc, store, cache, todo)?),
+        None => Ok(fetch::<H, Sh>(alloc, store, cache, todo, room)?),
     }
 }
 
@@ -88,6 +89,7 @@ fn fetch<H: NodeHash, Sh: Shelf>(
     store: &mut RotStore<Sh>,
     cache: &mut TreeCache,
     todo: &Todo,
+    room: &mut Vec<u8>,
 ) -> Result<View, BackFault>
     ensures shows { (nodes : Lookup) → Tells Sh.B.tells H.half store.old nodes → IfOk result (λ v. ShowsAs v
         (at_place H.half nodes todo.now.at.kind (above todo.now.parent) todo.now.at.id todo.now.at.hash)) }
@@ -103,6 +105,7 @@ fn fetch<H: NodeHash, Sh: Shelf>(
         parent,
         &todo.at.id,
         &todo.at.hash,
+        room,
     )? {
         View::Below(node) => Ok(View::Below(keep(cache, &todo.at.hash, node)?)),
         other => Ok(other),

@@ -93,13 +93,21 @@ impl TreeCache {
         self.generation
     }
 
+    /// The cache is empty, in the same generation. It takes no memory.
+    pub fn clear(&mut self)
+        ensures generation { self.new.generation ≡ self.old.generation }
+        ensures empty { self.new.entries ≡ lru_cache [] self.old.entries.cap }
+    {
+        self.entries.clear();
+    }
+
     /// The next generation begins, and the cache is empty. It takes no memory.
     pub fn turn(&mut self)
         requires { self.old.generation + 1 < 2 ^ 64 }
         ensures generation { self.new.generation ≡ self.old.generation + 1 }
         ensures empty { self.new.entries ≡ lru_cache [] self.old.entries.cap }
     {
-        self.entries.clear();
+        self.clear();
         self.generation += 1;
     }
 }

@@ -12,8 +12,8 @@ use Rattle.missing_walk.proofs.Weights.{stored_again, noted_again}
 use Rattle.missing_walk.proofs.Loads.{fewer_left}
 use Rattle.missing_walk.proofs.search.Search.explore.Goals as goal
 
-pub returns-in_err-finish-clause-holds : goal.returns-in_err-finish-clause-holds
-returns-in_err-finish-clause-holds g c =
+pub returns-in_err-found-clause-holds : goal.returns-in_err-found-clause-holds
+returns-in_err-found-clause-holds g c =
     record {
       holding = λ nodes t h. let half = g.H.NodeHash.half in
           let going = c.run_both.ensures.lighter.going nodes t
@@ -37,9 +37,9 @@ returns-clause-answers g c =
           (going_from half nodes c.take_up.new.self c.args.cache.now c.args.marks.now
           (c.take_up.ensures.kept half nodes (h.search c.requires))
           c.in_ok-take_up.ensures.none c.take_up.ensures.stays.unbroken h.marks h.cache) in
-          subst (λ (target : Hash). Finds half nodes target c.in_ok-finish.field-0)
+          subst (λ (target : Hash). Finds half nodes target c.in_ok-found.found)
           (c.run_both.ensures.runs.same.target ∙ c.take_up.ensures.stays.same.target)
-          (c.in_ok-finish.ensures.found.found half nodes c.run_both.new.cache going);
+          (c.in_ok-found.ensures.found.found half nodes c.run_both.new.cache going);
       known = search rules;
       roots = search rules;
       more = search rules;
@@ -57,7 +57,7 @@ returns-clause-holds g c =
           c.in_ok-take_up.ensures.none c.take_up.ensures.stays.unbroken h.marks h.cache) in
           record {
             marks = c.finish.ensures.going.marks half nodes c.run_both.new.cache going;
-            cache = going.cache;
+            cache = (c.let_go.ensures.stays half nodes).entries going.cache;
             search = λ there. c.finish.ensures.going.kept half nodes c.run_both.new.cache going;
           };
       fresh = search rules;
@@ -70,12 +70,12 @@ returns-clause-passes g c ready two =
     let idle = idle_from c.args.self.now c.take_up.new.self c.args.marks.now ready put c.take_up.ensures.stays.unbroken in
     (tt, (c.run_both.ensures.passes idle.0 (omega (arith, idle.1, two))).1)
 
-pub returns-in_err-finish-clause-passes : goal.returns-in_err-finish-clause-passes
-returns-in_err-finish-clause-passes g c ready two =
+pub returns-in_err-found-clause-passes : goal.returns-in_err-found-clause-passes
+returns-in_err-found-clause-passes g c ready two =
     let put = (c.in_ok-take_up.ensures.idle ready.missing).1 in
     let idle = idle_from c.args.self.now c.take_up.new.self c.args.marks.now ready put c.take_up.ensures.stays.unbroken in
-    let exit = err_from_is_err_and c.from_residual-in_err-finish.result c.from_residual-in_err-finish.ensures.1 in
-    (none_done c.from_residual-in_err-finish.result exit.0 exit.1, (c.run_both.ensures.passes idle.0 (omega (arith, idle.1, two))).1)
+    let exit = err_from_is_err_and c.from_residual-in_err-found.result c.from_residual-in_err-found.ensures.1 in
+    (none_done c.from_residual-in_err-found.result exit.0 exit.1, (c.run_both.ensures.passes idle.0 (omega (arith, idle.1, two))).1)
 
 -- as many places as were noted were looked at again, and then n
 pub returns-then-not-over-clause-answers : goal.returns-then-not-over-clause-answers
