@@ -82,8 +82,7 @@ Searches-send =
 module _ (Sh B : RattleType) (s : shelves.Ghosts Sh.Denot B.Denot) (b : backends.Ghosts B.Denot) where
   RotStore-send : IsSend Sh → IsSend B → IsSend (RotStore.the_row Sh B s b)
   RotStore-send y q =
-      let all : AllSend (fields (RotStoreIn.the_type Sh B s b)) =
-      (
+      let all : AllSend (fields (RotStoreIn.the_type Sh B s b)) = (
         y,
         (
           q,

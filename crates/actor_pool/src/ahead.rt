@@ -8,7 +8,7 @@ use std::alloc::Global;
 use store_core::ReadJob;
 
 /// How many lines behind a read are looked at, those of other actors among them.
-const AHEAD: usize = 64;
+const AHEAD: usize = 128;
 
 /// How many lines behind a read are looked at for one of the actor's that is none.
 const SIGHT: usize = 1024;

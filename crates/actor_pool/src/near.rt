@@ -5,64 +5,93 @@ ghost use Rattle.ledger_spec.specs.Forms.{hash_of};
 ghost use Rattle.shamap_node.specs.Nodes.{held};
 
 use half_hash::{Hash32, NodeHash};
-use read_cache::{ReadCache, Shard};
 use shamap_node::Node;
 use std::alloc::Global;
+use std::collections::HashMap;
+use std::marker::PhantomData;
 use std::sync::Arc;
 
-/// How many levels are kept, of at most 1, 16 and 256 nodes.
-const LEVELS: u8 = 3;
+/// How many levels are kept, of at most 1, 16, 256 and 4,096 nodes.
+const LEVELS: u8 = 4;
 
-/// A shard round which no lock is, made as the first node is kept.
+/// How many nodes are kept before all go: as many as the cache of all readers has.
+const MOST: usize = 8192;
+
+/// A node with its hash.
+#[derive(Drop)]
+struct Copied<H: NodeHash> {
+    hash: Hash32,
+    node: Arc<Node>,
+    of: PhantomData<H>,
+    ghost own: { hash_of H.half (held node.value) ≡ hash },
+}
+
+/// Copies of nodes under their hashes, round which no lock is.
 #[derive(Drop)]
 pub(crate) struct Near<H: NodeHash> {
-    shard: Option<Shard<H>>,
+    levels: u8,
+    copies: HashMap<Hash32, Copied<H>>,
 }
 
 impl<H: NodeHash> Near<H> {
-    /// Without nodes.
-    pub(crate) fn new() -> Near<H> {
-        Near { shard: None }
+    /// Without nodes, for a reader beside others.
+    pub(crate) fn new(alloc: Global) -> Near<H> {
+        Near {
+            levels: LEVELS,
+            copies: HashMap::new(alloc),
+        }
+    }
+
+    /// For a reader that is alone: it finds in the cache of all readers what it would keep here, and keeps nothing.
+    pub(crate) fn alone(alloc: Global) -> Near<H> {
+        Near {
+            levels: 0,
+            copies: HashMap::new(alloc),
+        }
     }
 
     /// The copy that is kept of the node with this hash, which stands at this depth; want of memory is passed over.
-    pub(crate) fn find(&mut self, depth: u8, h: &Hash32) -> Option<Arc<Node>>
+    pub(crate) fn find(&self, depth: u8, h: &Hash32) -> Option<Arc<Node>>
         ensures { IfSome result (λ a. hash_of H.half (held a.value) ≡ h.now) }
     {
-        if depth >= LEVELS {
+        if depth >= self.levels {
             return None;
         }
-        match self.shard.as_mut()?.find(h) {
-            Ok(found) => found,
-            Err(_) => None,
-        }
+        self.copies.get(h)?.node_of(h)
     }
 
     /// Keeps a copy of an inner node with this hash, which stands at this depth; want of memory is passed over.
-    pub(crate) fn keep(
-        &mut self,
-        cache: &ReadCache<H>,
-        alloc: Global,
-        depth: u8,
-        h: &Hash32,
-        node: &Node,
-    )
+    pub(crate) fn keep(&mut self, alloc: Global, depth: u8, h: &Hash32, node: &Node)
         requires { hash_of H.half (held node.now) ≡ h.now }
     {
-        if depth >= LEVELS {
+        if depth >= self.levels {
             return;
         }
         let Node::Inner(inner) = node else {
             return;
         };
-        if self.shard.is_none() {
-            self.shard = cache.shard(alloc).ok();
+        if self.copies.len() >= MOST {
+            self.copies.clear();
         }
-        let Some(shard) = &mut self.shard else {
-            return;
-        };
         if let Ok(own) = Arc::new(alloc, Node::Inner(*inner)) {
-            let _ = shard.keep_hashed(h, own);
+            let copied = Copied {
+                hash: *h,
+                node: own,
+                of: PhantomData,
+            };
+            let _ = self.copies.insert(*h, copied);
         }
+    }
+}
+
+impl<H: NodeHash> Copied<H> {
+    // The node, where this is its hash; want of memory is passed over.
+    fn node_of(&self, h: &Hash32) -> Option<Arc<Node>>
+        ensures { IfSome result (λ a. hash_of H.half (held a.value) ≡ h.now) }
+    {
+        if !self.hash.equals(h) {
+            return None;
+        }
+        Arc::try_clone(&self.node).ok()
     }
 }

@@ -141,7 +141,7 @@ fn next_reader<R: Wait, H: NodeHash, Sh: Shelf, G: Gate, J: Pinned>(
     cache: &ReadCache<H>,
     gate: &G,
 ) -> Option<u8> {
-    let mut near = Near::new();
+    let mut near = Near::alone(alloc);
     let stride = stride_of(gate);
     for _ in 0..SECTIONS {
         match serve_locked(rt, alloc, shared, LINES) {

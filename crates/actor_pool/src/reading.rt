@@ -172,7 +172,7 @@ fn kept<R: Wait, H: NodeHash, Sh: Shelf, G: Gate, J: Pinned>(
         Ok(found) => found?,
         Err(_) => return None,
     };
-    near.keep(worker.cache, worker.alloc, depth, h, &node);
+    near.keep(worker.alloc, depth, h, &node);
     Some(node)
 }
 
@@ -196,7 +196,7 @@ fn node_of<R: Wait, H: NodeHash, Sh: Shelf, G: Gate, J: Pinned>(
     let Some(node) = node else {
         return Ok(None);
     };
-    near.keep(worker.cache, worker.alloc, depth, h, &node);
+    near.keep(worker.alloc, depth, h, &node);
     keep(worker, h, &node);
     Ok(Some(node))
 }

@@ -18,7 +18,7 @@ use store_core::{Core, Followed, ReadJob, Stepped};
 pub(crate) const ACTORS: u8 = 64;
 
 /// For how many reads an actor goes down before it hands in what it got, where no gate is passed between them.
-pub(crate) const READS: usize = 32;
+pub(crate) const READS: usize = 64;
 
 /// Which run it is: the script, the interval, the count of faults at opening and what was missed. Each
 /// call picks it.
@@ -230,6 +230,7 @@ impl<H: NodeHash, Sh: Shelf, J: Pinned> Shared<H, Sh, J> {
         lacks: &[Lack],
     ) -> Vec<Given<H, Sh>> {
         let mut given = Vec::new(alloc);
+        let _ = given.reserve(lacks.len());
         for lack in lacks {
             self.path_below(alloc, actor, lack, &mut given);
         }

@@ -34,7 +34,7 @@ pub(crate) fn work<R: Wait, H: NodeHash, Sh: Shelf, G: Gate, J: Pinned>(
     actor: u8,
     lines: usize,
 ) {
-    let mut near = Near::new();
+    let mut near = Near::new(alloc);
     let worker = Worker {
         rt,
         alloc,

@@ -31,11 +31,6 @@ impl<H: NodeHash> ReadCache<H> {
         Ok(ReadCache { hash, shards })
     }
 
-    /// A shard for one reader alone, without entries, which no lock is round.
-    pub fn shard(&self, alloc: Global) -> Result<Shard<H>, Memory> {
-        Shard::new(alloc, self.hash)
-    }
-
     /// The node that is kept under a hash, if there is one. It waits for a lock.
     pub fn get<R: Wait>(&self, rt: &R, h: &Hash32) -> Result<Option<Arc<Node>>, Memory>
         ensures { IfOk result (λ o. IfSome o (λ a. form_hash H.half (held a.value) ≡ h.now)) }
