@@ -16,7 +16,6 @@ use Rattle.cow_map.specs.Bodies.{Body, IsBelow}
 use Rattle.cow_map.specs.Trees.{Found, none, one, fork, lacks, breaks, found_at}
 use Rattle.cow_map.specs.Ways.{Stop, absent, misfit, Goes, is_only, lone_or, stop_at, stop_here, stop_left}
 use Rattle.cow_map.specs.Ways.{is_leaf_of, beside_at, removal_stop_at, IsFailure}
-use Rattle.cow_map.specs.declared.link.Only.TheVariants as only
 use Rattle.cow_map.specs.Edits.{Leaves}
 use Rattle.cow_map.proofs.Counting.{only_one}
 use Rattle.cow_map.proofs.shared.Planting.{below_set, one_lower}

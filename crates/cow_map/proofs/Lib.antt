@@ -30,3 +30,4 @@ pub mod Taking
 pub mod Shifting
 pub mod Needing
 pub mod Wholes
+mod Places

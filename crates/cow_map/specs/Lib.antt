@@ -10,3 +10,5 @@ pub mod Sealing
 pub mod Unloaded
 pub mod Gathered
 pub mod Taking
+pub mod Tables
+pub mod Places

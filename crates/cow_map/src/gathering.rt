@@ -48,12 +48,12 @@ impl CowMap {
             (half : Half) (stored : Lookup) → StandsFor half stored m (flat_map kids branches)) }
     {
         let mut nodes = Arena::new(alloc);
-        let mut links = Links::none(alloc)?;
+        let mut links = Links::none();
         for b in 0..16u8 {
             nodes.known();
             links.known();
             let link = parts[b as usize].append_to(alloc, b, &mut nodes)?;
-            links = links.with(b, link);
+            links = links.with(alloc, b, link)?;
         }
         let top = top_over(alloc, kind, &mut nodes, links)?;
         Ok(CowMap { kind, nodes, top })

@@ -16,6 +16,7 @@ mod remove;
 mod seal;
 mod sorted;
 mod step;
+mod table;
 
 pub use fault::MapFault;
 pub use laws::{

@@ -15,6 +15,7 @@ ghost use Rattle.cow_map.specs.Ways.{lone_or, IsSourceFault};
 ghost use Rattle.cow_map.specs.Looks.{SeenAs, Stops, Looks, IsPlaced};
 
 use crate::arena::Arena;
+use crate::table::Table;
 use crate::{Cow, Link, Links, MapFault};
 use half_hash::{Blob, Hash32, Memory, NodeHash};
 use ledger_spec::{Kind, ShapeFault};
@@ -111,7 +112,7 @@ fn own(alloc: Global, arena: &Arena, at: usize, id: &NodeId) -> Result<Seen, Map
                     rule: ShapeFault::InnerAtBottom,
                 });
             }
-            Ok(Seen::Inner(links.copy(alloc)?))
+            Ok(Seen::Inner(links.copy()?))
         }
     }
 }
@@ -170,14 +171,17 @@ fn load<H: NodeHash, S: NodeSource<H>>(
 }
 
 // What a node of the source is.
-fn of_node(alloc: Global, node: &Node) -> Result<Seen, Memory>
-    ensures { IfOk result (SeenAs (found_held (held node.now))) }
+fn of_node(alloc: Global, node: &Arc<Node>) -> Result<Seen, Memory>
+    ensures { IfOk result (SeenAs (found_held (held node.now.value))) }
 {
-    match node {
+    match &**node {
         Node::Leaf(leaf) => {
             let data = Blob::from_slice(alloc, leaf.item.data())?;
             Ok(Seen::Leaf(*leaf.item.key(), data))
         }
-        Node::Inner(inner) => Ok(Seen::Inner(Links::of_inner(alloc, inner)?)),
+        Node::Inner(inner) => {
+            let table = Table::of_node(Arc::try_clone(node)?);
+            Ok(Seen::Inner(Links::of_inner(inner, table)))
+        }
     }
 }

@@ -111,7 +111,8 @@ fn put_at<H: NodeHash, S: NodeSource<H>>(
                 item,
             )?;
             arena.known();
-            Ok(arena.push_inner(alloc, links.with(b, next))?)
+            let links = links.with(alloc, b, next)?;
+            Ok(arena.push_inner(alloc, links)?)
         }
     }
 }
@@ -198,7 +199,7 @@ fn above(alloc: Global, arena: &mut Arena, id: &NodeId, b: u8, next: &Link) -> R
         StandsAt half stored kind arena.new (64 - length id.now) id.now link items) }
 {
     arena.known();
-    let links = Links::none(alloc)?.with(b, *next);
+    let links = Links::none().with(alloc, b, *next)?;
     arena.push_inner(alloc, links)
 }
 
@@ -223,6 +224,6 @@ fn fork(
 {
     arena.known();
     let leaf = arena.push_leaf(alloc, item)?;
-    let links = Links::none(alloc)?.with(a, *old).with(b, leaf);
+    let links = Links::none().with(alloc, a, *old)?.with(alloc, b, leaf)?;
     arena.push_inner(alloc, links)
 }

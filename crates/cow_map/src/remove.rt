@@ -119,7 +119,7 @@ fn remove_at<H: NodeHash, S: NodeSource<H>>(
             match next {
                 None => Ok(None),
                 Some(next) => {
-                    let links = links.with(b, next);
+                    let links = links.with(alloc, b, next)?;
                     let left = settle::<H, S>(alloc, arena, source, kind, id, links)?;
                     Ok(Some(left))
                 }

@@ -28,13 +28,13 @@ pub(crate) fn inner_of(
     requires enough { EndUnder (fewest id.now) id.now rest.old.items }
     ensures { TakesEnd id.now rest.old.items rest.new.items arena.old arena.new result }
 {
-    let mut links = Links::none(alloc)?;
+    let mut links = Links::none();
     let mut b = 16;
     while b > 0 {
         b -= 1;
         arena.known();
         let link = link_of(alloc, arena, rest, &below(id, b))?;
-        links = links.with(b, link);
+        links = links.with(alloc, b, link)?;
     }
     known_branch(rest, id);
     arena.known();

@@ -29,9 +29,9 @@ returns-in_err-next-in-Inner-clause-way g t c tells =
 pub push_inner-requires : goal.push_inner-requires
 push_inner-requires g t c =
     let placed = rw c.in-Inner.is at c.in_ok-look.ensures.placed in
-    changed_below c.args.arena.now c.put_at.new.arena c.in_ok-next-in-Inner.ensures.made.grows.0 c.in-Inner.links c.with.result
+    changed_below c.args.arena.now c.put_at.new.arena c.in_ok-next-in-Inner.ensures.made.grows.0 c.in-Inner.links c.in_ok-links-in-Inner.links
     c.toward-b.result c.in_ok-next-in-Inner.next c.in_ok-next-in-Inner.ensures.made.grows.1 placed.2
-    c.in_ok-next-in-Inner.ensures.made.below c.with.ensures
+    c.in_ok-next-in-Inner.ensures.made.below c.in_ok-links-in-Inner.ensures
 
 -- where nothing is found the link stood for no entry, so with the item set there is the planted leaf's alone
 pub returns-in-Nothing-clause-sets : goal.returns-in-Nothing-clause-sets
@@ -70,13 +70,13 @@ returns-clause-sets g t c tells =
     (map.get (g.S.NodeSource.stored c.look.new.source)) c.args.arena.now c.put_at.new.arena c.push_inner.new.self
     c.in_ok-next-in-Inner.ensures.made.grows.0
     c.args.id.now c.below.result c.args.link.now c.get.result c.in_ok-next-in-Inner.next c.in_ok-push_inner-in-Inner.field-0
-    c.in-Inner.links c.with.result c.toward-b.result c.args.item.key c.args.item.value
+    c.in-Inner.links c.in_ok-links-in-Inner.links c.toward-b.result c.args.item.key c.args.item.value
     (ap (λ h. map.get h) (c.look.ensures.source.same tells)) c.in_ok-next-in-Inner.ensures.made.grows.1 c.known-2.ensures
     c.known-in-Inner.ensures c.requires.below (lone_fork c.args.lone c.args.id.now _ _ shown) placed.0 c.toward-b.ensures.small
     c.in_ok-next-in-Inner.ensures.made.below
     (subst (λ (k : List ℕ). IsTrue (lies_under (c.args.id.now ++ c.toward-b.result ∷ []) k)) c.key.ensures
     (c.toward-b.ensures.under (subst (λ (k : List ℕ). IsTrue (lies_under c.args.id.now k)) (sym c.key.ensures) c.requires.under)))
-    c.below.ensures c.get.ensures c.with.ensures c.in_ok-push_inner-in-Inner.ensures.ok.0 c.in_ok-push_inner-in-Inner.ensures.ok.1
+    c.below.ensures c.get.ensures c.in_ok-links-in-Inner.ensures c.in_ok-push_inner-in-Inner.ensures.ok.0 c.in_ok-push_inner-in-Inner.ensures.ok.1
     (c.in_ok-next-in-Inner.ensures.sets tells)
 
 -- the inner node is passed, and nothing stopped the put below the key's branch, so nothing is in the way

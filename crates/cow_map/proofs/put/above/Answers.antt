@@ -12,7 +12,7 @@ use Rattle.cow_map.proofs.put.above.Goals as goal
 pub push_inner-requires : goal.push_inner-requires
 push_inner-requires c =
     subst (λ (ls : List Link). (b : ℕ) → IsBelow (length c.args.arena.now) (slice_index_or ls b Empty))
-    (sym (c.with-links.ensures ∙ ap (λ ls. slice_set ls c.args.b c.args.next.now) c.in_ok-none.ensures))
+    (sym (c.in_ok-links.ensures ∙ ap (λ ls. slice_set ls c.args.b c.args.next.now) c.none.ensures))
     (below_set (length c.args.arena.now) (replicate 16 Empty) c.args.b c.args.next.now (none_below (length c.args.arena.now) 16)
     c.requires.below)
 
@@ -20,7 +20,7 @@ push_inner-requires c =
 pub returns-clause-stands : goal.returns-clause-stands
 returns-clause-stands c =
     ok_map c.push_inner.result _ _ c.push_inner.ensures.ok (λ link ok half stored kind items enough stands.
-    above_done half stored kind c.args.arena.now c.push_inner.new.self c.args.id.now c.args.b c.args.next.now link c.with-links.result
+    above_done half stored kind c.args.arena.now c.push_inner.new.self c.args.id.now c.args.b c.args.next.now link c.in_ok-links.links
     items ok.0 ok.1
-    (c.with-links.ensures ∙ ap (λ ls. slice_set ls c.args.b c.args.next.now) c.in_ok-none.ensures) c.known.ensures c.requires.below
+    (c.in_ok-links.ensures ∙ ap (λ ls. slice_set ls c.args.b c.args.next.now) c.none.ensures) c.known.ensures c.requires.below
     c.requires.inner c.requires.branch enough stands)

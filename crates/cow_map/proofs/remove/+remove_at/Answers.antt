@@ -59,9 +59,9 @@ returns-in-None-clause-takes g t c = record {
 pub settle-requires-clause-below : goal.settle-requires-clause-below
 settle-requires-clause-below g t c κs within =
     let placed = rw c.in-Inner.is at c.in_ok-look.ensures.placed in
-    changed_below c.args.arena.now c.remove_at.new.arena c.in_ok-next-in-Inner.ensures.made.grows.0 c.in-Inner.links c.with-links.result
+    changed_below c.args.arena.now c.remove_at.new.arena c.in_ok-next-in-Inner.ensures.made.grows.0 c.in-Inner.links c.in_ok-links-in-Some.links
     c.toward-b.result c.in-Some.next c.in_ok-next-in-Inner.ensures.made.grows.1 placed.2
-    (subst (IsBelowIf (length c.remove_at.new.arena)) c.in-Some.is c.in_ok-next-in-Inner.ensures.made.below) c.with-links.ensures
+    (subst (IsBelowIf (length c.remove_at.new.arena)) c.in-Some.is c.in_ok-next-in-Inner.ensures.made.below) c.in_ok-links-in-Some.ensures
 
 pub returns-in_err-left-in-Some-clause-made : goal.returns-in_err-left-in-Some-clause-made
 returns-in_err-left-in-Some-clause-made g t c = record {
@@ -91,11 +91,11 @@ returns-clause-takes g t c = record {
       c.args.link.now c.args.key.now (map.get (g.S.NodeSource.stored c.look.new.source))
       (map.get (g.S.NodeSource.stored c.remove_at.new.source))
       c.remove_at.new.arena c.settle.new.arena c.in_ok-next-in-Inner.ensures.made.grows.0 c.below-place.result c.get.result c.in-Some.next
-      c.in_ok-left-in-Some.left c.in-Inner.links c.with-links.result c.toward-b.result
+      c.in_ok-left-in-Some.left c.in-Inner.links c.in_ok-links-in-Some.links c.toward-b.result
       (ap (λ h. map.get h) (c.look.ensures.source.same tells))
       (ap (λ h. map.get h) (c.remove_at.ensures.source.same tells ∙ c.look.ensures.source.same tells))
       c.in_ok-next-in-Inner.ensures.made.grows.1 c.known-2.ensures c.requires.below (lone_fork c.args.lone c.args.id.now _ _ shown) placed.0
-      c.toward-b.ensures.small (c.toward-b.ensures.under c.requires.under) c.below-place.ensures c.get.ensures c.with-links.ensures
+      c.toward-b.ensures.small (c.toward-b.ensures.under c.requires.under) c.below-place.ensures c.get.ensures c.in_ok-links-in-Some.ensures
       (subst (Removes g.H.NodeHash.half (map.get (g.S.NodeSource.stored c.look.new.source)) c.args.kind c.args.arena.now
       c.remove_at.new.arena (64 - length c.below-place.result) c.below-place.result c.get.result c.args.key.now) c.in-Some.is
       (c.in_ok-next-in-Inner.ensures.takes.removes tells))
@@ -112,7 +112,7 @@ returns-clause-takes g t c = record {
       (some_left g.H.NodeHash.half (map.get (g.S.NodeSource.stored c.look.new.source)) c.args.kind _ c.args.arena.now c.args.id.now
       c.below-place.result c.get.result c.in-Some.next c.in_ok-left-in-Some.left c.args.key.now c.is_only.result c.toward-b.result
       c.in-Inner.links
-      c.with-links.result placed.1 c.toward-b.ensures.small c.below-place.ensures c.get.ensures c.is_only.ensures c.with-links.ensures
+      c.in_ok-links-in-Some.links placed.1 c.toward-b.ensures.small c.below-place.ensures c.get.ensures c.is_only.ensures c.in_ok-links-in-Some.ensures
       leaves c.in_ok-left-in-Some.ensures.stands.some)
       (ap (λ st. stop_here c.args.id.now
       (found_at g.H.NodeHash.half st c.args.kind c.settle.new.arena c.args.id.now c.in_ok-left-in-Some.left)) (sym same)
@@ -188,8 +188,8 @@ returns-in_err-left-in-Some-clause-way g t c tells =
     (map.get (g.S.NodeSource.stored c.remove_at.new.source)) c.args.arena.now c.remove_at.new.arena
     c.in_ok-next-in-Inner.ensures.made.grows.0 c.args.id.now c.below-place.result c.get.result c.in-Some.next c.args.key.now
     c.is_only.result c.toward-b.result c.in-Inner.links
-    c.with-links.result (ap (λ h. map.get h) (c.remove_at.ensures.source.same tells))
-    c.in_ok-next-in-Inner.ensures.made.grows.1 placed.1 c.toward-b.ensures.small placed.2 c.below-place.ensures c.with-links.ensures
+    c.in_ok-links-in-Some.links (ap (λ h. map.get h) (c.remove_at.ensures.source.same tells))
+    c.in_ok-next-in-Inner.ensures.made.grows.1 placed.1 c.toward-b.ensures.small placed.2 c.below-place.ensures c.in_ok-links-in-Some.ensures
     (c.in_ok-next-in-Inner.ensures.way tells) leaves in
     rw (p.1, p.2) (goes_same (Option Link) (Err c.in_err-left-in-Some.field-0.0) _ _ (step ∙ left)
     (c.in_err-left-in-Some.ensures.stands.way tells))
@@ -211,7 +211,7 @@ returns-clause-way g t c tells =
     (map.get (g.S.NodeSource.stored c.remove_at.new.source)) c.args.arena.now c.remove_at.new.arena
     c.in_ok-next-in-Inner.ensures.made.grows.0 c.args.id.now c.below-place.result c.get.result c.in-Some.next c.args.key.now
     c.is_only.result c.toward-b.result c.in-Inner.links
-    c.with-links.result (ap (λ h. map.get h) (c.remove_at.ensures.source.same tells))
-    c.in_ok-next-in-Inner.ensures.made.grows.1 placed.1 c.toward-b.ensures.small placed.2 c.below-place.ensures c.with-links.ensures
+    c.in_ok-links-in-Some.links (ap (λ h. map.get h) (c.remove_at.ensures.source.same tells))
+    c.in_ok-next-in-Inner.ensures.made.grows.1 placed.1 c.toward-b.ensures.small placed.2 c.below-place.ensures c.in_ok-links-in-Some.ensures
     (c.in_ok-next-in-Inner.ensures.way tells) leaves in
     step ∙ left ∙ c.in_ok-left-in-Some.ensures.stands.way tells

@@ -23,9 +23,9 @@ pub inner_of-loop-b-init : goal.inner_of-loop-b-init
 inner_of-loop-b-init t c = record {
   within = omega arith;
   grows = ([], sym (append-nil c.args.arena.now));
-  halfway = halfway_none c.args.id.now c.args.rest.now.items c.args.arena.now c.in_ok-links.links 16 (omega arith)
-      (ap length c.in_ok-links.ensures)
-      (λ k. subst (λ (ls : List Link). IsBelow (length c.args.arena.now) (slice_index_or ls k Empty)) (sym c.in_ok-links.ensures)
+  halfway = halfway_none c.args.id.now c.args.rest.now.items c.args.arena.now c.none-links.result 16 (omega arith)
+      (ap length c.none-links.ensures)
+      (λ k. subst (λ (ls : List Link). IsBelow (length c.args.arena.now) (slice_index_or ls k Empty)) (sym c.none-links.ensures)
       (none_below (length c.args.arena.now) 16 k));
 }
 
@@ -45,9 +45,9 @@ inner_of-loop-b-preserved t c =
       within = omega (arith, i.within);
       grows = grows_twice c.args.arena.now c.loop-b.arena c.link_of.new.arena i.grows c.in_ok-link.ensures.grows;
       halfway = halfway_more c.args.id.now c.args.rest.now.items c.loop-b.rest.items c.link_of.new.rest.items c.loop-b.arena
-          c.link_of.new.arena c.loop-b.links c.with-links.result c.loop-b.b (c.loop-b.b - 1) c.in_ok-link.link
+          c.link_of.new.arena c.loop-b.links c.in_ok-links.links c.loop-b.b (c.loop-b.b - 1) c.in_ok-link.link
           (omega (arith, c.loop-b-test.true)) i.within c.requires.rising c.known.ensures c.in_ok-link.ensures.grows
-          c.in_ok-link.ensures.below c.with-links.ensures
+          c.in_ok-link.ensures.below c.in_ok-links.ensures
           (subst (λ p. Rattle.cow_map.specs.Taking.Gathers p c.loop-b.rest.items c.link_of.new.rest.items c.link_of.new.arena
           c.in_ok-link.link) c.below.ensures c.in_ok-link.ensures.gathers) i.halfway;
     }
