@@ -1,49 +1,21 @@
 -- The lists of a walk, as hashes are shaded and become black.
-use Rattle.std.proofs.Common.{◌≡◌, ◌⊎◌, inl, inr, ⊎_elim, ◌++◌, ◌∷◌, ◌+◌, ◌^◌, ◌≤◌, ◌<◌, [], ℕ, suc, List}
-use Rattle.std.proofs.Common.{Bool, true, false, cond, not, if◌then◌else◌, Some, Contains, length, get_or, slice_get, refl, sym}
+use Rattle.std.proofs.Common.{◌≡◌, inl, inr, ⊎_elim, ◌++◌, ◌∷◌, ◌+◌, ◌^◌, ◌≤◌, ◌<◌, [], ℕ, suc, List}
+use Rattle.std.proofs.Common.{Some, Contains, length, get_or, slice_get, sym}
 use Rattle.std.proofs.Common.{ap, ◌∙◌, subst}
 use Rattle.std.proofs.Common.{arith, append_assoc, length-append}
-use Rattle.std.specs.HashSet.{HashSet, contains}
-use Rattle.std.specs.Cmp.{IsEquivalence, eq_by_cmp_equiv}
-use Rattle.std.specs.Cmp.Lexicographic.{nat_list_cmp_total, same_text, texts_ties}
 use Rattle.std.specs.List.{swap_remove}
 use Rattle.std.specs.List.Sorted.{IsPermutation}
 use Rattle.std.proofs.lemmas.List.{append-nil, get_or_append_left}
-use Rattle.std.proofs.lemmas.List.Elements.{Contains-append_left, Contains-append_right, Contains-append_cases}
+use Rattle.std.proofs.lemmas.List.Elements.{Contains-append_left, Contains-append_right, Contains-append_cases, Contains-push}
 use Rattle.std.proofs.lemmas.List.Sorted.{IsPermutation-swap_remove, length_permutation}
-use Rattle.std.proofs.lemmas.Map.Views.{hash_set_contains_iff}
 use Rattle.std.proofs.lemmas.Option.{get_or_from_slice_get, slice_get_within}
-use Rattle.std.proofs.lemmas.Bool.{false≢true}
-use Rattle.ledger_spec.specs.Bytes.{Hash, same_bytes}
+use Rattle.ledger_spec.specs.Bytes.{Hash}
 use Rattle.ledger_spec.proofs.shared.Storing.{in_one}
 use Rattle.copy_walk.specs.Walks.{Walk, shaded, left_of, Shades, ShadesSome, HasToo}
 use Rattle.copy_walk.specs.Strides.{Leaves}
 use Rattle.copy_walk.specs.Slices.{Blackens}
 use Rattle.copy_walk.proofs.Lists.{in_none, grey_shaded, black_shaded, shaded_cases}
 use Rattle.copy_walk.proofs.shared.Lists.{is_shaded}
-
--- hashes are told apart by their bytes
-bytes_laws : IsEquivalence same_bytes
-bytes_laws = record {
-  refl = λ x. texts_ties x x ∙ (eq_by_cmp_equiv nat_list_cmp_total).refl x;
-  symm = λ x y. texts_ties x y ∙ (eq_by_cmp_equiv nat_list_cmp_total).symm x y ∙ sym (texts_ties y x);
-  congr = λ x y z e.
-      texts_ties x z ∙ (eq_by_cmp_equiv nat_list_cmp_total).congr x y z (sym (texts_ties x y) ∙ e) ∙ sym (texts_ties y z);
-}
-
-bytes_exact : (x y : Hash) → same_bytes x y ≡ true → x ≡ y
-bytes_exact x y e = same_text x y (sym e)
-
--- what the set says that it has, it has, and nothing else
-module _ {S : Type 0} (black : HashSet Hash S) (h : Hash) where
-  pub is_black : contains same_bytes black h ≡ true → Contains black.keys h
-  is_black has = (hash_set_contains_iff bytes_laws bytes_exact black h).0 has
-
-  pub in_black : Contains black.keys h → contains same_bytes black h ≡ true
-  in_black has = (hash_set_contains_iff bytes_laws bytes_exact black h).1 has
-
-  pub not_black : contains same_bytes black h ≡ false → Contains black.keys h → ⊥
-  not_black none c = false≢true (sym none ∙ in_black c)
 
 -- ---- shading
 -- one hash is shaded
@@ -142,24 +114,18 @@ black_less w h hashes v b few room more =
     let grown : length b.mid.grey ≡ length w.grey + length b.shades.more = ap length b.shades.grey ∙ length-append w.grey b.shades.more in
     omega (arith, shorter, grown, b.shades.few, few, room, more)
 
--- what an insertion leaves of a set has this hash too
-pub has_too : {S : Type 0} (old new : HashSet Hash S) (h : Hash)
-    → ((q : Hash) → contains same_bytes new q ≡ cond (same_bytes h q) true (contains same_bytes old q)) → HasToo new.keys old.keys h
-has_too old new h sets q = (
-  λ is. chosen (same_bytes h q) refl (sym (sets q) ∙ in_black new q is),
-  λ is. is_black new q (⊎_elim
-      (λ before. sets q ∙ stays (same_bytes h q) (in_black old q before))
-      (λ same. subst (λ (x : Hash). contains same_bytes new x ≡ true) (sym same)
-      (sets h ∙ ap (λ (b : Bool). cond b true (contains same_bytes old h)) (bytes_laws.refl h))) is),
+-- a list with one hash behind has this hash too
+pub has_too : (old new : List Hash) (h : Hash) → new ≡ old ++ h ∷ [] → HasToo new old h
+has_too old new h is q = (
+  λ has. ⊎_elim (λ before. inl before) (λ one. inr (in_one h q one))
+      (Contains-append_cases old (h ∷ []) q (subst (λ (hs : List Hash). Contains hs q) is has)),
+  λ has. subst (λ (hs : List Hash). Contains hs q) (sym is) (⊎_elim (λ before. Contains-append_left old (h ∷ []) q before)
+      (λ same. subst (λ (x : Hash). Contains (old ++ h ∷ []) x) (sym same) (Contains-push old h)) has),
 )
-  where
-    chosen : (b : Bool) → same_bytes h q ≡ b → cond b true (contains same_bytes old q) ≡ true → Contains old.keys q ⊎ (q ≡ h)
-    chosen true e has = inr (sym (bytes_exact h q e))
-    chosen false e has = inl (is_black old q has)
 
-    stays : (b : Bool) → contains same_bytes old q ≡ true → cond b true (contains same_bytes old q) ≡ true
-    stays true has = refl
-    stays false has = has
+-- and is one longer
+pub one_more : (old new : List Hash) (h : Hash) → new ≡ old ++ h ∷ [] → length new ≡ length old + 1
+one_more old new h is = ap length is ∙ length-append old (h ∷ [])
 
 -- the hash at a place becomes black, after some were shaded
 pub blackened : (w mid v : Walk) (h r : Hash) (hashes : List Hash) (place : ℕ) → ShadesSome w hashes mid
@@ -172,12 +138,3 @@ blackened w mid v h r hashes place some all at is gone too = record {
   leaves = leaves_at mid v place h r (stands_still w.grey some.more mid.grey place h (stands_at w.grey place h at) some.grey) is gone;
   black = subst (λ (hs : List Hash). HasToo v.black hs h) some.black too;
 }
-
--- a hash that wasn't black is one more
-pub more_black : {S : Type 0} (old new : HashSet Hash S) (h : Hash) (added : Bool) → (Contains old.keys h → ⊥)
-    → added ≡ not (contains same_bytes old h) → length new.keys ≡ length old.keys + (if added then 1 else 0) → length new.keys ≡ length old.keys + 1
-more_black old new h added none is count = at (contains same_bytes old h) refl
-  where
-    at : (b : Bool) → contains same_bytes old h ≡ b → length new.keys ≡ length old.keys + 1
-    at true has = absurd (none (is_black old h has))
-    at false has = count ∙ ap (λ (b : Bool). length old.keys + (if b then 1 else 0)) (is ∙ ap not has)

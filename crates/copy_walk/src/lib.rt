@@ -2,6 +2,7 @@
 //! found stored; kids of black hashes are shaded, so that at the end all that is reached is copied, whatever was written meanwhile.
 #![tactic(auto)]
 
+mod blacks;
 mod copy;
 mod kids;
 mod laws;

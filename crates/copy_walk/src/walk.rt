@@ -1,19 +1,19 @@
 //! The walk. The next hash to be taken is the last grey one, so that what one root reaches is copied before the next: few are grey at a
 //! time. A hash leaves the grey list only as it becomes black, or isn't stored: after a refusal it is still there.
 ghost use Rattle.std.specs.Prelude.{◌≡◌, ◌≢◌, ◌↔◌, ◌<◌, [], IsTrue, Some, IfOk, IfErr, OnOk, OnErr};
-ghost use Rattle.std.specs.List.{Contains, slice_get};
+ghost use Rattle.std.specs.List.{slice_get};
 ghost use Rattle.ledger_spec.specs.Reach.{kids};
 ghost use Rattle.rotating_store.specs.Puts.{IsPlain};
 ghost use Rattle.rotating_store.specs.Stores.{LeavesStore};
 ghost use Rattle.copy_walk.specs.Slices.{LeftBy};
 ghost use Rattle.copy_walk.specs.Calls.{GoesBlack, TakesOne, AnswersSlice, DrainsBy};
 
+use crate::blacks::Blacks;
 use crate::copy::copy_one;
 use half_hash::{Hash32, Memory};
 use node_backend::Shelf;
 use rotating_store::{RotStore, StoreFault};
 use std::alloc::Global;
-use std::collections::HashSet;
 use std::marker::Model;
 
 /// Whether a slice left something to copy.
@@ -29,7 +29,7 @@ pub enum Left {
 #[derive(Drop)]
 pub struct CopyWalk {
     grey: Vec<Hash32>,
-    black: HashSet<Hash32>,
+    black: Blacks,
     room: Vec<u8>,
 }
 
@@ -38,7 +38,7 @@ impl Model for CopyWalk {
 
     ghost Value = { Walk };
 
-    ghost view = { λ w. record { grey = w.grey.items; black = w.black.keys } };
+    ghost view = { λ w. record { grey = w.grey.items; black = w.black } };
 }
 
 impl CopyWalk {
@@ -51,7 +51,7 @@ impl CopyWalk {
         let grey = Vec::from_slice(alloc, roots)?;
         Ok(CopyWalk {
             grey,
-            black: HashSet::new(alloc),
+            black: Blacks::new(alloc),
             room: Vec::new(alloc),
         })
     }
@@ -129,18 +129,16 @@ impl CopyWalk {
 
     // The grey hash at a place becomes black: all that its form names is shaded first.
     fn blacken(&mut self, place: usize, hash: &Hash32, form: &[u8]) -> Result<(), Memory>
-        requires at { slice_get self.old.grey place ≡ Some hash.now }
-        requires new { Contains self.old.black hash.now → ⊥ }
+        requires { slice_get self.old.grey place ≡ Some hash.now }
         ensures { GoesBlack self.old hash.now (kids form.now) result self.new }
     {
         self.shade_kids(form)?;
-        let _count = self.black.len();
-        self.black.insert(*hash)?;
+        self.black.push(hash)?;
         self.grey.swap_remove(place);
         Ok(())
     }
 
-    // Takes the grey hash at a place, which isn't black. Its form is written into a room.
+    // Takes the grey hash at a place. Its form is written into a room.
     fn take_at<Sh: Shelf>(
         &mut self,
         alloc: Global,
@@ -149,8 +147,7 @@ impl CopyWalk {
         hash: &Hash32,
         room: &mut Vec<u8>,
     ) -> Result<(), StoreFault>
-        requires at { slice_get self.old.grey place ≡ Some hash.now }
-        requires new { Contains self.old.black hash.now → ⊥ }
+        requires { slice_get self.old.grey place ≡ Some hash.now }
         ensures takes { TakesOne Sh.B.tells self.old store.old result self.new store.new }
         ensures store { LeavesStore StoreFault.Fault store.old store.new result }
         ensures kind { IfErr result IsPlain }

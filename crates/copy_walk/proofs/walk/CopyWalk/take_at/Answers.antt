@@ -20,7 +20,7 @@ returns-in_err-there-clause-takes g c = record {
   err = λ told.
       on_err _ c.from_residual.result
       (strode_copy c.args.self.now c.args.store.now c.copy_one.new.store c.args.hash.now
-      (grey_at c.args.self.now c.args.place c.args.hash.now c.requires.at) (c.copy_one.ensures.one told));
+      (grey_at c.args.self.now c.args.place c.args.hash.now c.requires) (c.copy_one.ensures.one told));
   less = first_of (search rules, grind (arith, common_steps));
 }
 
@@ -29,17 +29,17 @@ pub swap_remove-requires : goal.swap_remove-requires
 swap_remove-requires g c =
     let within : c.args.place < length c.self.inside.grey.items =
     subst (λ (w : Walk). c.args.place < length w.grey) (sym c.self.view_is) (stands_at c.args.self.now.grey c.args.place c.args.hash.now
-    c.requires.at).0 in
+    c.requires).0 in
     omega (arith, within, c.self.inside.grey.ok.0)
 
 -- nothing is stored under it
 pub returns-then-not-there-clause-takes : goal.returns-then-not-there-clause-takes
 returns-then-not-there-clause-takes g c = record {
   ok = λ told.
-      let was : Walk = record { grey = c.self.inside.grey.items; black = c.self.inside.black.keys } in
-      let now : Walk = record { grey = c.swap_remove.new.self.items; black = c.self.inside.black.keys } in
+      let was : Walk = record { grey = c.self.inside.grey.items; black = c.self.inside.black } in
+      let now : Walk = record { grey = c.swap_remove.new.self.items; black = c.self.inside.black } in
       let at : slice_get was.grey c.args.place ≡ Some c.args.hash.now =
-      subst (λ (w : Walk). slice_get w.grey c.args.place ≡ Some c.args.hash.now) (sym c.self.view_is) c.requires.at in
+      subst (λ (w : Walk). slice_get w.grey c.args.place ≡ Some c.args.hash.now) (sym c.self.view_is) c.requires in
       let leaves : Leaves was c.args.hash.now now =
       leaves_at was now c.args.place c.args.hash.now c.swap_remove.result (stands_at was.grey c.args.place c.args.hash.now at)
       c.swap_remove.ensures.value c.swap_remove.ensures.items in
@@ -48,10 +48,10 @@ returns-then-not-there-clause-takes g c = record {
       (c.copy_one.ensures.one told) now (has_none _ _ _ (c.in_ok-there.ensures.form told) c.if-not-there.true) leaves refl);
   err = first_of (search rules, grind (arith, common_steps));
   less =
-      let was : Walk = record { grey = c.self.inside.grey.items; black = c.self.inside.black.keys } in
-      let now : Walk = record { grey = c.swap_remove.new.self.items; black = c.self.inside.black.keys } in
+      let was : Walk = record { grey = c.self.inside.grey.items; black = c.self.inside.black } in
+      let now : Walk = record { grey = c.swap_remove.new.self.items; black = c.self.inside.black } in
       let at : slice_get was.grey c.args.place ≡ Some c.args.hash.now =
-      subst (λ (w : Walk). slice_get w.grey c.args.place ≡ Some c.args.hash.now) (sym c.self.view_is) c.requires.at in
+      subst (λ (w : Walk). slice_get w.grey c.args.place ≡ Some c.args.hash.now) (sym c.self.view_is) c.requires in
       rw (← c.self.view_is)
       (left_less was c.args.hash.now now
       (leaves_at was now c.args.place c.args.hash.now c.swap_remove.result (stands_at was.grey c.args.place c.args.hash.now at)
@@ -67,7 +67,7 @@ returns-in_err-blacken-clause-takes g c = record {
       has_some _ _ _ (c.in_ok-there.ensures.form told) c.if-not-there.false in
       on_err _ c.from_residual-in_err-blacken.result
       (strode_named c.args.self.now c.args.store.now c.copy_one.new.store c.args.hash.now
-      (grey_at c.args.self.now c.args.place c.args.hash.now c.requires.at) (c.copy_one.ensures.one told) c.copy_one.new.room.items
+      (grey_at c.args.self.now c.args.place c.args.hash.now c.requires) (c.copy_one.ensures.one told) c.copy_one.new.room.items
       c.blacken.new.self is
       (subst (λ (form : Bytes). ShadesSome c.args.self.now (kids form) c.blacken.new.self) c.deref.ensures.value
       c.in_err-blacken.ensures.err));
@@ -81,7 +81,7 @@ returns-clause-takes g c = record {
       let is : finite.get (nodes_of c.args.store.now) c.args.hash.now ≡ Some c.copy_one.new.room.items =
       has_some _ _ _ (c.in_ok-there.ensures.form told) c.if-not-there.false in
       strode_found c.args.self.now c.args.store.now c.copy_one.new.store c.args.hash.now
-      (grey_at c.args.self.now c.args.place c.args.hash.now c.requires.at) (c.copy_one.ensures.one told) c.copy_one.new.room.items
+      (grey_at c.args.self.now c.args.place c.args.hash.now c.requires) (c.copy_one.ensures.one told) c.copy_one.new.room.items
       c.blacken.new.self is (c.in_ok-there.ensures.there told)
       (subst (λ (form : Bytes). Blackens c.args.self.now c.args.hash.now (kids form) c.blacken.new.self) c.deref.ensures.value
       c.in_ok-blacken.ensures.ok);
