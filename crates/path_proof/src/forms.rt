@@ -4,7 +4,7 @@ ghost use Rattle.std.specs.Prelude.{◌≡◌, ◌≢◌, ◌++◌, nat_eq, drop
 ghost use Rattle.std.specs.List.{starts_with};
 ghost use Rattle.ledger_spec.specs.declared.Kind.TheVariants as kinds;
 ghost use Rattle.ledger_spec.specs.Findings.{held_of};
-ghost use Rattle.ledger_spec.specs.Forms.{Form, hash_of, header_of, leaf_prefix};
+ghost use Rattle.ledger_spec.specs.Forms.{Form, IsItem, hash_of, header_of, leaf_prefix};
 ghost use Rattle.ledger_spec.specs.Own.{own_form};
 ghost use Rattle.shamap_node.specs.Laws.{is_no_node};
 ghost use Rattle.shamap_node.specs.Nodes.{held};
@@ -12,7 +12,7 @@ ghost use Rattle.shamap_node.specs.declared.forms.FormFault.TheVariants as fault
 ghost use Rattle.path_proof.specs.Sources.{Gives};
 
 use crate::FetchFault;
-use half_hash::{Blob, Half512, Hash32};
+use half_hash::{Blob, Half512, Hash32, Prefix};
 use ledger_header::Header;
 use shamap_node::{FormFault, Item, ItemFault, Kind, Leaf, Node, decode_form};
 use std::alloc::Global;
@@ -34,6 +34,69 @@ pub fn node_of_form(
     if !own.equals(h) {
         return Ok(None);
     }
+    if let Some(leaf) = keyed_leaf(alloc, form)? {
+        return Ok(Some(leaf));
+    }
+    other_node(alloc, own, form)
+}
+
+// The leaf whose form the bytes are, if its key stands behind its data. It is made where it is shared: a node has room for sixteen
+// hashes, so that one that is handed from call to call is copied at each.
+fn keyed_leaf(alloc: Global, form: &[u8]) -> Result<Option<Arc<Node>>, FetchFault>
+    ensures form { (half : List ℕ → List ℕ) → IfOk result (λ o. IfSome o (λ node. Form half (held node.value) form.now)) }
+    ensures memory { IfErr result (λ fault. fault ≡ FetchFault.Memory) }
+{
+    if Prefix::Mln.begins(form) {
+        return leaf_of_kind(alloc, Kind::State, form);
+    }
+    if Prefix::Snd.begins(form) {
+        return leaf_of_kind(alloc, Kind::Tx, form);
+    }
+    Ok(None)
+}
+
+// The same, by the kind that the prefix says.
+fn leaf_of_kind(alloc: Global, kind: Kind, form: &[u8]) -> Result<Option<Arc<Node>>, FetchFault>
+    requires keyed { kind ≢ Kind.Set }
+    requires prefix { starts_with nat_eq form.now (leaf_prefix kind) ≡ true }
+    ensures form { (half : List ℕ → List ℕ) → IfOk result (λ o. IfSome o (λ node. Form half (held node.value) form.now)) }
+    ensures memory { IfErr result (λ fault. fault ≡ FetchFault.Memory) }
+{
+    let Some(item) = keyed_item(alloc, form)? else {
+        return Ok(None);
+    };
+    match Arc::new(alloc, Node::Leaf(Leaf { kind, item })) {
+        Ok(node) => Ok(Some(node)),
+        Err(_) => Err(FetchFault::Memory),
+    }
+}
+
+// The item of a leaf whose key stands behind its data, if it is one.
+fn keyed_item(alloc: Global, form: &[u8]) -> Result<Option<Item>, FetchFault>
+    ensures item { IfOk result (λ o. IfSome o (λ item. IsItem item.key item.value × (drop 4 form.now ≡ item.value ++ item.key))) }
+    ensures memory { IfErr result (λ fault. fault ≡ FetchFault.Memory) }
+{
+    if form.len() < 36 {
+        return Ok(None);
+    }
+    let (front, key) = form.split_at(form.len() - 32);
+    let (_prefix, data) = front.split_at(4);
+    let Ok(value) = Blob::from_slice(alloc, data) else {
+        return Err(FetchFault::Memory);
+    };
+    match Item::new(Hash32::from_slice(key), value) {
+        Ok(item) => Ok(Some(item)),
+        Err(_) => Ok(None),
+    }
+}
+
+// The same as `node_of_form`, for any bytes under their hash.
+fn other_node(alloc: Global, own: &Hash32, form: &[u8]) -> Result<Option<Arc<Node>>, FetchFault>
+    ensures hash { (half : List ℕ → List ℕ) → half form.now ≡ own.now
+        → IfOk result (λ o. IfSome o (λ node. hash_of half (held node.value) ≡ own.now)) }
+    ensures exact { (half : List ℕ → List ℕ) → half form.now ≡ own.now → Gives half (own_form half own.now (Some form.now)) result }
+    ensures cause { IfErr result (λ fault. fault ≢ FetchFault.Fault) }
+{
     match decode_under(alloc, own, form) {
         Ok(node) => Ok(Some(shared(alloc, node)?)),
         Err(FormFault::Memory) => Err(FetchFault::Memory),
