@@ -1,7 +1,8 @@
 -- What the code's comparisons say of keys and places.
-use Rattle.std.proofs.Common.{◌≡◌, ◌-◌, ◌≤◌, ℕ, List, [], ◌∷◌, ◌++◌, length, take, replicate, refl, sym, ap, ◌∙◌, arith}
-use Rattle.std.proofs.lemmas.List.{length-take-le}
-use Rattle.std.specs.declared.cmp.Ordering.TheVariants.{Equal}
+use Rattle.std.proofs.Common.{◌≡◌, ◌-◌, ◌≤◌, ℕ, List, [], ◌∷◌, ◌++◌, length, take, drop, replicate, false, refl, sym, ap, ◌∙◌, arith}
+use Rattle.std.proofs.lemmas.List.{length-take-le, take-append-drop}
+use Rattle.std.specs.declared.cmp.Ordering.{Ordering}
+use Rattle.std.specs.declared.cmp.Ordering.TheVariants.{Less, Equal, Greater}
 use Rattle.std.specs.Ordering.{is_lt, nat_cmp, ordering_then}
 use Rattle.std.specs.Cmp.Lexicographic.{slice_cmp}
 use Rattle.nib_path.specs.Paths.{IsPath, nibbles, id_of, length-nibbles}
@@ -42,3 +43,38 @@ passed_is path reached after id own is_path is_key at is_id is_own =
     } in
     ap (λ x. is_lt (hash_cmp x own)) is_id ∙ ap (λ x. is_lt (hash_cmp (id_of path) x)) (is_own ∙ ap id_of at)
     ∙ ap is_lt (id_cmp path (take (length path) (nibbles after)) is_path is_front size)
+
+then_first : (o p q : Ordering) → ordering_then o (ordering_then p q) ≡ ordering_then (ordering_then o p) q
+then_first Less p q = refl
+then_first Equal p q = refl
+then_first Greater p q = refl
+
+-- fronts of one length are compared first
+front_cmp : (p q x y : List ℕ) → length p ≡ length q
+    → slice_cmp nat_cmp (p ++ x) (q ++ y) ≡ ordering_then (slice_cmp nat_cmp p q) (slice_cmp nat_cmp x y)
+front_cmp [] [] x y same = refl
+front_cmp [] (b ∷ q) x y same = absurd (omega arith)
+front_cmp (a ∷ p) [] x y same = absurd (omega arith)
+front_cmp (a ∷ p) (b ∷ q) x y same =
+    ap (ordering_then (nat_cmp a b)) (front_cmp p q x y (omega arith))
+    ∙ then_first (nat_cmp a b) (slice_cmp nat_cmp p q) (slice_cmp nat_cmp x y)
+
+first_counts : (o p : Ordering) → is_lt (ordering_then o p) ≡ false → is_lt o ≡ false
+first_counts Less p other = other
+first_counts Equal p other = refl
+first_counts Greater p other = refl
+
+-- a place whose first key is no less than the key isn't passed
+pub not_passed : (path after id : List ℕ) → IsPath path → IsKey after → id ≡ id_of path → is_lt (hash_cmp id after) ≡ false
+    → false ≡ is_passed after path
+not_passed path after id is_path is_key is_id other =
+    let short : length path ≤ length (nibbles after) = omega (arith, is_path.short, length-nibbles after, is_key.size) in
+    let size : length path ≡ length (take (length path) (nibbles after)) = sym (length-take-le (length path) (nibbles after) short) in
+    let zeros : List ℕ = replicate (64 - length path) 0 in
+    let rest : List ℕ = drop (length path) (nibbles after) in
+    let split : hash_cmp id after ≡ ordering_then (hash_cmp path (take (length path) (nibbles after))) (slice_cmp nat_cmp zeros rest) =
+    sym (nibbles_cmp id after) ∙ ap (λ x. slice_cmp nat_cmp (nibbles x) (nibbles after)) is_id
+    ∙ ap (λ x. slice_cmp nat_cmp x (nibbles after)) (nibbles-id_of path is_path)
+    ∙ ap (slice_cmp nat_cmp (path ++ zeros)) (sym (take-append-drop (length path) (nibbles after)))
+    ∙ front_cmp path (take (length path) (nibbles after)) zeros rest size in
+    sym (first_counts (hash_cmp path (take (length path) (nibbles after))) (slice_cmp nat_cmp zeros rest) (ap is_lt (sym split) ∙ other))

@@ -1,14 +1,13 @@
 //! A page as it grows: the nodes that were visited, and which of their items come behind the key.
-ghost use Rattle.std.specs.Prelude.{◌≡◌, [], IfErr, IfOk, OnOk};
+ghost use Rattle.std.specs.Prelude.{◌≡◌, [], OnOk};
 ghost use Rattle.ledger_spec.specs.Pages.{is_behind};
 ghost use Rattle.ledger_spec.specs.Reads.{inner_hashes};
 ghost use Rattle.shamap_node.specs.Nodes.{held, held_leaf, hashes_above};
 ghost use Rattle.map_cursor.specs.Shown.{shown, entry_of, HasFurther, Takes};
 
 use half_hash::Hash32;
-use path_proof::ReadFault;
 use shamap_node::{Inner, Leaf, Node};
-use std::alloc::Global;
+use std::alloc::{AllocError, Global};
 use std::sync::Arc;
 
 /// Items of a map in the order of their keys, with the nodes that say so, each before those below it.
@@ -31,19 +30,27 @@ impl Page {
     }
 
     // Adds a node, which is a further leaf of the page where its key is behind this one.
-    pub(crate) fn take(&mut self, node: &Arc<Node>, after: &Hash32) -> Result<(), ReadFault>
+    pub(crate) fn take(&mut self, node: Arc<Node>, after: &Hash32) -> Result<(), AllocError>
+        ensures taken { OnOk result (Takes after.now (held node.value) (shown self.old) (shown self.new)
+            (inner_hashes (held node.value))) }
+        ensures further { OnOk result (HasFurther after.now self.old → HasFurther after.now self.new) }
+    {
+        if let Node::Leaf(leaf) = &*node {
+            if comes_behind(leaf, after) {
+                self.leaves.push(Arc::try_clone(&node)?)?;
+            }
+        }
+        self.used.push(node)?;
+        Ok(())
+    }
+
+    // The same for a node that is still needed.
+    pub(crate) fn take_shared(&mut self, node: &Arc<Node>, after: &Hash32) -> Result<(), AllocError>
         ensures taken { OnOk result (Takes after.now (held node.now.value) (shown self.old) (shown self.new)
             (inner_hashes (held node.now.value))) }
         ensures further { OnOk result (HasFurther after.now self.old → HasFurther after.now self.new) }
-        ensures memory { IfErr result (λ fault. fault ≡ ReadFault.Memory) }
     {
-        if let Node::Leaf(leaf) = &**node {
-            if comes_behind(leaf, after) {
-                self.leaves.push(another(node)?)?;
-            }
-        }
-        self.used.push(another(node)?)?;
-        Ok(())
+        self.take(Arc::try_clone(node)?, after)
     }
 }
 
@@ -62,15 +69,4 @@ fn comes_behind(leaf: &Leaf, after: &Hash32) -> bool
     ensures { result ≡ is_behind after.now (entry_of (held_leaf leaf.now)) }
 {
     leaf.item.key().cmp(after).is_gt()
-}
-
-// Another owner of the node.
-fn another(node: &Arc<Node>) -> Result<Arc<Node>, ReadFault>
-    ensures same { IfOk result (λ a. a.value ≡ node.now.value) }
-    ensures memory { IfErr result (λ fault. fault ≡ ReadFault.Memory) }
-{
-    match Arc::try_clone(node) {
-        Ok(node) => Ok(node),
-        Err(_) => Err(ReadFault::Memory),
-    }
 }

@@ -35,18 +35,22 @@ impl Query {
     }
 }
 
-// Whether each key that lies under the place is less than this one.
+// Whether each key that lies under the place is less than this one. The first of them tells of most places that they aren't before it.
 fn is_before(id: &NodeId, after: &Hash32) -> bool
     ensures { result ≡ is_passed after.now id.now }
 {
     id.known();
     known_key(after);
+    let first = Hash32 { bytes: id.id() };
+    if !first.cmp(after).is_lt() {
+        return false;
+    }
     let reached = NodeId::of_key(&after.bytes, id.depth());
-    let own = Hash32 { bytes: id.id() };
-    own.cmp(&Hash32 {
-        bytes: reached.id(),
-    })
-    .is_lt()
+    first
+        .cmp(&Hash32 {
+            bytes: reached.id(),
+        })
+        .is_lt()
 }
 
 /// Adds to the page what is found at a place and below it: the place with this hash, below this inner
@@ -72,9 +76,14 @@ pub(crate) fn visit<H: NodeHash, S: NodeSource<H>>(
     }
     id.known();
     let node = node_at::<H, S>(alloc, source, query.kind, parent, id, wanted)?;
-    page.take(&node, &query.after)?;
     let Some(inner) = inner_in(&node) else {
+        let Ok(()) = page.take(node, &query.after) else {
+            return Err(ReadFault::Memory);
+        };
         return Ok(());
+    };
+    let Ok(()) = page.take_shared(&node, &query.after) else {
+        return Err(ReadFault::Memory);
     };
     visit_branches::<H, S>(alloc, source, query, inner, id, page)?;
     Ok(())
@@ -82,6 +91,7 @@ pub(crate) fn visit<H: NodeHash, S: NodeSource<H>>(
 
 // Adds what is found below an inner node.
 #[cycle(visits)]
+#[inline(always)]
 fn visit_branches<H: NodeHash, S: NodeSource<H>>(
     alloc: Global,
     source: &mut S,
@@ -97,14 +107,20 @@ fn visit_branches<H: NodeHash, S: NodeSource<H>>(
     ensures further { OnOk result (HasFurther query.now.after page.old → HasFurther query.now.after page.new) }
     ensures source { LeavesSource S.tells S.stored S.rest S.faults (RoseIf ReadFault.Fault) source.old source.new result }
 {
+    let hashes = inner.hashes();
     for b in 0..16u8 {
-        visit_branch::<H, S>(alloc, source, query, inner, id, b, page)?;
+        let wanted = &hashes[b as usize];
+        if wanted.is_zero() {
+            continue;
+        }
+        visit_branch::<H, S>(alloc, source, query, inner, id, b, wanted, page)?;
     }
     Ok(())
 }
 
-// Adds what is found below a branch of an inner node.
+// Adds what is found below a branch of an inner node, where it has this hash.
 #[cycle(visits)]
+#[inline(always)]
 fn visit_branch<H: NodeHash, S: NodeSource<H>>(
     alloc: Global,
     source: &mut S,
@@ -112,22 +128,20 @@ fn visit_branch<H: NodeHash, S: NodeSource<H>>(
     inner: &Inner,
     id: &NodeId,
     b: u8,
+    wanted: &Hash32,
     page: &mut Page,
 ) -> Result<(), ReadFault>
     requires levels { length id.now < 64 }
     requires branch { b < 16 }
+    requires hash { wanted.now ≡ slice_index_or inner.now.hashes b zero_hash }
     ensures visited { Visits H.half query.now.kind S.tells (map.get (S.stored source.old))
         (branch_reading H.half query.now.kind query.now.after (63 - length id.now) inner.now.hashes id.now b)
         query.now.most (shown page.old) (shown page.new) result }
     ensures further { OnOk result (HasFurther query.now.after page.old → HasFurther query.now.after page.new) }
     ensures source { LeavesSource S.tells S.stored S.rest S.faults (RoseIf ReadFault.Fault) source.old source.new result }
 {
-    let wanted = inner.branch(b);
-    if wanted.is_zero() {
-        return Ok(());
-    }
     let Some(below) = id.child(b) else {
         unreachable!();
     };
-    visit::<H, S>(alloc, source, query, Some(inner), &below, &wanted, page)
+    visit::<H, S>(alloc, source, query, Some(inner), &below, wanted, page)
 }

@@ -1,12 +1,14 @@
-use Rattle.std.proofs.Common.{◌-◌, ◌∙◌, ◌++◌, ◌∷◌, [], ◌≡◌, length, refl, sym, ap, subst, arith, true, false, Some}
+use Rattle.std.proofs.Common.{◌-◌, ◌<◌, ◌∙◌, ◌++◌, ◌∷◌, [], ◌≡◌, length, refl, sym, ap, subst, arith, true, false, Some}
 use Rattle.std.specs.FinMap as map
+use Rattle.std.proofs.lemmas.List.{get_or_default}
 use Rattle.shamap_node.specs.Nodes.{held, hashes_above}
 use Rattle.ledger_spec.specs.Pages.{page_from}
 use Rattle.std.specs.List.{slice_index_or}
 use Rattle.ledger_spec.specs.Bytes.{is_zero, zero_hash}
+use Rattle.path_proof.specs.declared.answer.ReadFault.TheVariants.{Memory}
 use Rattle.map_cursor.specs.Shown.{shown, Takes}
 use Rattle.map_cursor.specs.Visits.{Visits, branch_reading}
-use Rattle.map_cursor.proofs.Visiting.{skip_is, skip_visited, zero_skipped, place_refused, memory_refused, handed_on, no_fault, leaf_visited}
+use Rattle.map_cursor.proofs.Visiting.{skip_is, skip_visited, zero_skipped, place_refused, memory_refused, handed_on, leaf_visited}
 use Rattle.map_cursor.proofs.Visiting.{inner_visited, inner_refused, nothing_done, branch_visited, branch_refused, reading_is, level_of}
 use Rattle.map_cursor.proofs.visits.+visits.Goals as goal
 
@@ -33,34 +35,29 @@ visit-returns-in_err-node-clause-visited g t c =
     c.in_err-node.ensures.ends)
 
 -- a page fails to take a node only for want of memory, which may end a visit wherever a node is wanted
-pub visit-returns-in_err-take-clause-visited : goal.visit-returns-in_err-take-clause-visited
-visit-returns-in_err-take-clause-visited g t c =
-    handed_on g.H.NodeHash.half c.args.query.now.kind g.S.NodeSource.tells (map.get (g.S.NodeSource.stored c.args.source.now))
-    (page_from g.H.NodeHash.half c.args.query.now.kind c.args.query.now.after (64 - length c.args.id.now) (hashes_above c.args.parent)
-    c.args.id.now c.args.wanted.now) c.args.query.now.most (shown c.args.page.now) _ _ c.in_err-take.field-0.0
-    c.from_residual-in_err-take.ensures
-    (memory_refused g.H.NodeHash.half c.args.query.now.kind g.S.NodeSource.tells (map.get (g.S.NodeSource.stored c.args.source.now))
+pub visit-returns-in_default-take-clause-visited : goal.visit-returns-in_default-take-clause-visited
+visit-returns-in_default-take-clause-visited g t c =
+    memory_refused g.H.NodeHash.half c.args.query.now.kind g.S.NodeSource.tells (map.get (g.S.NodeSource.stored c.args.source.now))
     c.args.query.now.after (64 - length c.args.id.now) (hashes_above c.args.parent) c.args.id.now c.args.wanted.now
-    c.args.query.now.most (shown c.args.page.now) c.in_err-take.field-0.0
+    c.args.query.now.most (shown c.args.page.now) Memory
     (skip_is false c.skips.result c.args.query.now.after c.args.id.now c.args.wanted.now c.args.query.now.most c.len.result
-    c.args.page.now.leaves.items c.if-skips.false c.skips.ensures (c.len.ensures ∙ c.args.page.now.leaves.ok.0))
-    c.in_err-take.ensures.memory)
+    c.args.page.now.leaves.items c.if-skips.false c.skips.ensures (c.len.ensures ∙ c.args.page.now.leaves.ok.0)) refl
 
-pub visit-returns-in_err-take-clause-source : goal.visit-returns-in_err-take-clause-source
-visit-returns-in_err-take-clause-source g t c = record {
-  same = c.in_ok-node.ensures.source.same;
-  rest = c.in_ok-node.ensures.source.rest;
-  later = c.in_ok-node.ensures.source.later;
-  cause = no_fault _ c.in_err-take.field-0.0 _ c.from_residual-in_err-take.ensures c.in_err-take.ensures.memory;
-}
+pub visit-returns-in_default-take_shared-clause-visited : goal.visit-returns-in_default-take_shared-clause-visited
+visit-returns-in_default-take_shared-clause-visited g t c =
+    memory_refused g.H.NodeHash.half c.args.query.now.kind g.S.NodeSource.tells (map.get (g.S.NodeSource.stored c.args.source.now))
+    c.args.query.now.after (64 - length c.args.id.now) (hashes_above c.args.parent) c.args.id.now c.args.wanted.now
+    c.args.query.now.most (shown c.args.page.now) Memory
+    (skip_is false c.skips.result c.args.query.now.after c.args.id.now c.args.wanted.now c.args.query.now.most c.len.result
+    c.args.page.now.leaves.items c.if-skips.false c.skips.ensures (c.len.ensures ∙ c.args.page.now.leaves.ok.0)) refl
 
 -- the inner node fits and what follows is its branches' turn, so what they want is wanted here
 pub visit-returns-in_err-visit_branches-clause-visited : goal.visit-returns-in_err-visit_branches-clause-visited
 visit-returns-in_err-visit_branches-clause-visited g t c =
-    let takes : Takes c.args.query.now.after (held c.in_ok-node.node.value) (shown c.args.page.now) (shown c.take.new.self)
+    let takes : Takes c.args.query.now.after (held c.in_ok-node.node.value) (shown c.args.page.now) (shown c.take_shared.new.self)
     (Some c.in-Some.inner.now.hashes) =
-    subst (Takes c.args.query.now.after (held c.in_ok-node.node.value) (shown c.args.page.now) (shown c.take.new.self))
-    (sym c.inner_in.ensures ∙ ap hashes_above c.in-Some.is) c.in_ok-take.ensures.taken in
+    subst (Takes c.args.query.now.after (held c.in_ok-node.node.value) (shown c.args.page.now) (shown c.take_shared.new.self))
+    (sym c.inner_in.ensures ∙ ap hashes_above c.in-Some.is) c.in-Ok-take_shared.ensures.taken in
     handed_on g.H.NodeHash.half c.args.query.now.kind g.S.NodeSource.tells (map.get (g.S.NodeSource.stored c.args.source.now))
     (page_from g.H.NodeHash.half c.args.query.now.kind c.args.query.now.after (64 - length c.args.id.now) (hashes_above c.args.parent)
     c.args.id.now c.args.wanted.now) c.args.query.now.most (shown c.args.page.now) _ _ c.in_err-visit_branches.field-0.0
@@ -68,7 +65,7 @@ visit-returns-in_err-visit_branches-clause-visited g t c =
     (inner_refused g.H.NodeHash.half c.args.query.now.kind g.S.NodeSource.tells (map.get (g.S.NodeSource.stored c.args.source.now))
     (map.get (g.S.NodeSource.stored c.node_at.new.source)) (λ told. ap map.get (c.in_ok-node.ensures.source.same told))
     c.args.query.now.after (64 - length c.args.id.now) (63 - length c.args.id.now) (hashes_above c.args.parent) c.args.id.now
-    c.args.wanted.now c.args.query.now.most (shown c.args.page.now) (shown c.take.new.self) (held c.in_ok-node.node.value)
+    c.args.wanted.now c.args.query.now.most (shown c.args.page.now) (shown c.take_shared.new.self) (held c.in_ok-node.node.value)
     c.in-Some.inner.now.hashes
     (level_of g.H.NodeHash.half c.args.query.now.kind (hashes_above c.args.parent) c.args.id.now c.args.wanted.now
     (held c.in_ok-node.node.value) c.in-Some.inner.now.hashes c.known.ensures.short c.in_ok-node.ensures.fits takes.below_is)
@@ -87,19 +84,19 @@ visit-returns-in_default-clause-visited g t c =
     c.args.page.now.leaves.items c.if-skips.false c.skips.ensures (c.len.ensures ∙ c.args.page.now.leaves.ok.0))
     c.in_ok-node.ensures.fits c.in_ok-node.ensures.held
     (subst (Takes c.args.query.now.after (held c.in_ok-node.node.value) (shown c.args.page.now) (shown c.take.new.self))
-    (sym c.inner_in.ensures ∙ ap hashes_above c.in_default.is) c.in_ok-take.ensures.taken)
+    (sym c.inner_in.ensures ∙ ap hashes_above c.in_default.is) c.in-Ok.ensures.taken)
 
 -- the inner node fits, and a place with one says what its branches say in turn
 pub visit-returns-clause-visited : goal.visit-returns-clause-visited
 visit-returns-clause-visited g t c =
-    let takes : Takes c.args.query.now.after (held c.in_ok-node.node.value) (shown c.args.page.now) (shown c.take.new.self)
+    let takes : Takes c.args.query.now.after (held c.in_ok-node.node.value) (shown c.args.page.now) (shown c.take_shared.new.self)
     (Some c.in-Some.inner.now.hashes) =
-    subst (Takes c.args.query.now.after (held c.in_ok-node.node.value) (shown c.args.page.now) (shown c.take.new.self))
-    (sym c.inner_in.ensures ∙ ap hashes_above c.in-Some.is) c.in_ok-take.ensures.taken in
+    subst (Takes c.args.query.now.after (held c.in_ok-node.node.value) (shown c.args.page.now) (shown c.take_shared.new.self))
+    (sym c.inner_in.ensures ∙ ap hashes_above c.in-Some.is) c.in-Ok-take_shared.ensures.taken in
     inner_visited g.H.NodeHash.half c.args.query.now.kind g.S.NodeSource.tells (map.get (g.S.NodeSource.stored c.args.source.now))
     (map.get (g.S.NodeSource.stored c.node_at.new.source)) (λ told. ap map.get (c.in_ok-node.ensures.source.same told))
     c.args.query.now.after (64 - length c.args.id.now) (63 - length c.args.id.now) (hashes_above c.args.parent) c.args.id.now
-    c.args.wanted.now c.args.query.now.most (shown c.args.page.now) (shown c.take.new.self) (held c.in_ok-node.node.value)
+    c.args.wanted.now c.args.query.now.most (shown c.args.page.now) (shown c.take_shared.new.self) (held c.in_ok-node.node.value)
     c.in-Some.inner.now.hashes
     (level_of g.H.NodeHash.half c.args.query.now.kind (hashes_above c.args.parent) c.args.id.now c.args.wanted.now
     (held c.in_ok-node.node.value) c.in-Some.inner.now.hashes c.known.ensures.short c.in_ok-node.ensures.fits takes.below_is)
@@ -149,17 +146,32 @@ visit_branches-loop-b-preserved g t c = record {
   later = omega (arith, c.loop-b.invariant.later, c.in_ok-visit_branch.ensures.source.later);
 }
 
--- an empty branch is skipped
-pub visit_branch-returns-then-is_zero-clause-visited : goal.visit_branch-returns-then-is_zero-clause-visited
-visit_branch-returns-then-is_zero-clause-visited g t c =
-    let zero : is_zero (slice_index_or c.args.inner.now.hashes c.args.b zero_hash) ≡ true =
-    ap is_zero (sym c.branch-wanted.ensures) ∙ sym c.if-is_zero.ensures in
-    skip_visited g.H.NodeHash.half c.args.query.now.kind g.S.NodeSource.tells (map.get (g.S.NodeSource.stored c.args.source.now))
-    c.args.query.now.after (63 - length c.args.id.now) (Some c.args.inner.now.hashes) (c.args.id.now ++ c.args.b ∷ [])
-    (slice_index_or c.args.inner.now.hashes c.args.b zero_hash) c.args.query.now.most (shown c.args.page.now)
-    (zero_skipped c.args.query.now.after (c.args.id.now ++ c.args.b ∷ [])
-    (slice_index_or c.args.inner.now.hashes c.args.b zero_hash) (c.args.query.now.most - length (shown c.args.page.now).items)
-    zero)
+-- an empty branch adds nothing
+pub visit_branches-loop-b-preserved-then-is_zero : goal.visit_branches-loop-b-preserved-then-is_zero
+visit_branches-loop-b-preserved-then-is_zero g t c =
+    let low : c.loop-b.b < length c.hashes-hashes.result.now = omega (arith, c.type_inv.hashes, c.loop-b-test.true) in
+    let zero : is_zero (slice_index_or c.args.inner.now.hashes c.loop-b.b zero_hash) ≡ true =
+    ap (λ hashes. is_zero (slice_index_or hashes c.loop-b.b zero_hash)) (sym c.hashes-hashes.ensures)
+    ∙ ap is_zero (get_or_default c.hashes-hashes.result.now c.loop-b.b zero_hash c.index-hashes-b.result low) ∙ sym c.if-is_zero.ensures in
+    record {
+      visited =
+          branch_visited g.H.NodeHash.half c.args.query.now.kind g.S.NodeSource.tells
+          (map.get (g.S.NodeSource.stored c.args.source.now))
+          (map.get (g.S.NodeSource.stored c.loop-b.source)) (λ told. ap map.get (c.loop-b.invariant.same told))
+          (branch_reading g.H.NodeHash.half c.args.query.now.kind c.args.query.now.after (63 - length c.args.id.now)
+          c.args.inner.now.hashes c.args.id.now) c.args.query.now.most c.loop-b.b (shown c.args.page.now)
+          (shown c.loop-b.page) c.loop-b.invariant.visited _ refl _
+          (skip_visited g.H.NodeHash.half c.args.query.now.kind g.S.NodeSource.tells (map.get (g.S.NodeSource.stored c.loop-b.source))
+          c.args.query.now.after (63 - length c.args.id.now) (Some c.args.inner.now.hashes) (c.args.id.now ++ c.loop-b.b ∷ [])
+          (slice_index_or c.args.inner.now.hashes c.loop-b.b zero_hash) c.args.query.now.most (shown c.loop-b.page)
+          (zero_skipped c.args.query.now.after (c.args.id.now ++ c.loop-b.b ∷ [])
+          (slice_index_or c.args.inner.now.hashes c.loop-b.b zero_hash)
+          (c.args.query.now.most - length (shown c.loop-b.page).items) zero));
+      further = λ all. c.loop-b.invariant.further all;
+      same = λ told. c.loop-b.invariant.same told;
+      rest = c.loop-b.invariant.rest;
+      later = c.loop-b.invariant.later;
+    }
 
 -- what is said of the place below is what is said of the branch
 pub visit_branch-returns-clause-visited : goal.visit_branch-returns-clause-visited
@@ -168,5 +180,5 @@ visit_branch-returns-clause-visited g t c =
     (map.get (g.S.NodeSource.stored c.args.source.now)) reading c.args.query.now.most (shown c.args.page.now) (shown c.visit.new.page)
     c.visit.result)
     (reading_is g.H.NodeHash.half c.args.query.now.kind c.args.query.now.after c.args.inner.now.hashes c.args.id.now c.in-Some.below
-    c.args.b c.branch-wanted.result c.requires.levels c.in-Some.ensures.below c.branch-wanted.ensures)
+    c.args.b c.args.wanted.now c.requires.levels c.in-Some.ensures.below c.requires.hash)
     c.visit.ensures.visited
