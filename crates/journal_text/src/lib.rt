@@ -2,6 +2,7 @@
 #![tactic(auto)]
 
 mod acquire;
+mod digits;
 mod entry;
 mod offers;
 mod reads;

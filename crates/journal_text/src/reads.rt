@@ -4,7 +4,7 @@ ghost use Rattle.std.specs.String.{string_bytes};
 ghost use Rattle.shamap_node.specs.Nodes.{held};
 ghost use Rattle.journal_text.specs.Text.{view_text, unview_text, get_text, page_text, value_text, item_text};
 
-use crate::words::{push_bytes, push_hash};
+use crate::words::{push_bytes, push_key};
 use ledger_machine::{GetReply, PageReply, ViewReply};
 use shamap_node::Node;
 use std::alloc::AllocError;
@@ -82,9 +82,7 @@ fn push_item(text: &mut String, node: &Node) -> Result<(), AllocError>
 {
     match node {
         Node::Leaf(leaf) => {
-            text.push_str(" ")?;
-            push_hash(text, leaf.item.key())?;
-            text.push_str("=")?;
+            push_key(text, leaf.item.key())?;
             push_bytes(text, leaf.item.data())
         }
         Node::Inner(_) => text.push_str(" =-"),
