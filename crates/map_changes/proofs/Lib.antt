@@ -7,6 +7,7 @@ pub mod Listing
 pub mod Linking
 pub mod Hashed
 pub mod Reaching
+pub mod Settling
 pub mod Sharing
 pub mod Telling
 pub mod Tracks

@@ -4,3 +4,4 @@ pub mod Walks
 pub mod Trees
 pub mod Listed
 pub mod Tracking
+pub mod Rounds

@@ -4,10 +4,15 @@ ghost use Rattle.std.specs.Prelude.{◌≡◌, ◌<◌, ◌+◌, ℕ, true, leng
 ghost use Rattle.cow_map.specs.declared.link.Link.TheVariants.{Own as own_link};
 ghost use Rattle.map_changes.specs.Tracking.{place_of, link_hash, AreHashes, AreClosed, IsKnown, KnowsKids, KnowsAll};
 
+use crate::ahead::hash_many;
 use crate::nodes::{form, known, place};
 use cow_map::{Cow, CowMap, Link};
 use half_hash::{Hash32, Memory, NodeHash};
 use std::alloc::Global;
+use std::thread::Threads;
+
+/// From so many new nodes on they are hashed side by side.
+const MANY: usize = 4096;
 
 /// So many nodes that aren't marked.
 fn unmarked(alloc: Global, n: usize) -> Result<Vec<bool>, Memory> {
@@ -40,7 +45,7 @@ fn mark_kids(map: &CowMap, marks: &mut Vec<bool>, start: usize, at: usize) {
 
 /// Marks, of the nodes from `start` on, those that the top reaches. Links name lower places, so that the
 /// marks of a node are set before it is looked at, from the last one down.
-fn reached(alloc: Global, map: &CowMap, start: usize) -> Result<Vec<bool>, Memory> {
+pub(crate) fn reached(alloc: Global, map: &CowMap, start: usize) -> Result<Vec<bool>, Memory> {
     let more = map.node_count().saturating_sub(start);
     let mut marks = unmarked(alloc, more)?;
     mark(&mut marks, start, &map.top());
@@ -95,7 +100,8 @@ fn add_hash<H: NodeHash>(
 
 /// Adds the hashes of the nodes that have none yet and that the top reaches. After want of memory some may
 /// be there. A top whose hash isn't known then is answered as want of memory.
-pub(crate) fn fill<H: NodeHash>(
+pub(crate) fn fill<R: Threads + Sync, H: NodeHash>(
+    rt: &R,
     alloc: Global,
     map: &CowMap,
     hashes: &mut Vec<Option<Hash32>>,
@@ -108,6 +114,9 @@ pub(crate) fn fill<H: NodeHash>(
     // then the hash at each place that the top reaches is known
     ensures all { OnOk result ((steps : ℕ) → KnowsAll map.now.nodes hashes.new.items steps map.now.top) }
 {
+    if map.node_count().saturating_sub(hashes.len()) >= MANY {
+        hash_many::<R, H>(rt, alloc, map, hashes)?;
+    }
     let marks = reached(alloc, map, hashes.len())?;
     for is_wanted in marks {
         add_hash::<H>(alloc, map, hashes, is_wanted)?;

@@ -1,6 +1,7 @@
 //! A map of items that tells its changes: the nodes that are others than when it was last asked, and the root.
 #![tactic(auto)]
 
+mod ahead;
 mod hashing;
 mod laws;
 mod nodes;

@@ -65,21 +65,16 @@ fn hash_in(hashes: &[Option<Hash32>], link: &Link) -> Result<Hash32, Memory>
 }
 
 /// The hashes of an inner node's links.
-fn hashes_below(
-    alloc: Global,
-    hashes: &[Option<Hash32>],
-    links: &Links,
-) -> Result<Vec<Hash32>, Memory>
+fn hashes_below(hashes: &[Option<Hash32>], links: &Links) -> Result<[Hash32; 16], Memory>
     requires { length links.now ≡ 16 }
     ensures hashes { IfOk result (λ below. (half : Half) (kind : KindOf) (nodes : List Body) →
-        AreHashes half kind nodes hashes.now → below.items ≡ map (link_hash half kind nodes) links.now) }
-    ensures count { IfOk result (λ below. length below.items ≡ 16) }
+        AreHashes half kind nodes hashes.now → below ≡ map (link_hash half kind nodes) links.now) }
     ensures known { IfOk result (λ _. (b : ℕ) → b < 16 → (i : ℕ) → place_of (slice_index_or links.now b empty_link) ≡ Some i
         → IsKnown hashes.now i) }
 {
-    let mut below = Vec::with_capacity(alloc, 16)?;
+    let mut below = [Hash32::zero(); 16];
     for b in 0..16u8 {
-        below.push(hash_in(hashes, &links.get(b))?)?;
+        below[b as usize] = hash_in(hashes, &links.get(b))?;
     }
     Ok(below)
 }
@@ -100,7 +95,7 @@ pub(crate) fn form(
     map.known();
     match map.node(at) {
         Some(Cow::Inner(links)) => {
-            let below = hashes_below(alloc, hashes, links)?;
+            let below = hashes_below(hashes, links)?;
             Ok(inner_form(alloc, &below)?)
         }
         Some(Cow::Leaf(item)) => Ok(leaf_form(alloc, map.kind(), item)?),
@@ -109,13 +104,10 @@ pub(crate) fn form(
 }
 
 /// The wire form that is written of an inner node.
-fn inner_wire(alloc: Global, below: &[Hash32]) -> Result<Blob, Memory>
-    requires { length below.now ≡ 16 }
-    ensures { IfOk result (λ blob. blob ≡ wire_of (held.inner below.now)) }
+fn inner_wire(alloc: Global, below: [Hash32; 16]) -> Result<Blob, Memory>
+    ensures { IfOk result (λ blob. blob ≡ wire_of (held.inner below)) }
 {
-    let mut hashes = [Hash32::zero(); 16];
-    hashes.copy_from_slice(below);
-    match Inner::new(hashes) {
+    match Inner::new(below) {
         Some(inner) => Ok(encode_wire(alloc, &Node::Inner(inner))?),
         // where all hashes are zero there is no chunk
         None => Ok(Blob::from_slice(alloc, &[CHUNKS_TYPE])?),
@@ -135,8 +127,8 @@ pub(crate) fn wire(
     map.known();
     match map.node(at) {
         Some(Cow::Inner(links)) => {
-            let below = hashes_below(alloc, hashes, links)?;
-            Ok(inner_wire(alloc, &below)?)
+            let below = hashes_below(hashes, links)?;
+            Ok(inner_wire(alloc, below)?)
         }
         Some(Cow::Leaf(item)) => Ok(leaf_wire(alloc, map.kind(), item)?),
         None => Ok(Blob::new(Vec::new(alloc))),

@@ -20,6 +20,7 @@ use path_proof::NoSource;
 use shamap_node::{Item, Kind};
 use std::alloc::Global;
 use std::marker::{Model, PhantomData};
+use std::thread::Threads;
 
 /// A map of items that tells which of its nodes are others than when it was last asked.
 ///
@@ -138,7 +139,11 @@ impl<H: NodeHash> TrackedMap<H> {
 
     /// The nodes whose place held another node or none when it was last asked, in pre-order. Where memory is refused it is the same map,
     /// of which the same was asked; some hashes may be known that weren't.
-    pub fn take_changes(&mut self, alloc: Global) -> Result<Vec<PlacedNode>, Memory>
+    pub fn take_changes<R: Threads + Sync>(
+        &mut self,
+        rt: &R,
+        alloc: Global,
+    ) -> Result<Vec<PlacedNode>, Memory>
         ensures kind { OnOk result (leaves_in self.new ≡ leaves_in self.old) }
         ensures items { OnOk result (items_in self.new ≡ items_in self.old) }
         ensures shown { OnOk result (shown_in H.half self.new ≡ nodes_of H.half (leaves_in self.old) (items_in self.old)) }
@@ -146,20 +151,20 @@ impl<H: NodeHash> TrackedMap<H> {
             (changed (shown_in H.half self.old) (nodes_of H.half (leaves_in self.old) (items_in self.old)))) }
         ensures err { OnErr result (self.new ≡ record self.old { hashes = self.new.hashes }) }
     {
-        self.hash_nodes(alloc)?;
+        self.hash_nodes(rt, alloc)?;
         let changes = self.changes(alloc)?;
         self.note_shown();
         Ok(changes)
     }
 
     /// Hashes the nodes that it has made since they were last hashed.
-    fn hash_nodes(&mut self, alloc: Global) -> Result<(), Memory>
+    fn hash_nodes<R: Threads + Sync>(&mut self, rt: &R, alloc: Global) -> Result<(), Memory>
         ensures tree { self.new.tree ≡ self.old.tree }
         ensures last { self.new.last ≡ self.old.last }
         // then the hash at each place that the top reaches is known
         ensures all { OnOk result ((steps : ℕ) → KnowsAll self.new.tree.nodes self.new.hashes steps self.new.tree.top) }
     {
-        fill::<H>(alloc, &self.tree, &mut self.hashes)
+        fill::<R, H>(rt, alloc, &self.tree, &mut self.hashes)
     }
 
     /// What it is now is what was shown.

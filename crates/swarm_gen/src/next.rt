@@ -20,6 +20,7 @@ use ledger_header::Header;
 use map_changes::{PlacedNode, Root, TrackedMap};
 use shamap_node::Kind;
 use std::alloc::Global;
+use std::thread::Threads;
 
 /// All drops that there are in each ledger.
 const DROPS: u64 = 100_000_000_000_000_000;
@@ -120,7 +121,8 @@ struct Changes {
 }
 
 /// What the ledger of a sequence changes, or none where one of its maps is empty.
-fn take_all<H: NodeHash>(
+fn take_all<R: Threads + Sync, H: NodeHash>(
+    rt: &R,
     alloc: Global,
     plan: &Plan,
     state: &mut TrackedMap<H>,
@@ -134,8 +136,8 @@ fn take_all<H: NodeHash>(
     ensures shown { OnOk result (shown_in H.half state.new ≡ state_nodes H.half plan.now seq) }
 {
     let mut txs = txs::<H>(alloc, plan, seq)?;
-    let state_nodes = state.take_changes(alloc)?;
-    let tx_nodes = txs.take_changes(alloc)?;
+    let state_nodes = state.take_changes(rt, alloc)?;
+    let tx_nodes = txs.take_changes(rt, alloc)?;
     let Some(state_root) = state.root(alloc)? else {
         return Ok(None);
     };
@@ -151,7 +153,8 @@ fn take_all<H: NodeHash>(
 }
 
 /// The ledger of a sequence, as it is sent, or none where it isn't made.
-pub(crate) fn next_ledger<H: NodeHash>(
+pub(crate) fn next_ledger<R: Threads + Sync, H: NodeHash>(
+    rt: &R,
     alloc: Global,
     plan: &Plan,
     state: &mut TrackedMap<H>,
@@ -165,7 +168,7 @@ pub(crate) fn next_ledger<H: NodeHash>(
     ensures shown { IfOk result (λ next. IfSome next (λ _. (shown_in H.half state.new ≡ state_nodes H.half plan.now seq)
         × (are_nonzero H.half (state_nodes H.half plan.now seq) ≡ true))) }
 {
-    let Some(changes) = take_all::<H>(alloc, plan, state, seq)? else {
+    let Some(changes) = take_all::<R, H>(rt, alloc, plan, state, seq)? else {
         return Ok(None);
     };
     let Changes {

@@ -3,7 +3,7 @@
 ghost use Rattle.std.specs.Prelude.{◌==◌, ◌≡◌, ◌+◌, ◌-◌, ◌%◌, ◌≤◌, [], ◌∷◌, ◌++◌, if◌then◌else◌, length, IfOk, IsTrue, OnOk};
 ghost use Rattle.std.specs.List.{All};
 ghost use Rattle.ledger_spec.specs.Bytes.{is_zero, is_nonzero};
-ghost use Rattle.ledger_spec.specs.Maps.{hash_cmp, insert_in};
+ghost use Rattle.ledger_spec.specs.Maps.{hash_cmp, insert_in, IsMap};
 ghost use Rattle.ledger_spec.specs.Forms.{data_limit};
 ghost use Rattle.cow_map.specs.Gathered.{entries_of};
 ghost use Rattle.swarm_gen.specs.Plans.{IsPlan};
@@ -130,15 +130,31 @@ fn push_item(items: &mut Vec<Item>, key: Hash32, value: Blob) -> Result<(), Memo
     Ok(())
 }
 
+/// The items with their keys, in the order of the keys, one behind the other: each ledger looks at all of them.
+pub(crate) fn listed(
+    alloc: Global,
+    owners: &BTreeMap<Hash32, u32>,
+) -> Result<Vec<(Hash32, u32)>, Memory>
+    ensures items { IfOk result (λ listed. listed.items ≡ owners.now.entries) }
+    ensures sorted { IfOk result (λ listed. IsMap hash_cmp listed.items) }
+{
+    let mut listed = Vec::new(alloc);
+    for (key, item) in owners {
+        listed.push((*key, *item))?;
+    }
+    Ok(listed)
+}
+
 /// The account state of the next ledger.
 pub(crate) fn advance<H: NodeHash>(
     alloc: Global,
     plan: &Plan,
-    owners: &BTreeMap<Hash32, u32>,
+    owners: &[(Hash32, u32)],
     state: &mut TrackedMap<H>,
     seq: u32,
 ) -> Result<(), Memory>
-    requires owners { owners.now.entries ≡ owners_of H.half plan.now }
+    requires owners { owners.now ≡ owners_of H.half plan.now }
+    requires sorted { IsMap hash_cmp owners.now }
     requires seq { 2 ≤ seq }
     requires items { items_in state.old ≡ state_of H.half plan.now (seq - 1) }
     ensures rest { OnOk result (KeepsShown H.half state.old state.new) }

@@ -17,6 +17,7 @@ use run_io::Source;
 use run_words::{Words, read_words};
 use script_form::{ScriptFault, read_script};
 use std::alloc::Global;
+use std::thread::Threads;
 use swarm_gen::{Plan, make};
 
 /// What the words ask for, or none where they are no command.
@@ -89,7 +90,8 @@ pub(crate) fn stop_of(asked: &Words) -> Option<StopAsked>
 
 /// The script that is asked for: a replay's is read from the source, a swarm's is made from its plan, and
 /// nothing is read.
-pub(crate) fn script_for<H: NodeHash, S: Source>(
+pub(crate) fn script_for<R: Threads + Sync, H: NodeHash, S: Source>(
+    rt: &R,
     alloc: Global,
     asked: &Words,
     source: &mut S,
@@ -108,18 +110,22 @@ pub(crate) fn script_for<H: NodeHash, S: Source>(
     match asked {
         Words::Replay { .. } => read_script::<H, S>(alloc, source),
         Words::Stop { .. } => read_script::<H, S>(alloc, source),
-        Words::Swarm { plan, .. } => made::<H>(alloc, plan),
+        Words::Swarm { plan, .. } => made::<R, H>(rt, alloc, plan),
     }
 }
 
 // The script of a plan.
-fn made<H: NodeHash>(alloc: Global, plan: &Plan) -> Result<Script, ScriptFault>
+fn made<R: Threads + Sync, H: NodeHash>(
+    rt: &R,
+    alloc: Global,
+    plan: &Plan,
+) -> Result<Script, ScriptFault>
     requires { IsPlan plan.now }
     ensures script { IfOk result (λ s. (s.records.items ≡ []) × (s.lines.items ≡ swarm H.half plan.now)) }
     ensures servable { IfOk result (λ s. AreServable s.lines.items) }
     ensures err { IfErr result (λ e. e ≡ ScriptFault.Memory) }
 {
-    match make::<H>(alloc, plan) {
+    match make::<R, H>(rt, alloc, plan) {
         Ok(script) => Ok(script),
         Err(Memory) => Err(ScriptFault::Memory),
     }

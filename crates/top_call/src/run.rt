@@ -148,7 +148,7 @@ pub fn ledger_run<R: Threads + Wait + Sync, H: NodeHash, S: Source, K: Sink, Sh:
         let _ = write_all(sink, USAGE_TEXT);
         return without_core(USAGE);
     };
-    let script = match script_for::<H, S>(alloc, &asked, source) {
+    let script = match script_for::<R, H, S>(rt, alloc, &asked, source) {
         Ok(script) => script,
         Err(ScriptFault::Memory) => return without_core(NO_MEMORY),
         Err(ScriptFault::Fault) => return without_core(SOURCE_FAILED),

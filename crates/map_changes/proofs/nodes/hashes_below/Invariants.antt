@@ -9,8 +9,8 @@ use Rattle.map_changes.proofs.nodes.hashes_below.Given as goal
 
 abbrev pub invariant-loop-b : goal.invariant-loop-b
 invariant-loop-b l = record {
+  size : length l.below ≡ 16;
   hashes : (half : Half) (kind : Kind) (nodes : List Body) → AreHashes half kind nodes l.hashes
-      → l.below.items ≡ map (link_hash half kind nodes) (take l.b l.links);
-  count : length l.below.items ≡ l.b;
+      → take l.b l.below ≡ map (link_hash half kind nodes) (take l.b l.links);
   known : (b : ℕ) → b < l.b → (i : ℕ) → place_of (slice_index_or l.links b Empty) ≡ Some i → IsKnown l.hashes i;
 }

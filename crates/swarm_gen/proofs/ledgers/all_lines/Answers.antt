@@ -31,7 +31,7 @@ loop-j-preserved g c =
     let j = c.loop-j.j in
     let i = c.loop-j.invariant in
     let lt : j < plan.ledgers = c.loop-j-test.true in
-    let keys = c.deref-in-loop-j.ensures.value ∙ c.in_ok-keys.ensures.keys in
+    let keys = c.deref-in-loop-j-2.ensures.value ∙ c.in_ok-keys.ensures.keys in
     let made = sym c.in_ok-more.ensures.made ∙ c.if-not-more.false in
     let added = added_as half plan _ (j + 1) _ true _ _ _ _ c.if-not-more.false c.in_ok-more.ensures.lines in
     record {

@@ -1,10 +1,10 @@
-use Rattle.std.proofs.Common.{ℕ, ◌++◌, ◌∷◌, ◌-◌, List, [], map, ap, sym, ◌∙◌, subst, refl, append-nil}
-use Rattle.std.specs.Map.Iter.{deref_pair}
-use Rattle.std.proofs.lemmas.List.{map-append}
+use Rattle.std.proofs.Common.{◌≡◌, ◌<◌, ◌≤◌, ℕ, ◌+◌, ◌++◌, ◌∷◌, ◌-◌, List, [], length, drop, map, take, ap, sym, ◌∙◌, subst, refl, append-nil, arith}
+use Rattle.std.proofs.Common.{take-append-drop}
+use Rattle.std.proofs.lemmas.List.{drop_all, drop_more, take_all, take_more}
 use Rattle.ledger_spec.specs.Bytes.{Hash}
 use Rattle.ledger_spec.specs.Maps.{hash_cmp, IsMap}
 use Rattle.swarm_gen.specs.Ledgers.{owners_of}
-use Rattle.swarm_gen.proofs.Owners.{on, data_in, state_is, advance_step, split_more, split_on, split_end}
+use Rattle.swarm_gen.proofs.Owners.{on, data_in, state_is, advance_step}
 use Rattle.swarm_gen.proofs.state.advance.Goals as goal
 
 -- no owner was visited yet, so all have the data that they had in the ledger before
@@ -13,12 +13,10 @@ loop-key-init g c =
     let half = g.H.NodeHash.half in
     let plan = c.args.plan.now in
     let seq = c.args.seq in
-    let start = c.into_iter-key-iterator.ensures.into_iter_gives.0 in
     record {
       leaves = refl;
-      items = c.requires.items ∙ state_is half plan (seq - 1) ∙ ap (map (on (data_in (seq - 1)))) (sym c.requires.owners ∙ sym start);
+      items = c.requires.items ∙ state_is half plan (seq - 1) ∙ ap (map (on (data_in (seq - 1)))) (sym c.requires.owners);
       shown = refl;
-      split = start;
     }
 
 -- one owner more is brought to this ledger, at its own place behind those visited and before the others
@@ -27,24 +25,25 @@ loop-key-preserved g c =
     let half = g.H.NodeHash.half in
     let plan = c.args.plan.now in
     let seq = c.args.seq in
+    let all : List (Hash × ℕ) = c.args.owners.now in
+    let k = c.loop-key.key-index in
     let i = c.loop-key.invariant in
     let s = c.in_ok-set_where_due.ensures in
-    let ys : List (Hash × ℕ) = map deref_pair c.loop-key.yielded in
-    let rest : List (Hash × ℕ) = c.next.new.self in
-    let e : Hash × ℕ = (c.in-Some.key.now, c.in-Some.item.now) in
-    let more = map-append deref_pair c.loop-key.yielded ((c.in-Some.key, c.in-Some.item) ∷ []) in
-    let split = split_more c.args.owners.now.entries ys c.loop-key.key-iterator rest e i.split c.in-Some.ensures.steps in
+    let lt : k < length all = c.loop-key-test.true in
+    let ys : List (Hash × ℕ) = take k all in
+    let rest : List (Hash × ℕ) = drop (k + 1) all in
+    let e : Hash × ℕ = c.loop-key-item.result in
+    let from : drop k all ≡ e ∷ rest = drop_more all k e lt ∙ ap (λ (x : Hash × ℕ). x ∷ rest) (sym c.loop-key-item.is) in
+    let more : take (k + 1) all ≡ ys ++ e ∷ [] = take_more all k e lt ∙ ap (λ (x : Hash × ℕ). ys ++ x ∷ []) (sym c.loop-key-item.is) in
+    let split : all ≡ ys ++ e ∷ rest = sym (take-append-drop k all) ∙ ap (λ (x : List (Hash × ℕ)). ys ++ x) from in
     let sorted : IsMap hash_cmp (owners_of half plan) = subst (λ (x : List (Hash × ℕ)). IsMap hash_cmp x) c.requires.owners
-    c.into_iter-key-iterator.ensures.into_iter_gives.5 in
-    let before = i.items ∙ ap (λ (x : List (Hash × ℕ)). map (on (data_in seq)) ys ++ map (on (data_in (seq - 1))) x)
-    c.in-Some.ensures.steps in
+    c.requires.sorted in
+    let before = i.items ∙ ap (λ (x : List (Hash × ℕ)). map (on (data_in seq)) ys ++ map (on (data_in (seq - 1))) x) from in
     record {
       leaves = s.rest.leaves ∙ i.leaves;
-      items = advance_step half plan seq ys rest c.in-Some.key.now c.in-Some.item.now _ _ c.requires.seq (sym c.requires.owners ∙ split)
-          sorted before s.items
+      items = advance_step half plan seq ys rest e.0 e.1 _ _ c.requires.seq (sym c.requires.owners ∙ split) sorted before s.items
           ∙ ap (λ (x : List (Hash × ℕ)). map (on (data_in seq)) x ++ map (on (data_in (seq - 1))) rest) (sym more);
       shown = s.rest.shown ∙ i.shown;
-      split = ap (λ (x : List (Hash × ℕ)). x ++ rest) more ∙ split_on c.args.owners.now.entries ys rest e split;
     }
 
 -- no owner is left, so all have this ledger's data, and an account state is just the owners with their data
@@ -53,10 +52,9 @@ returns-clause-items g c =
     let half = g.H.NodeHash.half in
     let plan = c.args.plan.now in
     let seq = c.args.seq in
-    let i = c.loop-key.invariant in
-    let none = c.in-None.ensures.steps.0 in
-    let all = split_end c.args.owners.now.entries (map deref_pair c.loop-key.yielded) c.loop-key.key-iterator i.split none in
-    i.items ∙ ap (λ (x : List (Hash × ℕ)). map (on (data_in seq)) (map deref_pair c.loop-key.yielded) ++ map (on (data_in (seq - 1))) x)
-    none
-    ∙ append-nil (map (on (data_in seq)) (map deref_pair c.loop-key.yielded)) ∙ ap (map (on (data_in seq))) (all ∙ c.requires.owners)
-    ∙ sym (state_is half plan seq)
+    let all : List (Hash × ℕ) = c.args.owners.now in
+    let k = c.loop-key.key-index in
+    let end : length all ≤ k = omega (arith, c.loop-key-test.false) in
+    c.loop-key.invariant.items
+    ∙ (λ j. map (on (data_in seq)) (take_all k all end j) ++ map (on (data_in (seq - 1))) (drop_all k all end j))
+    ∙ append-nil (map (on (data_in seq)) all) ∙ ap (map (on (data_in seq))) c.requires.owners ∙ sym (state_is half plan seq)
