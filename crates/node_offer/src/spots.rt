@@ -16,13 +16,16 @@ ghost use Rattle.node_offer.specs.Stored.{IsPlain};
 ghost use Rattle.node_offer.specs.Ways.{hashes_of_parent, spot, spot_found, step_down, step_of, way_on, HasInner};
 
 use crate::fault::OfferFault;
-use half_hash::{Blob, Hash32, NodeHash};
+use half_hash::{Blob, Hash32, Memory, NodeHash};
 use ledger_header::Header;
 use nib_path::{NodeId, nibble};
 use node_backend::{BackFault, Shelf};
 use rotating_store::{RotStore, own_form_into};
 use shamap_node::{Inner, Kind, inner_branch, inner_of, is_inner_form};
 use std::alloc::Global;
+
+/// How many bytes the form of an inner node has: its prefix and sixteen hashes.
+const INNER_BYTES: usize = 516;
 
 /// What a place in a ledger's map is.
 #[derive(Clone, Copy, Debug)]
@@ -99,6 +102,11 @@ pub fn place<H: NodeHash, Sh: Shelf>(
     Ok(found.spot())
 }
 
+// An empty room in which the form of each inner node finds place.
+fn room_for_inner(alloc: Global) -> Result<Vec<u8>, Memory> {
+    Ok(Vec::with_capacity(alloc, INNER_BYTES)?)
+}
+
 /// The same, with the form of the inner node above the place.
 pub(crate) fn find<H: NodeHash, Sh: Shelf>(
     alloc: Global,
@@ -114,7 +122,7 @@ pub(crate) fn find<H: NodeHash, Sh: Shelf>(
     ensures fault { IfErr result (λ e. e ≡ OfferFault.Fault → Rose store.old.faults store.new.faults) }
     ensures kind { IfErr result IsPlain }
 {
-    let mut room = Vec::new(alloc);
+    let mut room = room_for_inner(alloc)?;
     let root = root_into::<H, Sh>(alloc, store, target, kind, &mut room)?;
     match root {
         None => Ok(Found::NoBase),
