@@ -22,6 +22,7 @@ use Rattle.rotating_store.specs.contracts.store.RotStore.TheInside as RotStoreIn
 use Rattle.acquire_core.specs.contracts.acquire.Acquire as Acquire
 use Rattle.online_rotate.specs.contracts.rotator.Rotator as Rotator
 use Rattle.retain_book.specs.contracts.Book as Book
+use Rattle.cow_map.specs.contracts.table.Table as Table
 use Rattle.open_sessions.specs.contracts.open.Open as Open
 use Rattle.core_machine.specs.contracts.tables.Tables as Tables
 use Rattle.core_machine.specs.contracts.tables.Tables.TheInside as TablesIn
@@ -69,8 +70,15 @@ Rotator-send = search (Hash32-send, HashSet-send, HashMap-send, frees, send, cro
 Book-send : IsSend Book.the_row
 Book-send = search (Hash32-send, crosses, maps, sendable) depth 40
 
+-- what a map's nodes share of the source's
+Table-send : IsSend Table.the_row
+Table-send = search (Hash32-send, Hash32-sync, Node-send, Node-sync, crosses, sendable) depth 40
+
+Table-sync : IsSync Table.the_row
+Table-sync = search (Hash32-send, Hash32-sync, Node-send, Node-sync, crosses, sendable) depth 40
+
 Open-send : IsSend Open.the_row
-Open-send = search (Hash32-send, Node-send, Node-sync, frees, send, crosses, maps, sendable) depth 60 fits 100000
+Open-send = search (Hash32-send, Hash32-sync, Table-send, Table-sync, crosses, maps, sendable) depth 60 fits 100000
 
 Searches-send : IsSend (Searches.the_field).row
 Searches-send =

@@ -23,6 +23,7 @@ pub(crate) fn reads_from(
     most: usize,
 ) -> Vec<ReadJob> {
     let mut jobs = Vec::new(alloc);
+    let _room = jobs.reserve(most.min(AHEAD));
     if jobs.push(first).is_err() || most < 2 {
         return jobs;
     }
