@@ -34,15 +34,20 @@ fn sealed(alloc: Global, map: &CowMap) -> Result<String, Fail> {
     Ok(format!(in alloc; "{root} {forms} {inner}")?)
 }
 
+/// Puts the item of this last byte.
+fn put(alloc: Global, map: &mut CowMap, last: u8) -> Result<(), Fail> {
+    let item = item(alloc, 0x10, last)?;
+    let put = map.put::<Half512, NoSource>(alloc, &mut NoSource, item);
+    put.ok().ok_or("no put")?;
+    Ok(())
+}
+
 /// Both items where the first nibble is theirs, or none.
 fn part(alloc: Global, b: u8) -> Result<CowMap, Fail> {
     let mut map = CowMap::new(alloc, Kind::State);
     if b == 1 {
-        for last in [0, 1] {
-            let item = item(alloc, 0x10, last)?;
-            let put = map.put::<Half512, NoSource>(alloc, &mut NoSource, item);
-            put.ok().ok_or("no put")?;
-        }
+        put(alloc, &mut map, 0)?;
+        put(alloc, &mut map, 1)?;
     }
     Ok(map)
 }

@@ -14,7 +14,7 @@ const CALLS: u64 = 59;
 fn form(alloc: Global, first: u8) -> Result<Vec<u8>, Fail> {
     let mut key = [0; 32];
     key[0] = first;
-    let mut form = Vec::from_slice(alloc, b"MLN\0data")?;
+    let mut form = Vec::from_slice(alloc, "MLN\0data".as_bytes())?;
     form.extend_from_slice(&key)?;
     Ok(form)
 }
@@ -89,21 +89,53 @@ fn left(alloc: Global, store: &RotStore<LogShelf<MemRoom>>, pick: u8) -> Result<
     Ok(room?)
 }
 
-/// A run that stops after so many calls: how many records are found, and how many are lost. `- -` where no store was opened.
-fn stopped(alloc: Global, at: u64, pick: u8) -> Result<String, Fail> {
-    let Ok(shelf) = LogShelf::new(alloc, MemRoom::new(alloc, Some(at))?) else {
-        return Ok(String::from_str(alloc, "- -")?);
-    };
-    let Ok(mut store) = RotStore::open(alloc, shelf) else {
-        return Ok(String::from_str(alloc, "- -")?);
-    };
-    run(alloc, &mut store)?;
-    let mut room = left(alloc, &store, pick)?;
-    let records = recover::<TinyHash, MemRoom>(alloc, &mut room);
-    let records = records.ok().ok_or("not recovered")?;
-    let lost = lost(alloc, &mut store, &records)?;
+/// What is recovered of a room.
+fn recovered(alloc: Global, room: &mut MemRoom) -> Result<Vec<Record>, Fail> {
+    let records = recover::<TinyHash, MemRoom>(alloc, room);
+    Ok(records.ok().ok_or("not recovered")?)
+}
+
+/// What is recovered of what a stop leaves of the store's disks, by pick.
+fn found(
+    alloc: Global,
+    store: &RotStore<LogShelf<MemRoom>>,
+    pick: u8,
+) -> Result<Vec<Record>, Fail> {
+    let mut room = left(alloc, store, pick)?;
+    recovered(alloc, &mut room)
+}
+
+/// How many records are found behind a run over the store, and how many are lost.
+fn counted(
+    alloc: Global,
+    store: &mut RotStore<LogShelf<MemRoom>>,
+    pick: u8,
+) -> Result<String, Fail> {
+    run(alloc, store)?;
+    let records = found(alloc, store, pick)?;
+    let lost = lost(alloc, store, &records)?;
     let found = records.len();
     Ok(format!(in alloc; "{found} {lost}")?)
+}
+
+/// A store over this room, where one can be opened.
+fn opened(alloc: Global, room: MemRoom) -> Option<RotStore<LogShelf<MemRoom>>> {
+    match LogShelf::new(alloc, room) {
+        Ok(shelf) => RotStore::open(alloc, shelf).ok(),
+        Err(_) => None,
+    }
+}
+
+/// A run that stops after so many calls: how many records are found, and how many are lost. `- -` where no store was opened.
+fn stopped(alloc: Global, at: u64, pick: u8) -> Result<String, Fail> {
+    let room = MemRoom::new(alloc, Some(at))?;
+    match opened(alloc, room) {
+        Some(store) => {
+            let mut store = store;
+            counted(alloc, &mut store, pick)
+        }
+        None => Ok(String::from_str(alloc, "- -")?),
+    }
 }
 
 #[test]
@@ -121,13 +153,19 @@ fn a_stop_at_any_call_loses_no_form(rt: HostRuntime) -> Result<(), Fail> {
     Ok(())
 }
 
+/// A stop and a pick, and what is told of it. One call less, and the log that the last swap dropped is still live.
+const KEPT: [(u64, u8, &str); 4] = [
+    (59, 0, "2 0"),
+    (59, 1, "2 0"),
+    (59, 2, "2 0"),
+    (58, 0, "4 0"),
+];
+
 #[test]
 fn what_was_kept_is_found_where_nothing_stops(rt: HostRuntime) -> Result<(), Fail> {
-    let alloc = rt.alloc();
-    for pick in 0..3u8 {
-        assert_eq!(rt; stopped(alloc, CALLS, pick)?.as_str(), "2 0", "{pick}");
+    for (at, pick, says) in &KEPT {
+        let said = stopped(rt.alloc(), *at, *pick)?;
+        assert_eq!(rt; said.as_str(), *says, "{at} {pick}");
     }
-    // One call less, and the log that the last swap dropped is still live.
-    assert_eq!(rt; stopped(alloc, CALLS - 1, 0)?.as_str(), "4 0");
     Ok(())
 }

@@ -5,6 +5,7 @@ use path_proof::{FetchFault, NodeSource, Outcome, follow, node_of_form, read};
 use script_form::{LineFault, record_of};
 use shamap_node::{Kind, Node};
 use std::alloc::Global;
+use std::process::Abort;
 use std::sync::Arc;
 use std::test::Fail;
 
@@ -33,16 +34,27 @@ const PATHS: &str = "17 17 => value
 32 48 => nothing
 32 18 => none";
 
+/// As many zeros as `]` stands for.
+const ZEROS: &str = "00000000000000000000000000000000000000000000000000000000000000";
+
+/// Adds what the byte stands for.
+fn add(bytes: &mut Vec<u8>, byte: u8) -> Result<(), Fail> {
+    match byte {
+        b']' => bytes.extend_from_slice(ZEROS.as_bytes())?,
+        b'_' => {
+            bytes.extend_from_slice(ZEROS.as_bytes())?;
+            bytes.extend_from_slice("00".as_bytes())?;
+        }
+        other => bytes.push(other)?,
+    }
+    Ok(())
+}
+
 /// The bytes that are written in short.
-fn expand(alloc: Global, short: &str) -> Result<Vec<u8>, Fail> {
-    let zeros = [b'0'; 64];
+pub(crate) fn expand(alloc: Global, short: &str) -> Result<Vec<u8>, Fail> {
     let mut bytes = Vec::new(alloc);
     for byte in short.bytes() {
-        match byte {
-            b']' => bytes.extend_from_slice(&zeros[..62])?,
-            b'_' => bytes.extend_from_slice(&zeros)?,
-            other => bytes.push(other)?,
-        }
+        add(&mut bytes, byte)?;
     }
     Ok(bytes)
 }
@@ -92,16 +104,22 @@ fn record_word(alloc: Global, held: &mut Vec<Record>, text: &[u8]) -> Result<Str
     }
 }
 
+/// Keeps the record of a line, which must be read as the line says.
+fn read_line(alloc: Global, held: &mut Vec<Record>, line: &str) -> Result<(), Fail> {
+    let (record, says) = line.split_once(" => ").ok_or("answer")?;
+    let text = expand(alloc, record)?;
+    let said = record_word(alloc, held, &text)?;
+    if said.as_str() != says {
+        return Err("another record".into());
+    }
+    Ok(())
+}
+
 /// The records.
 pub(crate) fn known_records(alloc: Global) -> Result<Records, Fail> {
     let mut held = Vec::new(alloc);
     for line in RECORDS.lines() {
-        let (record, says) = line.split_once(" => ").ok_or("answer")?;
-        let text = expand(alloc, record)?;
-        let said = record_word(alloc, &mut held, &text)?;
-        if said.as_str() != says {
-            return Err("another record".into());
-        }
+        read_line(alloc, &mut held, line)?;
     }
     Ok(Records { held })
 }
@@ -130,16 +148,25 @@ fn path_word(used: &[Arc<Node>], word: &str) -> Result<&'static str, Fail> {
     })
 }
 
-#[test]
-fn paths_are_followed(rt: HostRuntime) -> Result<(), Fail> {
-    let alloc = rt.alloc();
-    let mut source = known_records(alloc)?;
+/// What the path of the first key says of the other one.
+fn said_of(alloc: Global, source: &mut Records, keys: &str) -> Result<&'static str, Fail> {
+    let (way, other) = keys.split_once(' ').ok_or("key")?;
+    let used = path(alloc, source, way)?;
+    path_word(&used, other)
+}
+
+/// All paths.
+fn follow_all(rt: &impl Abort, alloc: Global, source: &mut Records) -> Result<(), Fail> {
     for line in PATHS.lines() {
         let (keys, says) = line.split_once(" => ").ok_or("answer")?;
-        let (way, other) = keys.split_once(' ').ok_or("key")?;
-        let used = path(alloc, &mut source, way)?;
-        let said = path_word(&used, other)?;
+        let said = said_of(alloc, source, keys)?;
         assert_eq!(rt; said, says, "{line}");
     }
     Ok(())
+}
+
+#[test]
+fn paths_are_followed(rt: HostRuntime) -> Result<(), Fail> {
+    let mut source = known_records(rt.alloc())?;
+    follow_all(&rt, rt.alloc(), &mut source)
 }

@@ -1,6 +1,7 @@
 //! A search in slices over a ledger of 600 accounts, in which the generation turns, and in which a leaf comes between two slices.
 ghost use Rattle.std.specs.Prelude.{◌≡◌};
 
+use crate::walks::empty;
 use cow_build::build;
 use cow_map::{FormOf, Sealed};
 use full_below::Marks;
@@ -69,7 +70,7 @@ impl Bench {
     /// A search of a ledger of which nothing is stored.
     fn begin(alloc: Global, target: Hash32) -> Result<Bench, Fail> {
         Ok(Bench {
-            store: empty(alloc)?,
+            store: empty(alloc).ok_or("no store")?,
             cache: TreeCache::new(alloc, 1024)?,
             marks: Marks::new(alloc, 1024)?,
             search: Search::start(alloc, &target)?,
@@ -137,14 +138,6 @@ impl Bench {
             Err(_) => format!(in alloc; "refused")?,
         };
         Ok(text)
-    }
-}
-
-fn empty(alloc: Global) -> Result<RotStore<MemShelf>, Fail> {
-    let shelf = MemShelf::new(alloc, Vec::new(alloc), Vec::new(alloc));
-    match RotStore::open(alloc, shelf) {
-        Ok(store) => Ok(store),
-        Err(_) => Err("no store".into()),
     }
 }
 

@@ -1,7 +1,8 @@
 //! A walk that copies a ledger hash by hash.
+use crate::records::expand;
 use copy_walk::{CopyWalk, Left};
 use half_hash::{Hash32, NodeHash, TinyHash};
-use node_backend::MemShelf;
+use node_backend::{MemShelf, Shelf};
 use rotating_store::RotStore;
 use std::alloc::Global;
 use std::test::Fail;
@@ -15,13 +16,7 @@ const FORMS: [&str; 3] = [
 
 /// The text with its zeros, as bytes.
 fn bytes_of(alloc: Global, short: &str) -> Result<Vec<u8>, Fail> {
-    let mut text = Vec::new(alloc);
-    for byte in short.bytes() {
-        match byte {
-            b'_' => text.extend_from_slice(&[b'0'; 64])?,
-            other => text.push(other)?,
-        }
-    }
+    let text = expand(alloc, short)?;
     Ok(hex::decode(alloc, &text)?)
 }
 
@@ -41,13 +36,15 @@ fn store_all(alloc: Global, store: &mut RotStore<MemShelf>) -> Result<Hash32, Fa
     Ok(first)
 }
 
-/// An empty store.
-fn empty(alloc: Global) -> Result<RotStore<MemShelf>, Fail> {
+/// A store over the shelf, where one can be opened.
+fn store_on<Sh: Shelf>(alloc: Global, shelf: Sh) -> Option<RotStore<Sh>> {
+    RotStore::open(alloc, shelf).ok()
+}
+
+/// An empty store, where one can be opened.
+pub(crate) fn empty(alloc: Global) -> Option<RotStore<MemShelf>> {
     let shelf = MemShelf::new(alloc, Vec::new(alloc), Vec::new(alloc));
-    match RotStore::open(alloc, shelf) {
-        Ok(store) => Ok(store),
-        Err(_) => Err("no store".into()),
-    }
+    store_on(alloc, shelf)
 }
 
 /// What a slice of one hash answers.
@@ -62,7 +59,7 @@ fn said(alloc: Global, walk: &mut CopyWalk, store: &mut RotStore<MemShelf>) -> &
 #[test]
 fn a_ledger_is_copied_hash_by_hash(rt: HostRuntime) -> Result<(), Fail> {
     let alloc = rt.alloc();
-    let mut store = empty(alloc)?;
+    let mut store = empty(alloc).ok_or("no store")?;
     let root = store_all(alloc, &mut store)?;
     let mut walk = CopyWalk::start(alloc, &[root])?;
     for answer in ["more", "more", "done"] {
