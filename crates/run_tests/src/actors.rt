@@ -1,16 +1,14 @@
 //! Actors on threads of their own, and the points at which the gate is passed.
-ghost use Rattle.ledger_machine.specs.Records.{AreRecords};
-ghost use Rattle.script_form.specs.Servable.{AreServable};
-
-use actor_pool::{Gate, Point, run_actors};
-use half_hash::{Half512, NodeHash, TinyHash};
-use ledger_machine::{Reply, Script, WantReply};
+use crate::cores::{acted, core_of, core_over, entries, epoch};
+use actor_pool::{Gate, Point};
+use half_hash::{Half512, TinyHash};
+use ledger_machine::{Entry, Reply, WantReply};
 use node_backend::MemShelf;
 use run_io::MemSource;
-use script_form::read_script;
 use std::alloc::Global;
 use std::sync::atomic::{AtomicU64, Ordering};
 use std::test::Fail;
+use std::thread::Threads;
 use store_core::Core;
 use swarm_gen::{Plan, make};
 
@@ -89,22 +87,8 @@ impl Gate for Counts {
 /// A core of these lines, over a shelf that never fails.
 fn opened(alloc: Global, lines: &str) -> Result<Core<TinyHash, MemShelf>, Fail> {
     let bytes = Vec::from_slice(alloc, lines.as_bytes())?;
-    let mut source = MemSource::new(bytes, 500, Vec::new(alloc));
-    match read_script::<TinyHash, MemSource>(alloc, &mut source) {
-        Ok(script) => core_of(alloc, script),
-        Err(_) => Err("no script".into()),
-    }
-}
-
-fn core_of(alloc: Global, script: Script) -> Result<Core<TinyHash, MemShelf>, Fail>
-    requires lines { AreServable script.lines.items }
-    requires records { AreRecords (⟦<TinyHash as NodeHash>⟧.half) script.records.items }
-{
-    let shelf = MemShelf::new(alloc, Vec::new(alloc), Vec::new(alloc));
-    match Core::open(alloc, TinyHash, script, 256, shelf) {
-        Ok(core) => Ok(core),
-        Err(_) => Err("no core".into()),
-    }
+    let source = MemSource::new(bytes, 500, Vec::new(alloc));
+    Ok(core_over(alloc, TinyHash, source, 256).ok_or("no core")?)
 }
 
 /// Two actors with one line each.
@@ -117,21 +101,42 @@ const IN_TURN: &str = "1 want 11111111111111111111111111111111111111111111111111
       0 after 1 want 1111111111111111111111111111111111111111111111111111111111111111 10\n\
       1 after 2 want 1111111111111111111111111111111111111111111111111111111111111111 10\n";
 
+/// How many of the entries opened an acquisition.
+fn opened_in(entries: &[Entry]) -> u64 {
+    let mut count: u64 = 0;
+    for entry in entries {
+        if matches!(&entry.reply, Reply::Want(WantReply::Opened)) {
+            count = count.saturating_add(1);
+        }
+    }
+    count
+}
+
 #[test]
 fn two_actors_run_on_threads_of_their_own(rt: HostRuntime) -> Result<(), Fail> {
     let alloc = rt.alloc();
     let core = opened(alloc, TWO_WANTS)?;
     let gate = Meeting::new();
-    let core = run_actors(&rt, alloc, core, &gate);
+    let core = acted(&rt, alloc, core, &gate);
     assert_eq!(rt; gate.gave_up.load(Ordering::SeqCst), 0);
     let [first, second] = &gate.came;
     assert_eq!(rt; first.load(Ordering::SeqCst), 1);
     assert_eq!(rt; second.load(Ordering::SeqCst), 1);
-    assert_eq!(rt; core.journal().len(), 2);
-    for entry in core.journal() {
-        assert!(rt; matches!(&entry.reply, Reply::Want(WantReply::Opened)));
-    }
+    assert_eq!(rt; entries(&core).len(), 2);
+    assert_eq!(rt; opened_in(entries(&core)), 2);
     Ok(())
+}
+
+/// Whether the entries stand as their lines do.
+fn are_in_order(entries: &[Entry]) -> bool {
+    let mut number: u32 = 0;
+    for entry in entries {
+        number = number.saturating_add(1);
+        if entry.line != number {
+            return false;
+        }
+    }
+    true
 }
 
 #[test]
@@ -139,18 +144,16 @@ fn lines_wait_for_their_turn(rt: HostRuntime) -> Result<(), Fail> {
     let alloc = rt.alloc();
     let core = opened(alloc, IN_TURN)?;
     let gate = Counts::new();
-    let core = run_actors(&rt, alloc, core, &gate);
-    assert_eq!(rt; core.journal().len(), 3);
+    let core = acted(&rt, alloc, core, &gate);
+    assert_eq!(rt; entries(&core).len(), 3);
     assert_eq!(rt; gate.answered.load(Ordering::SeqCst), 3);
     assert_eq!(rt; gate.between.load(Ordering::SeqCst), 0);
-    for (entry, number) in core.journal().iter().zip([1, 2, 3]) {
-        assert_eq!(rt; entry.line, number);
-    }
+    assert!(rt; are_in_order(entries(&core)));
     Ok(())
 }
 
 /// A core of a small swarm with one rotation, whose ledgers have some hundred nodes.
-fn swarmed(alloc: Global) -> Result<Core<Half512, MemShelf>, Fail> {
+fn swarmed<R: Threads + Sync>(rt: &R, alloc: Global) -> Result<Core<Half512, MemShelf>, Fail> {
     let plan = Plan {
         number: 1,
         ledgers: 9,
@@ -159,25 +162,21 @@ fn swarmed(alloc: Global) -> Result<Core<Half512, MemShelf>, Fail> {
         actors: 3,
         interval: 8,
     };
-    let script = make::<Half512>(alloc, &plan)?;
-    let shelf = MemShelf::new(alloc, Vec::new(alloc), Vec::new(alloc));
-    match Core::open(alloc, Half512, script, 8, shelf) {
-        Ok(core) => Ok(core),
-        Err(_) => Err("no core".into()),
-    }
+    let script = make::<R, Half512>(rt, alloc, &plan)?;
+    Ok(core_of(alloc, Half512, script, 8).ok_or("no core")?)
 }
 
 #[test]
 fn a_rotation_is_copied_in_slices(rt: HostRuntime) -> Result<(), Fail> {
     let alloc = rt.alloc();
-    let core = swarmed(alloc)?;
+    let core = swarmed(&rt, alloc)?;
     let gate = Counts::new();
-    let core = run_actors(&rt, alloc, core, &gate);
+    let core = acted(&rt, alloc, core, &gate);
     assert_eq!(rt;
         gate.answered.load(Ordering::SeqCst),
-        core.journal().len() as u64
+        entries(&core).len() as u64
     );
     assert!(rt; gate.between.load(Ordering::SeqCst) > 0);
-    assert_eq!(rt; core.totals().epoch, 1);
+    assert_eq!(rt; epoch(&core), 1);
     Ok(())
 }

@@ -1,8 +1,8 @@
 //! How runs end: the words, a script, what fails alone, and the status and the text that come of it.
-use actor_pool::OpenGate;
-use half_hash::{NodeHash, TinyHash};
-use node_backend::MemShelf;
-use run_io::{MemSink, MemSource};
+use actor_pool::{Gate, OpenGate};
+use half_hash::{Memory, NodeHash, TinyHash};
+use node_backend::{MemShelf, Shelf};
+use run_io::{MemSink, MemSource, Sink, Source};
 use std::alloc::Global;
 use std::sync::Wait;
 use std::test::Fail;
@@ -92,30 +92,74 @@ const UNENDED: &str = "0 want 11111111111111111111111111111111111111111111111111
 
 const ZERO: &str = "0 want 0000000000000000000000000000000000000000000000000000000000000000 1\n";
 
-/// The status of a run over devices in memory.
-pub(crate) fn status_of_run<R: Threads + Wait + Sync, H: NodeHash>(
+/// The status of a run over any devices. Nothing is known of them here, which keeps the proof small.
+fn status_of_run<R: Threads + Wait + Sync, H: NodeHash, S: Source, K: Sink, Sh: Shelf, G: Gate>(
     rt: &R,
     alloc: Global,
     words: &[&str],
     hash: H,
-    source: &mut MemSource,
-    sink: &mut MemSink,
-    shelf: MemShelf,
+    source: &mut S,
+    sink: &mut K,
+    shelf: Sh,
+    gate: &G,
 ) -> u8 {
-    ledger_run(rt, alloc, words, hash, source, sink, shelf, &OpenGate).status
+    ledger_run(rt, alloc, words, hash, source, sink, shelf, gate).status
+}
+
+/// The status of such a run, and what it printed.
+pub(crate) fn run_text<R: Threads + Wait + Sync, H: NodeHash, G: Gate>(
+    rt: &R,
+    alloc: Global,
+    words: &[&str],
+    hash: H,
+    source: MemSource,
+    sink: MemSink,
+    shelf: MemShelf,
+    gate: &G,
+) -> Result<(u8, Vec<u8>), Memory> {
+    let (mut source, mut sink) = (source, sink);
+    let status = status_of_run(rt, alloc, words, hash, &mut source, &mut sink, shelf, gate);
+    Ok((status, Vec::from_slice(alloc, sink.held())?))
+}
+
+/// A source of the script, of which one read may fail.
+fn source_of(alloc: Global, script: &str, failing: u64) -> Result<MemSource, Fail> {
+    let bytes = Vec::from_slice(alloc, script.as_bytes())?;
+    Ok(MemSource::new(bytes, 7, vec![in alloc; failing]?))
+}
+
+/// An empty sink, of which one write may fail.
+fn sink_of(alloc: Global, failing: u64) -> Result<MemSink, Fail> {
+    Ok(MemSink::new(alloc, 4096, vec![in alloc; failing]?)?)
+}
+
+/// An empty shelf, of which one call may fail.
+fn shelf_of(alloc: Global, failing: u64) -> Result<MemShelf, Fail> {
+    let failing = vec![in alloc; failing]?;
+    Ok(MemShelf::new(alloc, Vec::new(alloc), failing))
+}
+
+/// The status of a case's run, and what it printed.
+fn run_case<R: Threads + Wait + Sync>(
+    rt: &R,
+    alloc: Global,
+    case: &Case,
+) -> Result<(u8, Vec<u8>), Fail> {
+    let (words, script, read, write, call, _, _) = case;
+    let source = source_of(alloc, script, *read)?;
+    let sink = sink_of(alloc, *write)?;
+    let shelf = shelf_of(alloc, *call)?;
+    Ok(run_text(rt, alloc, words, TinyHash, source, sink, shelf, &OpenGate)?)
 }
 
 #[test]
 fn scripts_and_their_ends(rt: HostRuntime) -> Result<(), Fail> {
     let alloc = rt.alloc();
-    for (words, script, failing_read, failing_write, failing_call, status, printed) in &CASES {
-        let bytes = Vec::from_slice(alloc, script.as_bytes())?;
-        let mut source = MemSource::new(bytes, 7, vec![in alloc; *failing_read]?);
-        let mut sink = MemSink::new(alloc, 4096, vec![in alloc; *failing_write]?)?;
-        let shelf = MemShelf::new(alloc, Vec::new(alloc), vec![in alloc; *failing_call]?);
-        let ended = status_of_run(&rt, alloc, words, TinyHash, &mut source, &mut sink, shelf);
+    for case in &CASES {
+        let (ended, held) = run_case(&rt, alloc, case)?;
+        let (_, _, _, _, _, status, printed) = case;
         assert_eq!(rt; ended, *status);
-        assert_eq!(rt; sink.held(), printed.as_bytes());
+        assert_eq!(rt; held.as_slice(), printed.as_bytes());
     }
     Ok(())
 }

@@ -5,6 +5,8 @@
 #[cfg(test)]
 mod actors;
 #[cfg(test)]
+mod cores;
+#[cfg(test)]
 mod endings;
 #[cfg(test)]
 mod reads;

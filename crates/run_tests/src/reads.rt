@@ -1,17 +1,18 @@
 //! Reads that go on outside the core's lock, also across a rotation.
+use crate::cores::{acted, core_over, entries, epoch, stepped};
 use crate::rows::expand;
-use actor_pool::{Gate, Point, run_actors};
-use half_hash::TinyHash;
+use actor_pool::{Gate, Point};
+use half_hash::{Hash32, TinyHash};
 use ledger_machine::{Entry, GetReply, Reply};
 use node_backend::MemShelf;
 use path_proof::{Answer, Outcome};
 use run_io::MemSource;
-use script_form::read_script;
 use shamap_node::Node;
 use std::alloc::Global;
+use std::process::Abort;
 use std::sync::atomic::{AtomicU64, Ordering};
 use std::test::Fail;
-use store_core::{Core, Stepped};
+use store_core::{Core, ReadJob, Stepped};
 
 /// How long an actor is held at most.
 const MOST_TURNS: u32 = 100_000_000;
@@ -99,15 +100,9 @@ impl Gate for Crossing {
 
 /// The core of a script that is read, in which each ledger more is due to be rotated.
 fn opened(alloc: Global, short: &str) -> Result<Core<TinyHash, MemShelf>, Fail> {
-    let mut source = MemSource::new(expand(alloc, short)?, 500, Vec::new(alloc));
-    let Ok(script) = read_script::<TinyHash, MemSource>(alloc, &mut source) else {
-        return Err("no script".into());
-    };
-    let shelf = MemShelf::new(alloc, Vec::new(alloc), Vec::new(alloc));
-    match Core::open(alloc, TinyHash, script, 1, shelf) {
-        Ok(core) => Ok(core),
-        Err(_) => Err("no core".into()),
-    }
+    let text = expand(alloc, short)?;
+    let source = MemSource::new(text, 500, Vec::new(alloc));
+    Ok(core_over(alloc, TinyHash, source, 1).ok_or("no core")?)
 }
 
 /// Whether the reply to a read is the value 0102, and both nodes of its path were used.
@@ -125,19 +120,59 @@ fn is_leaf(node: &Node) -> bool {
     }
 }
 
+/// The line of the last entry, where that is such a read.
+fn last_read(entries: &[Entry]) -> Option<u32> {
+    match entries.last() {
+        Some(last) => is_read(last).then_some(last.line),
+        None => None,
+    }
+}
+
 #[test]
 fn a_read_goes_on_across_a_swap(rt: HostRuntime) -> Result<(), Fail> {
     let alloc = rt.alloc();
     let core = opened(alloc, CROSSING)?;
     let gate = Crossing::new();
-    let core = run_actors(&rt, alloc, core, &gate);
+    let core = acted(&rt, alloc, core, &gate);
     assert_eq!(rt; gate.gave_up.load(Ordering::SeqCst), 0);
     assert_eq!(rt; gate.fetched.load(Ordering::SeqCst), 2);
-    assert_eq!(rt; core.totals().epoch, 1);
+    assert_eq!(rt; epoch(&core), 1);
     // the reader's answer came last
-    let last = core.journal().last().ok_or("no entry")?;
-    assert_eq!(rt; last.line, 7);
-    assert!(rt; is_read(last));
+    assert_eq!(rt; last_read(entries(&core)), Some(7));
+    Ok(())
+}
+
+/// The read that the actor's next line asks for.
+fn job(core: &Core<TinyHash, MemShelf>) -> Option<ReadJob> {
+    core.read_job(0)
+}
+
+/// Does a section with an answer that is no path.
+fn commit(alloc: Global, core: &mut Core<TinyHash, MemShelf>, job: &ReadJob) -> Stepped {
+    let got = Ok(Answer {
+        outcome: Outcome::Nothing,
+        used: Vec::new(alloc),
+    });
+    core.commit_read(alloc, 0, job, got)
+}
+
+/// Answers the lines before the read, none of which asks for one.
+fn answer_all_before(rt: &impl Abort, alloc: Global, core: &mut Core<TinyHash, MemShelf>) {
+    for _ in 0..6 {
+        assert!(rt; job(core).is_none());
+        assert_eq!(rt; stepped(alloc, core, 0), Stepped::Answered);
+    }
+}
+
+/// Hands in what is no path, where a read is asked for.
+fn hand_in(
+    rt: &impl Abort,
+    alloc: Global,
+    core: &mut Core<TinyHash, MemShelf>,
+) -> Result<(), Fail> {
+    let job = job(core).ok_or("job")?;
+    assert_eq!(rt; job.root.bytes[0], 0xDE);
+    assert_eq!(rt; commit(alloc, core, &job), Stepped::Answered);
     Ok(())
 }
 
@@ -146,19 +181,29 @@ fn a_read_goes_on_across_a_swap(rt: HostRuntime) -> Result<(), Fail> {
 fn an_answer_that_is_no_path_is_not_taken(rt: HostRuntime) -> Result<(), Fail> {
     let alloc = rt.alloc();
     let mut core = opened(alloc, READING)?;
-    for _ in 0..6 {
-        assert!(rt; core.read_job(0).is_none());
-        assert_eq!(rt; core.step(alloc, 0), Stepped::Answered);
-    }
-    let job = core.read_job(0).ok_or("job")?;
-    assert_eq!(rt; job.root.bytes[0], 0xDE);
-    let got = Ok(Answer {
-        outcome: Outcome::Nothing,
-        used: Vec::new(alloc),
-    });
-    assert_eq!(rt; core.commit_read(alloc, 0, &job, got), Stepped::Answered);
-    let entry = core.journal().last().ok_or("no entry")?;
-    assert!(rt; is_read(entry));
+    answer_all_before(&rt, alloc, &mut core);
+    hand_in(&rt, alloc, &mut core)?;
+    assert_eq!(rt; last_read(entries(&core)), Some(7));
+    Ok(())
+}
+
+/// Whether the node of this hash is there.
+fn has_node(alloc: Global, core: &mut Core<TinyHash, MemShelf>, h: &Hash32) -> Result<bool, Fail> {
+    Ok(core.node_at(alloc, 0, h).ok().ok_or("node")?.is_some())
+}
+
+/// Whether its bytes are.
+fn has_form(alloc: Global, core: &mut Core<TinyHash, MemShelf>, h: &Hash32) -> Result<bool, Fail> {
+    Ok(core.form_at(alloc, 0, h).ok().ok_or("form")?.is_some())
+}
+
+/// Fetches what the read begins with, and what isn't there.
+fn fetch(rt: &impl Abort, alloc: Global, core: &mut Core<TinyHash, MemShelf>) -> Result<(), Fail> {
+    let job = job(core).ok_or("job")?;
+    assert!(rt; has_node(alloc, core, &job.root)?);
+    assert!(rt; has_form(alloc, core, &job.root)?);
+    assert!(rt; !has_node(alloc, core, &job.key)?);
+    assert!(rt; !has_form(alloc, core, &job.key)?);
     Ok(())
 }
 
@@ -167,17 +212,6 @@ fn an_answer_that_is_no_path_is_not_taken(rt: HostRuntime) -> Result<(), Fail> {
 fn a_node_is_fetched(rt: HostRuntime) -> Result<(), Fail> {
     let alloc = rt.alloc();
     let mut core = opened(alloc, READING)?;
-    for _ in 0..6 {
-        core.step(alloc, 0);
-    }
-    let job = core.read_job(0).ok_or("job")?;
-    let top = core.node_at(alloc, 0, &job.root).ok().ok_or("top")?;
-    assert!(rt; top.is_some());
-    let form = core.form_at(alloc, 0, &job.root).ok().ok_or("form")?;
-    assert!(rt; form.is_some());
-    let none = core.node_at(alloc, 0, &job.key).ok().ok_or("none")?;
-    assert!(rt; none.is_none());
-    let nothing = core.form_at(alloc, 0, &job.key).ok().ok_or("nothing")?;
-    assert!(rt; nothing.is_none());
-    Ok(())
+    answer_all_before(&rt, alloc, &mut core);
+    fetch(&rt, alloc, &mut core)
 }

@@ -1,11 +1,11 @@
 //! A check whose search is cut into slices, and begins anew where another actor's swap came between two of them.
+use crate::cores::{core_over, entries, epoch, stepped};
 use crate::rows::expand;
 use crate::slices::{BEGINNING, add_puts};
 use half_hash::Half512;
-use ledger_machine::{CheckReply, Reply};
+use ledger_machine::{CheckReply, Entry, Reply};
 use node_backend::MemShelf;
 use run_io::MemSource;
-use script_form::read_script;
 use std::alloc::Global;
 use std::test::Fail;
 use store_core::{Core, Stepped};
@@ -48,21 +48,19 @@ const STEPS: &str = "0 1404\n\
       0 5\n\
       1 answer";
 
-/// A core of this script, in which each ledger more is due to be rotated.
-fn opened(alloc: Global) -> Result<Core<Half512, MemShelf>, Fail> {
+/// The script.
+fn script(alloc: Global) -> Result<Vec<u8>, Fail> {
     let mut text = expand(alloc, BEGINNING)?;
     add_puts(&mut text, alloc, false, PAIRS)?;
     text.extend_from_slice(&expand(alloc, ROTATIONS)?)?;
     text.extend_from_slice(&expand(alloc, SEARCH)?)?;
-    let mut source = MemSource::new(text, 100_000, Vec::new(alloc));
-    let Ok(script) = read_script::<Half512, MemSource>(alloc, &mut source) else {
-        return Err("no script".into());
-    };
-    let shelf = MemShelf::new(alloc, Vec::new(alloc), Vec::new(alloc));
-    match Core::open(alloc, Half512, script, 1, shelf) {
-        Ok(core) => Ok(core),
-        Err(_) => Err("no core".into()),
-    }
+    Ok(text)
+}
+
+/// A core of this script, in which each ledger more is due to be rotated.
+fn opened(alloc: Global) -> Result<Core<Half512, MemShelf>, Fail> {
+    let source = MemSource::new(script(alloc)?, 100_000, Vec::new(alloc));
+    Ok(core_over(alloc, Half512, source, 1).ok_or("no core")?)
 }
 
 /// Does sections until so many lines of the actor are answered.
@@ -72,12 +70,12 @@ fn answer(
     actor: u8,
     lines: usize,
 ) -> Result<(), Fail> {
-    let wanted = core.journal().len().saturating_add(lines);
+    let wanted = entries(core).len().saturating_add(lines);
     for _ in 0..10_000 {
-        if core.journal().len() == wanted {
+        if entries(core).len() == wanted {
             return Ok(());
         }
-        core.step(alloc, actor);
+        stepped(alloc, core, actor);
     }
     Err("not answered".into())
 }
@@ -89,7 +87,7 @@ fn section(
     actor: u8,
     wanted: Stepped,
 ) -> Result<(), Fail> {
-    if core.step(alloc, actor) != wanted {
+    if stepped(alloc, core, actor) != wanted {
         return Err("another end of the section".into());
     }
     Ok(())
@@ -108,15 +106,28 @@ fn step(alloc: Global, core: &mut Core<Half512, MemShelf>, line: &str) -> Result
     }
 }
 
+/// All steps.
+fn run(alloc: Global, core: &mut Core<Half512, MemShelf>) -> Result<(), Fail> {
+    for line in STEPS.lines() {
+        step(alloc, core, line)?;
+    }
+    Ok(())
+}
+
+/// Whether the last entry says that a ledger is whole.
+fn is_whole(entries: &[Entry]) -> bool {
+    match entries.last() {
+        Some(last) => matches!(&last.reply, Reply::Check(CheckReply::Complete)),
+        None => false,
+    }
+}
+
 #[test]
 fn a_search_begins_anew_twice_and_then_runs_whole(rt: HostRuntime) -> Result<(), Fail> {
     let alloc = rt.alloc();
     let mut core = opened(alloc)?;
-    for line in STEPS.lines() {
-        step(alloc, &mut core, line)?;
-    }
-    let last = core.journal().last().ok_or("no entry")?;
-    assert!(rt; matches!(&last.reply, Reply::Check(CheckReply::Complete)));
-    assert_eq!(rt; core.totals().epoch, 3);
+    run(alloc, &mut core)?;
+    assert!(rt; is_whole(entries(&core)));
+    assert_eq!(rt; epoch(&core), 3);
     Ok(())
 }

@@ -1,4 +1,5 @@
 //! Rotations whose copy is cut into slices, while another actor writes, adds roots and ends them.
+use crate::endings::run_text;
 use crate::rows::expand;
 use actor_pool::{Gate, Point};
 use half_hash::Half512;
@@ -11,7 +12,6 @@ use std::sync::atomic::{AtomicU64, Ordering};
 use std::test::Fail;
 use std::thread;
 use std::thread::Threads;
-use top_call::ledger_run;
 
 /// How long an actor is held at most.
 const MOST_TURNS: u32 = 100_000_000;
@@ -170,6 +170,21 @@ impl Gate for Between {
     }
 }
 
+/// The zeros of an account's key: 59 digits, beside four that number the pair and one that tells the two apart.
+const ZEROS: &str = "00000000000000000000000000000000000000000000000000000000000";
+
+/// What follows the number of a pair: zeros and the digit, or the digit and zeros.
+fn add_digit(text: &mut Vec<u8>, deep: bool, digit: u8) -> Result<(), Fail> {
+    if deep {
+        text.extend_from_slice(ZEROS.as_bytes())?;
+        text.push(digit)?;
+    } else {
+        text.push(digit)?;
+        text.extend_from_slice(ZEROS.as_bytes())?;
+    }
+    Ok(())
+}
+
 /// A line that sets the account of this number with this one of its pair's two digits.
 fn add_put(
     text: &mut Vec<u8>,
@@ -179,17 +194,10 @@ fn add_put(
     digit: u8,
 ) -> Result<(), Fail> {
     let [high, low] = number.to_be_bytes();
-    let zeros = [b'0'; 59];
-    text.extend_from_slice(b"0 put 1 ")?;
+    text.extend_from_slice("0 put 1 ".as_bytes())?;
     text.extend_from_slice(hex::encode_upper(alloc, &[low, high])?.as_bytes())?;
-    if deep {
-        text.extend_from_slice(&zeros)?;
-        text.push(digit)?;
-    } else {
-        text.push(digit)?;
-        text.extend_from_slice(&zeros)?;
-    }
-    text.extend_from_slice(b" 05\n")?;
+    add_digit(text, deep, digit)?;
+    text.extend_from_slice(" 05\n".as_bytes())?;
     Ok(())
 }
 
@@ -228,17 +236,24 @@ fn script(alloc: Global, case: &Case) -> Result<MemSource, Fail> {
     Ok(MemSource::new(text, 100_000, Vec::new(alloc)))
 }
 
-/// The status of a replay in which this gate holds the actors.
+/// A replay in which this gate holds the actors: its status, and what it printed.
 fn held_replay<R: Threads + Wait + Sync>(
     rt: &R,
     alloc: Global,
-    source: &mut MemSource,
-    sink: &mut MemSink,
+    source: MemSource,
     gate: &Between,
-) -> u8 {
+) -> Result<(u8, Vec<u8>), Fail> {
     let words = ["replay", "--interval", "1"];
+    let sink = MemSink::new(alloc, 1_000_000, Vec::new(alloc))?;
     let shelf = MemShelf::new(alloc, Vec::new(alloc), Vec::new(alloc));
-    ledger_run(rt, alloc, &words, Half512, source, sink, shelf, gate).status
+    Ok(run_text(rt, alloc, &words, Half512, source, sink, shelf, gate)?)
+}
+
+/// What the case's lines from the close on are answered.
+fn answers(alloc: Global, case: &Case) -> Result<Vec<u8>, Fail> {
+    let mut answers = Vec::new(alloc);
+    add_filled(&mut answers, alloc, case, ANSWERS)?;
+    Ok(answers)
 }
 
 /// Runs the case's session and rotation, with the other actor's lines between two slices.
@@ -247,16 +262,13 @@ fn replay<R: Abort + Threads + Wait + Sync>(
     alloc: Global,
     case: &Case,
 ) -> Result<(), Fail> {
-    let mut source = script(alloc, case)?;
-    let mut sink = MemSink::new(alloc, 1_000_000, Vec::new(alloc))?;
+    let answers = answers(alloc, case)?;
     let gate = Between::new(case.held_after);
-    let status = held_replay(rt, alloc, &mut source, &mut sink, &gate);
-    let mut answers = Vec::new(alloc);
-    add_filled(&mut answers, alloc, case, ANSWERS)?;
+    let (status, printed) = held_replay(rt, alloc, script(alloc, case)?, &gate)?;
     assert_eq!(rt; status, 0);
     assert_eq!(rt; gate.gave_up.load(Ordering::SeqCst), 0);
     assert_eq!(rt; gate.slices.load(Ordering::SeqCst), case.slices);
-    assert!(rt; sink.held().ends_with(&answers));
+    assert!(rt; printed.ends_with(&answers));
     Ok(())
 }
 
