@@ -10,6 +10,9 @@ use store_core::ReadJob;
 /// How many lines behind a read are looked at, those of other actors among them.
 const AHEAD: usize = 128;
 
+/// For how many reads there is room from the start.
+const ROOM: usize = 32;
+
 /// How many lines behind a read are looked at for one of the actor's that is none.
 const SIGHT: usize = 1024;
 
@@ -23,7 +26,7 @@ pub(crate) fn reads_from(
     most: usize,
 ) -> Vec<ReadJob> {
     let mut jobs = Vec::new(alloc);
-    let _room = jobs.reserve(most.min(AHEAD));
+    let _room = jobs.reserve(most.min(ROOM));
     if jobs.push(first).is_err() || most < 2 {
         return jobs;
     }

@@ -50,6 +50,11 @@ impl<H: NodeHash> Near<H> {
         }
     }
 
+    /// Whether its reader is alone.
+    pub(crate) fn is_alone(&self) -> bool {
+        self.levels == 0
+    }
+
     /// The copy that is kept of the node with this hash, which stands at this depth; want of memory is passed over.
     pub(crate) fn find(&self, depth: u8, h: &Hash32) -> Option<Arc<Node>>
         ensures { IfSome result (λ a. hash_of H.half (held a.value) ≡ h.now) }

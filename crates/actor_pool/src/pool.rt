@@ -16,11 +16,15 @@ use ledger_machine::Line;
 use node_backend::Shelf;
 use read_cache::ReadCache;
 use std::alloc::Global;
+use std::hint::spin_loop;
 use std::marker::Brand;
 use std::sync::{Mutex, Wait};
 use std::thread;
 use std::thread::Threads;
 use store_core::{Core, Stepped};
+
+/// How long the caller leaves the lock free between two sections beside workers, in turns of a loop: a microsecond or two.
+const PAUSE: u32 = 32;
 
 /// Answers every line of the core's script, over the core under one lock: each actor's by a worker of its own, but that where the gate is
 /// open lines that ask for no read, or for few in a row, are answered here; and what is left undone then here too, in line order. Where
@@ -123,7 +127,7 @@ fn next_worker<R: Wait, H: NodeHash, Sh: Shelf, G: Gate, J: Pinned>(
     from: u8,
 ) -> Option<u8> {
     if gate.is_open() {
-        return next_reader(rt, alloc, shared, cache, gate);
+        return next_reader(rt, alloc, shared, cache, gate, from > 0);
     }
     for actor in from..ACTORS {
         if is_left_locked(rt, shared, actor) {
@@ -133,17 +137,22 @@ fn next_worker<R: Wait, H: NodeHash, Sh: Shelf, G: Gate, J: Pinned>(
     None
 }
 
-// Answers lines that ask for no read, or for few, until an actor asks for many, which is that actor.
+// Answers lines that ask for no read, or for few, until an actor asks for many, which is that actor. Beside workers the lock is left free for a
+// moment behind each section: who takes it again at once takes it from those who have tried for it meanwhile.
 fn next_reader<R: Wait, H: NodeHash, Sh: Shelf, G: Gate, J: Pinned>(
     rt: &R,
     alloc: Global,
     shared: &Mutex<Shared<H, Sh, J>>,
     cache: &ReadCache<H>,
     gate: &G,
+    beside: bool,
 ) -> Option<u8> {
     let mut near = Near::alone(alloc);
     let stride = stride_of(gate);
     for _ in 0..SECTIONS {
+        if beside {
+            pause();
+        }
         match serve_locked(rt, alloc, shared, LINES) {
             Served::Reader(actor) => return Some(actor),
             Served::Few(actor) => {
@@ -163,6 +172,13 @@ fn next_reader<R: Wait, H: NodeHash, Sh: Shelf, G: Gate, J: Pinned>(
         }
     }
     None
+}
+
+// Does nothing for a moment.
+fn pause() {
+    for _ in 0..PAUSE {
+        spin_loop();
+    }
 }
 
 /// Answers every line that has no entry yet, in line order.

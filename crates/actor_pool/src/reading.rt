@@ -33,13 +33,15 @@ pub(crate) fn read_outside<R: Wait, H: NodeHash, Sh: Shelf, G: Gate, J: Pinned>(
     jobs: Vec<ReadJob>,
 ) -> Vec<Followed<H>> {
     let mut ways = Vec::new(worker.alloc);
+    let _ = ways.reserve(jobs.len());
     for job in jobs {
         if ways.push(begun(worker, near, job)).is_err() {
             break;
         }
     }
-    let given = given_to(worker, &ways);
+    let given = given_to(worker, near, &ways);
     let mut got = Vec::new(worker.alloc);
+    let _ = got.reserve(ways.len());
     for way in ways {
         if got.push(followed(worker, near, way, &given)).is_err() {
             break;
@@ -93,13 +95,15 @@ fn go_near<R: Wait, H: NodeHash, Sh: Shelf, G: Gate, J: Pinned>(
     }
 }
 
-// The bytes that are lacking for these reads, where they may be given together.
+// The bytes that are lacking for these reads, where they may be given together. A reader that is alone waits for nobody, and asks for each
+// node that it lacks by itself: below one of them it often has the others.
 fn given_to<R: Wait, H: NodeHash, Sh: Shelf, G: Gate, J: Pinned>(
     worker: &Worker<R, H, Sh, G, J>,
+    near: &Near<H>,
     ways: &[Way<H>],
 ) -> Vec<Given<H, Sh>> {
     let mut lacks = Vec::new(worker.alloc);
-    if worker.stride.reads < 2 {
+    if worker.stride.reads < 2 || near.is_alone() {
         return Vec::new(worker.alloc);
     }
     for way in ways {
@@ -168,6 +172,18 @@ fn kept<R: Wait, H: NodeHash, Sh: Shelf, G: Gate, J: Pinned>(
     if let Some(node) = near.find(depth, h) {
         return Some(node);
     }
+    shared_with(worker, near, depth, h)
+}
+
+// The node of a hash, where the cache of all readers has it; want of memory is passed over.
+fn shared_with<R: Wait, H: NodeHash, Sh: Shelf, G: Gate, J: Pinned>(
+    worker: &Worker<R, H, Sh, G, J>,
+    near: &mut Near<H>,
+    depth: u8,
+    h: &Hash32,
+) -> Option<Arc<Node>>
+    ensures { IfSome result (λ a. hash_of H.half (held a.value) ≡ h.now) }
+{
     let node = match worker.cache.get(worker.rt, h) {
         Ok(found) => found?,
         Err(_) => return None,
@@ -176,7 +192,7 @@ fn kept<R: Wait, H: NodeHash, Sh: Shelf, G: Gate, J: Pinned>(
     Some(node)
 }
 
-// The node of a hash: one that is kept, or that of the bytes which are given for it, which is kept then.
+// The node of a hash: a copy that the reader keeps, or that of the bytes which are given for it, or one from elsewhere.
 fn node_of<R: Wait, H: NodeHash, Sh: Shelf, G: Gate, J: Pinned>(
     worker: &Worker<R, H, Sh, G, J>,
     near: &mut Near<H>,
@@ -186,19 +202,57 @@ fn node_of<R: Wait, H: NodeHash, Sh: Shelf, G: Gate, J: Pinned>(
 ) -> Result<Option<Arc<Node>>, FetchFault>
     ensures { HasHash H.half h.now result }
 {
-    if let Some(node) = kept(worker, near, depth, h) {
+    if let Some(node) = near.find(depth, h) {
         return Ok(Some(node));
     }
-    let node = match given_for(given, h) {
-        Some(form) => decoded::<H, Sh>(worker.alloc, h, form.bytes())?,
-        None => fetched(worker, h)?,
+    let Some(form) = given_for(given, h) else {
+        return elsewhere(worker, near, depth, h);
     };
+    let node = decoded::<H, Sh>(worker.alloc, h, form.bytes())?;
+    noted(worker, near, depth, h, &node);
+    Ok(node)
+}
+
+// The node of a hash, which the reader keeps no copy of: one that the cache has, or that of the bytes which the core gives.
+fn elsewhere<R: Wait, H: NodeHash, Sh: Shelf, G: Gate, J: Pinned>(
+    worker: &Worker<R, H, Sh, G, J>,
+    near: &mut Near<H>,
+    depth: u8,
+    h: &Hash32,
+) -> Result<Option<Arc<Node>>, FetchFault>
+    ensures { HasHash H.half h.now result }
+{
+    if let Some(node) = shared_with(worker, near, depth, h) {
+        return Ok(Some(node));
+    }
+    let node = fetched(worker, h)?;
+    noted(worker, near, depth, h, &node);
+    Ok(node)
+}
+
+// Keeps the node of a hash, if there is one. Readers beside one another share no leaf: they would wait for the cache's locks for it, and most
+// ask for others.
+fn noted<R: Wait, H: NodeHash, Sh: Shelf, G: Gate, J: Pinned>(
+    worker: &Worker<R, H, Sh, G, J>,
+    near: &mut Near<H>,
+    depth: u8,
+    h: &Hash32,
+    node: &Option<Arc<Node>>,
+)
+    requires { IfSome node.now (λ a. hash_of H.half (held a.value) ≡ h.now) }
+{
     let Some(node) = node else {
-        return Ok(None);
+        return;
     };
-    near.keep(worker.alloc, depth, h, &node);
-    keep(worker, h, &node);
-    Ok(Some(node))
+    near.keep(worker.alloc, depth, h, node);
+    if near.is_alone() || is_inner(node) {
+        keep(worker, h, node);
+    }
+}
+
+// Whether a node is an inner one.
+fn is_inner(node: &Node) -> bool {
+    matches!(node, Node::Inner(_))
 }
 
 // The node of the bytes that the core gives for a hash in a section of its own.

@@ -5,10 +5,10 @@ use std::sync::{Mutex, MutexGuard, Wait};
 use std::thread;
 
 /// How often a thread gives way before it sleeps for a lock.
-const ROUNDS: u32 = 100;
+const ROUNDS: u32 = 20_000;
 
 /// How often a lock is tried before a thread gives way.
-const TRIES: u32 = 150;
+const TRIES: u32 = 20;
 
 /// Takes a lock. A section behind it takes less than a sleep, so it is tried for a while first: a lock for which a thread sleeps is handed
 /// to it as it wakes, and all others wait for that.
