@@ -137,8 +137,8 @@ fn next_worker<R: Wait, H: NodeHash, Sh: Shelf, G: Gate, J: Pinned>(
     None
 }
 
-// Answers lines that ask for no read, or for few, until an actor asks for many, which is that actor. Beside workers the lock is left free for a
-// moment behind each section: who takes it again at once takes it from those who have tried for it meanwhile.
+// Answers lines that ask for no read, or for few, until an actor asks for many, which is that actor. Beside workers the lock is left free
+// for a moment behind each section: who takes it again at once takes it from those who have tried for it meanwhile.
 fn next_reader<R: Wait, H: NodeHash, Sh: Shelf, G: Gate, J: Pinned>(
     rt: &R,
     alloc: Global,

@@ -230,8 +230,8 @@ fn elsewhere<R: Wait, H: NodeHash, Sh: Shelf, G: Gate, J: Pinned>(
     Ok(node)
 }
 
-// Keeps the node of a hash, if there is one. Readers beside one another share no leaf: they would wait for the cache's locks for it, and most
-// ask for others.
+// Keeps the node of a hash, if there is one. Readers beside one another share no leaf: they would wait for the cache's locks for it, and
+// most ask for others.
 fn noted<R: Wait, H: NodeHash, Sh: Shelf, G: Gate, J: Pinned>(
     worker: &Worker<R, H, Sh, G, J>,
     near: &mut Near<H>,
