@@ -70,7 +70,7 @@ impl From<AllocError> for AllFault {
 }
 
 /// How many bytes are asked for at once.
-const PIECE: usize = 4096;
+const PIECE: usize = 65536;
 
 /// Reads to the end of input or to `most` bytes. What a refused call has taken is lost: a front of
 /// the input.

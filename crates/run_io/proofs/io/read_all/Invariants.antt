@@ -6,7 +6,7 @@ abbrev pub invariant-loop-held : goal.invariant-loop-held
 invariant-loop-held g l = record {
   reading : Reading (g.S.Source.left l.fn.source) l.held.items (g.S.Source.left l.source);
   most : vec_len l.held ≤ l.most;
-  room : vec_len l.buf ≡ 4096;
+  room : vec_len l.buf ≡ 65536;
   later : g.S.Source.faults l.fn.source ≤ g.S.Source.faults l.source;
 }
 
