@@ -30,7 +30,7 @@ use crate::tables::Tables;
 use acquire_core::Acquire;
 use half_hash::{Blob, Hash32, Memory, NodeHash, known_half};
 use ledger_machine::{
-    BaseReply, CheckReply, Command, NodeReply, PeerReply, Reply, TickReply, WantReply,
+    BaseBox, BaseReply, CheckReply, Command, NodeReply, PeerReply, Reply, TickReply, WantReply,
 };
 use ledger_searches::Searches;
 use missing_walk::{Found, SearchFault};
@@ -124,6 +124,7 @@ impl<H: NodeHash, Sh: Shelf> Tables<H, Sh> {
     pub(crate) fn base(
         &mut self,
         alloc: Global,
+        room: BaseBox,
         peer: u16,
         target: &Hash32,
         header: &Blob,
@@ -135,7 +136,7 @@ impl<H: NodeHash, Sh: Shelf> Tables<H, Sh> {
     {
         known_half::<H>();
         let Some(acquire) = self.wanted.get_mut(target) else {
-            return Reply::Base(BaseReply::NotOpen);
+            return Reply::Base(room.holding(BaseReply::NotOpen));
         };
         let (state, tx) = (lent(state), lent(tx));
         let taken = take_base::<H, Sh>(
@@ -149,7 +150,7 @@ impl<H: NodeHash, Sh: Shelf> Tables<H, Sh> {
             state,
             tx,
         );
-        base_answer(taken)
+        base_answer(room, taken)
     }
 
     /// Takes a node of a peer. It is reached from the target, so a rotation under way, which was told of that, keeps it; its walk takes the

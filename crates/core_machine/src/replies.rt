@@ -5,18 +5,18 @@ ghost use Rattle.core_machine.specs.Wanting as told;
 ghost use Rattle.core_machine.specs.Telling as turns;
 
 use crate::refusals::{refusal, unended};
-use ledger_machine::{BaseReply, BeginReply, NodeReply, Reply, SwapReply};
+use ledger_machine::{BaseBox, BaseReply, BeginReply, NodeReply, Reply, SwapReply};
 use node_backend::BackFault;
 use node_offer::OfferFault;
 use online_rotate::{Begun, Left};
 use rotating_store::StoreFault;
 
-/// The reply to a base reply of a peer.
-pub(crate) fn base_answer(taken: Result<BaseReply, OfferFault>) -> Reply
+/// The reply to a base reply of a peer, in this block.
+pub(crate) fn base_answer(room: BaseBox, taken: Result<BaseReply, OfferFault>) -> Reply
     ensures { result ≡ told.base_answer taken }
 {
     match taken {
-        Ok(reply) => Reply::Base(reply),
+        Ok(reply) => Reply::Base(room.holding(reply)),
         Err(fault) => refusal(fault),
     }
 }

@@ -18,7 +18,7 @@ use crate::records::next_record;
 use crate::refusals::unread;
 use acquire_core::Acquire;
 use half_hash::{Hash32, NodeHash};
-use ledger_machine::{Command, Record, Reply, Totals};
+use ledger_machine::{BaseBox, Command, Record, Reply, Totals};
 use missing_walk::Found;
 use node_backend::{BackFault, Shelf};
 use online_rotate::Rotator;
@@ -175,7 +175,10 @@ impl<H: NodeHash, Sh: Shelf> Tables<H, Sh> {
                 header,
                 state,
                 tx,
-            } => self.base(alloc, *peer, target, header, state, tx),
+            } => match BaseBox::new(alloc) {
+                Ok(room) => self.base(alloc, room, *peer, target, header, state, tx),
+                Err(_) => Reply::Memory,
+            },
             Command::Node {
                 peer,
                 target,

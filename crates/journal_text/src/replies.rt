@@ -50,7 +50,7 @@ pub(crate) fn push_reply(text: &mut String, reply: &Reply) -> Result<(), AllocEr
         Reply::ZeroHash(form) => push_zero_hash(text, form),
         Reply::Want(reply) => push_want(text, reply),
         Reply::Peer(reply) => text.push_str(peer_words(reply)),
-        Reply::Base(reply) => push_base(text, reply),
+        Reply::Base(reply) => push_base(text, reply.get()),
         Reply::Node(reply) => push_node(text, reply),
         Reply::Check(reply) => push_check(text, reply),
         Reply::Tick(reply) => push_tick(text, reply),

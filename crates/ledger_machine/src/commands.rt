@@ -3,8 +3,9 @@
 ghost use Rattle.std.specs.Prelude.{◌≡◌};
 ghost use Rattle.ledger_machine.specs.Commands.{nature_of};
 
+use crate::base_box::BaseBox;
 use half_hash::{Blob, Hash32};
-use ledger_spec::{BaseReply, CheckReply, NodeReply, PeerReply, TickReply};
+use ledger_spec::{CheckReply, NodeReply, PeerReply, TickReply};
 use nib_path::NodeId;
 use shamap_node::{Item, Kind, Node};
 use std::sync::Arc;
@@ -240,7 +241,7 @@ pub enum Reply {
     ZeroHash(Blob),
     Want(WantReply),
     Peer(PeerReply),
-    Base(BaseReply),
+    Base(BaseBox),
     Node(NodeReply),
     Check(CheckReply),
     Tick(TickReply),
