@@ -4,8 +4,8 @@ use Rattle.std.proofs.Common.{None, sym, ap, ◌∙◌, subst, arith, length-app
 use Rattle.ledger_spec.specs.Bytes.{Half, Lookup}
 use Rattle.ledger_spec.proofs.shared.ReachLaws.{Grows}
 use Rattle.missing_walk.specs.declared.todo.Open.{Open}
-use Rattle.missing_walk.specs.Pending.{Pending, placed, FoundAs, IsInnerAt, IsFull, Within, Around}
-use Rattle.missing_walk.proofs.shared.Places.{found_step, found_full, found_grows, inner_grows}
+use Rattle.missing_walk.specs.Pending.{Pending, placed, FoundAs, IsOpen, IsFull, Within, Around}
+use Rattle.missing_walk.proofs.shared.Places.{found_step, found_full, found_grows, open_grows}
 
 take_past : (ks ps : List Pending) (m : ℕ) → take (length ks + m) (ks ++ ps) ≡ ks ++ take m ps
 take_past [] ps m = let e : 0 + m ≡ m = omega arith in ap (λ n. take n ps) e
@@ -59,7 +59,7 @@ module _ (half : Half) (nodes : Lookup) where
 
   -- the search goes below the top place
   pub within_open : (os : List Open) (o : Open) (p : Pending) (ks ps : List Pending) → FoundAs half nodes p (placed o.at None ∷ [])
-      → FoundAs half nodes (placed o.at None) ks → IsInnerAt half nodes o.at.hash → o.height ≡ length ps
+      → FoundAs half nodes (placed o.at None) ks → IsOpen half nodes o → o.height ≡ length ps
       → Within half nodes os (p ∷ ps) → Around half nodes (o ∷ os) (ks ++ ps)
   within_open os o p ks ps same f at top w =
       let le : o.height ≤ length ps = omega (arith, top) in
@@ -79,7 +79,7 @@ module _ (half : Half) (nodes : Lookup) where
       let zero_left : length ps - o.height ≡ 0 = omega (arith, top) in
       let none : FoundAs half nodes (placed o.at None) [] =
       subst (λ n. FoundAs half nodes (placed o.at None) (take n ps)) zero_left a.2 in (
-        found_full half nodes o.at a.1 none,
+        found_full half nodes o.at a.1.inner_there none,
         within_step os (placed o.at None) [] ps none
             (subst (λ n. Within half nodes os (placed o.at None ∷ drop n ps)) zero_left a.3),
       )
@@ -93,7 +93,7 @@ module _ (half : Half) (nodes : Lookup) where
   within_grows more up [] ps w = tt
   within_grows more up (o ∷ os) ps w = (
     w.0,
-    inner_grows half nodes more o.at.hash up w.1,
+    open_grows half nodes more o up w.1,
     found_grows half nodes more (placed o.at None) _ up w.2,
     within_grows more up os _ w.3,
   )

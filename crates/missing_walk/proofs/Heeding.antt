@@ -1,9 +1,11 @@
 -- A search goes on by what was seen at the place on top of its stack.
 use Rattle.std.proofs.Common.{◌≡◌, ℕ, ◌-◌, ◌<◌, ◌≤◌, ◌==◌, ◌||◌, Bool, true, false, is_some, nat_le, List, [], ◌∷◌}
 use Rattle.std.proofs.Common.{◌++◌, length}
-use Rattle.std.proofs.Common.{Option, None, Some, IfSome, refl, sym, ap, ◌∙◌, subst, arith}
+use Rattle.std.proofs.Common.{Option, None, Some, IfSome, refl, sym, ap, ◌∙◌, subst, arith, drop, All}
 use Rattle.std.specs.Prelude.{reverse, map}
 use Rattle.std.proofs.lemmas.List.{append_assoc, map-append}
+use Rattle.std.proofs.lemmas.List.Elements.{All-nil, All-cons}
+use Rattle.std.proofs.lemmas.List.Sorted.{All-permutation, IsPermutation-sym, IsPermutation-reverse}
 use Rattle.std.proofs.lemmas.Bool.Decides.{nat_tests}
 use Rattle.ledger_spec.specs.declared.Place.{Place}
 use Rattle.ledger_spec.specs.declared.ShapeFault.{ShapeFault}
@@ -11,6 +13,7 @@ use Rattle.ledger_spec.specs.Bytes.{Hash, Half, Lookup}
 use Rattle.ledger_spec.specs.Forms.{inner}
 use Rattle.ledger_spec.specs.Findings.{lacks, breaks}
 use Rattle.shamap_node.specs.declared.Node.{Node}
+use Rattle.shamap_node.specs.Nodes.{held}
 use Rattle.full_below.specs.declared.key.MarkKey.{MarkKey}
 use Rattle.full_below.specs.declared.marks.Marks.{Marks}
 use Rattle.full_below.specs.Marking.{AreMarked}
@@ -23,7 +26,7 @@ use Rattle.missing_walk.specs.declared.search.Search.{Search}
 use Rattle.missing_walk.specs.Sees.{most_missing, IsHeaderOf}
 use Rattle.missing_walk.specs.Pending.{Pending, placed, pending_of, stacked, noted_places, found_at, found_all, FoundAs, Covers}
 use Rattle.missing_walk.specs.Pending.{AreBelow, kids_of}
-use Rattle.missing_walk.specs.Pending.{IsHeldAt, IsInnerAt, IsFull, IsCachedTrue, Within, Around}
+use Rattle.missing_walk.specs.Pending.{IsHeldAt, IsInnerAt, IsFull, IsCachedTrue, IsOpen, Within, Around}
 use Rattle.missing_walk.specs.Stacks.{Opens}
 use Rattle.missing_walk.specs.Views.{GoesBelow}
 use Rattle.missing_walk.specs.Searching.{BreaksOnTop, Going, SameSearch, place_of}
@@ -31,6 +34,7 @@ use Rattle.missing_walk.specs.Moves.{Inside, Heeds}
 use Rattle.missing_walk.proofs.shared.Places.{all_append, all_one, covers_step, held_grows}
 use Rattle.missing_walk.proofs.Meetings.{none_below, kids_below}
 use Rattle.missing_walk.proofs.Frames.{within_step, within_open}
+use Rattle.missing_walk.proofs.Seeing.{inner_held}
 use Rattle.missing_walk.proofs.Stacking.{stacked_top, length_stacked, last_first}
 
 module _ (half : Half) (nodes : Lookup) where
@@ -50,6 +54,17 @@ module _ (half : Half) (nodes : Lookup) where
   pub within_around : (os : List Open) (ps : List Pending) → Within half nodes os ps → Around half nodes os ps
   within_around [] ps w = tt
   within_around (o ∷ os) ps w = (omega (arith, w.0), w.1, w.2, w.3)
+
+  -- each of the inner nodes that were gone below is held
+  all_open : (os : List Open) (ps : List Pending) → Within half nodes os ps → All (IsOpen half nodes) os
+  all_open [] ps w = All-nil (IsOpen half nodes)
+  all_open (o ∷ os) ps w =
+      All-cons (IsOpen half nodes) o os w.1 (all_open os (placed o.at None ∷ drop (length ps - o.height) ps) w.3)
+
+  pub within_held : (items : List Open) (ps : List Pending) → Within half nodes (reverse items) ps → All (IsOpen half nodes) items
+  within_held items ps w =
+      All-permutation (IsOpen half nodes) (reverse items) items
+      (IsPermutation-sym items (reverse items) (IsPermutation-reverse items)) (all_open (reverse items) ps w)
 
   none_broken : (s : Search) (b : Option (Place × ShapeFault)) → b ≡ None
       → IfSome b (λ x. BreaksOnTop half nodes s.stack.items s.missing.items x.0 x.1)
@@ -95,7 +110,12 @@ module _ (half : Half) (nodes : Lookup) where
       → Heeds half nodes s s'
   heeds_below s s' rest top node target missing broken stack o g =
       let ks : List Pending = kids_of top.at.kind top.at.id node in
-      let at : IsInnerAt half nodes o.one.at.hash = subst (λ (k : MarkKey). IsInnerAt half nodes k.hash) (sym o.at_is) g.inner_there in
+      let at : IsOpen half nodes o.one = record {
+        inner_there = subst (λ (k : MarkKey). IsInnerAt half nodes k.hash) (sym o.at_is) g.inner_there;
+        held_there = subst (λ (n : Node). IsHeldAt half nodes o.one.at.hash (held n)) (sym o.node_is)
+            (subst (λ (k : MarkKey). IsHeldAt half nodes k.hash (held node)) (sym o.at_is)
+            (inner_held half nodes (pending_of top) node g.seen));
+      } in
       let key_top : FoundAs half nodes (placed top.at None) ks =
       found_like (placed top.at None) (pending_of top) ks (parent_free top.at None (pending_of top).parent g.inner_there) g.found in
       record {

@@ -20,8 +20,8 @@ use Rattle.missing_walk.specs.Pending.{Pending, stacked, noted_places, IsMet}
 use Rattle.missing_walk.specs.Begins.{Begins, root_place}
 use Rattle.missing_walk.specs.Moves.{has_ended}
 use Rattle.missing_walk.specs.Searching.{Kept, OnMore, Renews}
-use Rattle.missing_walk.specs.Rests.{weight, stored_weight, most_below, most_from, most_again, load, left_in, rest_by, rest, bound_by, bound}
-use Rattle.missing_walk.specs.Rests.{GoesOn}
+use Rattle.missing_walk.specs.Rests.{weight, stored_weight, most_below, most_from, most_again, load, left_in, rest_by, rest}
+use Rattle.missing_walk.specs.Rests.{bound_by, bound, GoesOn}
 use Rattle.missing_walk.proofs.Finishing.{header_there}
 use Rattle.missing_walk.proofs.Stacking.{length_stacked}
 use Rattle.missing_walk.proofs.Meetings.{meets_nonzero}

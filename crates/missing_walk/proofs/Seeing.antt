@@ -34,7 +34,7 @@ use Rattle.missing_walk.specs.declared.sight.View.{View}
 use Rattle.missing_walk.specs.declared.sight.View.TheVariants as view
 use Rattle.missing_walk.specs.Pending.{Pending, branches_in, placed, FoundAs, kids_of, kids_from, IsHeldAt, IsFull}
 use Rattle.missing_walk.specs.Pending.{IsCachedTrue}
-use Rattle.missing_walk.specs.Views.{Tells, ShowsAs, Views, KeepsMarks, KeepsCache, MayPut}
+use Rattle.missing_walk.specs.Views.{Tells, IsSoundInner, ShowsAs, Views, KeepsMarks, KeepsCache, MayPut}
 use Rattle.missing_walk.proofs.Walking.{above_bottom, no_fault}
 use Rattle.missing_walk.proofs.shared.Places.{full_found, leaf_found, inner_found, missing_found, broken_found}
 
@@ -137,13 +137,12 @@ module _ (half : Half) (nodes : Lookup) where
   node_held (variant.Inner i) hashes is = let e : i.hashes ≡ hashes = cc in ap inner e
   node_held (variant.Leaf l) hashes is = cc
 
-  pub inner_held : (kind : Kind) (parent : Option (List Hash)) (path : List ℕ) (h : Hash) (v : View) (node : Arc Node Global)
-      → v ≡ view.Below node → ShowsAs v (at_place half nodes kind parent path h) → IsHeldAt half nodes h (held node.value)
-  inner_held kind parent path h v node e shows =
-      let seen : ShowsAs (view.Below node) (at_place half nodes kind parent path h) =
-      subst (λ x. ShowsAs x (at_place half nodes kind parent path h)) e shows in
-      subst (IsHeldAt half nodes h) (sym (node_held node.value seen.hashes seen.inner_node))
-      (sound_held kind parent path h (inner seen.hashes) seen.seen)
+  -- an inner node that belongs there is held
+  pub inner_held : (p : Pending) (node : Node) → IsSoundInner node (at_place half nodes p.kind p.parent p.path p.hash)
+      → IsHeldAt half nodes p.hash (held node)
+  inner_held p node seen =
+      subst (IsHeldAt half nodes p.hash) (sym (node_held node seen.hashes seen.inner_node))
+      (sound_held p.kind p.parent p.path p.hash (inner seen.hashes) seen.seen)
 
 -- a mark that is used
 pub use_keeps : (m m' : Marks) (key : MarkKey) → m' ≡ after_use m key → KeepsMarks m m'

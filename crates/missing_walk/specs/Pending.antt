@@ -144,17 +144,22 @@ pub record IsFull (half : Half) (nodes : Lookup) (key : MarkKey) : Type 0 where
 abbrev pub IsCachedTrue : Half → Lookup → Hash → Node → Type 0
 IsCachedTrue half nodes h n = IsHeldAt half nodes h (held n)
 
+-- an inner node that a search has gone below is the one that is held under its hash
+pub record IsOpen (half : Half) (nodes : Lookup) (o : Open) : Type 0 where
+  pub inner_there : IsInnerAt half nodes o.at.hash
+  pub held_there : IsHeldAt half nodes o.at.hash (held o.node.value)
+
 -- the inner nodes that a search has gone below, the last first: of each one all that is found at it is found at the places above its
 -- height in the stack, the nodes that were gone below later standing for those above theirs
 abbrev pub Within : Half → Lookup → List Open → List Pending → Type 0
 Within half nodes [] ps = ⊤
 Within half nodes (o ∷ os) ps =
-    (o.height < length ps) × IsInnerAt half nodes o.at.hash × FoundAs half nodes (placed o.at None) (take (length ps - o.height) ps)
+    (o.height < length ps) × IsOpen half nodes o × FoundAs half nodes (placed o.at None) (take (length ps - o.height) ps)
     × Within half nodes os (placed o.at None ∷ drop (length ps - o.height) ps)
 
 -- the same, where perhaps no place is left above the last one's height
 abbrev pub Around : Half → Lookup → List Open → List Pending → Type 0
 Around half nodes [] ps = ⊤
 Around half nodes (o ∷ os) ps =
-    (o.height ≤ length ps) × IsInnerAt half nodes o.at.hash × FoundAs half nodes (placed o.at None) (take (length ps - o.height) ps)
+    (o.height ≤ length ps) × IsOpen half nodes o × FoundAs half nodes (placed o.at None) (take (length ps - o.height) ps)
     × Within half nodes os (placed o.at None ∷ drop (length ps - o.height) ps)

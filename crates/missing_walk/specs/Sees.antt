@@ -13,7 +13,7 @@ use Rattle.ledger_spec.specs.Spots.{header_in}
 use Rattle.ledger_header.specs.declared.Header.{Header}
 use Rattle.ledger_header.specs.Fields.{fields, Reads}
 use Rattle.ledger_spec.specs.Forms.{leaf}
-use Rattle.ledger_spec.specs.Findings.{Sight, missing, broken, sound, walk_map, Finding, lacks, breaks}
+use Rattle.ledger_spec.specs.Findings.{Sight, sound, walk_map, Finding, lacks, breaks}
 use Rattle.ledger_spec.specs.Findings.{missing_of, first_broken, seen}
 use Rattle.tree_laws.specs.Walks.{finding_of}
 use Rattle.missing_walk.specs.declared.Found.{Found}

@@ -21,6 +21,7 @@ pub record Opens (rest : List Todo) (top : Todo) (node : Node) (new : List Todo)
   pub one : Open
   pub at_is : one.at ≡ top.at
   pub height_is : one.height ≡ length rest
+  pub node_is : one.node.value ≡ node
   pub open_is : open_after ≡ open_before ++ one ∷ []
   pub places : stacked new ≡ kids_of top.at.kind top.at.id node ++ stacked rest
 

@@ -12,7 +12,6 @@ use Rattle.ledger_spec.specs.Own.{own_forms}
 use Rattle.tree_laws.specs.Walks.{at_place}
 use Rattle.shamap_node.specs.declared.Node.{Node}
 use Rattle.shamap_node.specs.declared.Node.TheVariants as nodes
-use Rattle.shamap_node.specs.declared.parts.Inner.{Inner}
 use Rattle.rotating_store.specs.Stores.{Store, nodes_of}
 use Rattle.rotating_store.specs.Reading.{IsReadable}
 use Rattle.full_below.specs.declared.key.MarkKey.{MarkKey}

@@ -9,14 +9,14 @@ ghost use Rattle.missing_walk.specs.Searching.{Kept};
 ghost use Rattle.missing_walk.specs.Passes.{IsIdle, PassesOne, PassesSome, AnswersTrue, StaysPut};
 ghost use Rattle.missing_walk.specs.Moves.{has_ended};
 ghost use Rattle.missing_walk.specs.Rests.{left_in};
-ghost use Rattle.missing_walk.specs.Leaving.{LeavesUsed};
+ghost use Rattle.missing_walk.specs.Leaving.{LeavesUsed, KeepsOpen};
 ghost use Rattle.missing_walk.specs.Runs.{Lightens, GoesOnBy, NotesOne, RunsOn, StaysWhole};
 
 use crate::search::{MOST_MISSING, Search};
 use crate::sight::View;
 use crate::stack::{go_below, note, put_back, settle, skip};
 use crate::todo::Todo;
-use crate::view::see;
+use crate::view::{keep_all, see};
 use full_below::Marks;
 use half_hash::{Memory, NodeHash};
 use ledger_spec::Place;
@@ -128,19 +128,21 @@ impl Search {
         };
         let place = top.place();
         let view = see::<H, Sh>(alloc, store, cache, marks, top, room)?;
-        Ok(self.heed(view, place)?)
+        Ok(self.heed(cache, view, place)?)
     }
 
-    // Goes on by what was seen at the place on top of the stack.
-    fn heed(&mut self, view: View, place: Place) -> Result<(), Memory>
+    // Goes on by what was seen at the place on top of the stack. Where the place is missing, the inner nodes on the way to it are cached.
+    fn heed(&mut self, cache: &mut TreeCache, view: View, place: Place) -> Result<(), Memory>
         requires some { 0 < vec_len self.old.stack }
         requires top { (rest : List Todo) (top : Todo) → self.old.stack.items ≡ rest ++ top ∷ []
             → HasLevels (length top.at.id) view × (length top.at.id ≤ 64) }
         ensures goes { GoesOnBy self.old self.new view place result }
         ensures notes { NotesOne self.old.broken self.old self.new result }
+        ensures cached { KeepsOpen self.old cache.old cache.new }
     {
         match view {
             View::Missing => {
+                keep_all(cache, &self.opened);
                 self.opened.clear();
                 Ok(note(&mut self.stack, &mut self.missing)?)
             }
@@ -148,7 +150,7 @@ impl Search {
                 self.broken = Some((place, fault));
                 Ok(())
             }
-            View::Below(node) => Ok(go_below(&mut self.stack, &mut self.opened, &node)?),
+            View::Below(node) => Ok(go_below(&mut self.stack, &mut self.opened, node)?),
             View::Nothing => {
                 skip(&mut self.stack);
                 Ok(())

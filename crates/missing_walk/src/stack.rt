@@ -1,5 +1,5 @@
 //! The stack of a search: the places to look at, the next one last, and the inner nodes below which they lie.
-ghost use Rattle.std.specs.Prelude.{◌≡◌, ◌+◌, ◌++◌, ◌∷◌, ◌<◌, ◌≤◌, ℕ, List, [], Some, IfOk, OnOk, OnErr, length, reverse, vec_len};
+ghost use Rattle.std.specs.Prelude.{◌≡◌, ◌+◌, ◌++◌, ◌∷◌, ◌<◌, ◌≤◌, List, [], Some, IfOk, OnOk, OnErr, length, reverse, vec_len};
 ghost use Rattle.ledger_spec.specs.Bytes.{Half, Lookup};
 ghost use Rattle.full_below.specs.Marking.{AreMarked};
 ghost use Rattle.missing_walk.specs.Pending.{Pending, branches_in, kid, kids_from, kids_of, IsFull, Within, Around};
@@ -54,23 +54,25 @@ pub(crate) fn skip(stack: &mut Vec<Todo>)
 pub(crate) fn go_below(
     stack: &mut Vec<Todo>,
     opened: &mut Vec<Open>,
-    node: &Arc<Node>,
+    node: Arc<Node>,
 ) -> Result<(), Memory>
     requires some { 0 < vec_len stack.old }
     requires levels { (rest : List Todo) (top : Todo) → stack.old.items ≡ rest ++ top ∷ [] → length top.at.id < 64 }
     ensures ok { (rest : List Todo) (top : Todo) → stack.old.items ≡ rest ++ top ∷ [] → OnOk result
-        (Opens rest top node.now.value stack.new.items opened.old.items opened.new.items) }
+        (Opens rest top node.value stack.new.items opened.old.items opened.new.items) }
     ensures err { OnErr result ((stack.new.items ≡ stack.old.items) × (opened.new.items ≡ opened.old.items)) }
 {
+    opened.reserve(1)?;
     let height = stack.len() - 1;
     let at = stack[height].at;
-    opened.push(Open { at, height })?;
-    if push_kids(stack, node, &at).is_err() {
+    if push_kids(stack, &node, &at).is_err() {
         stack.truncate(height + 1);
-        drop(opened.pop());
         return Err(Memory);
     }
     drop(stack.remove(height));
+    let Ok(()) = opened.push(Open { at, height, node }) else {
+        unreachable!();
+    };
     Ok(())
 }
 

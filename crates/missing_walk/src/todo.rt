@@ -27,8 +27,9 @@ impl Todo {
 }
 
 /// An inner node whose places below stand in the stack from this height on.
-#[derive(Clone, Copy)]
+#[derive(Drop)]
 pub struct Open {
     pub(crate) at: MarkKey,
     pub(crate) height: usize,
+    pub(crate) node: Arc<Node>,
 }

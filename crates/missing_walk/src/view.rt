@@ -1,17 +1,17 @@
 //! What a search sees at a place: what is marked or cached is not asked of the store.
-ghost use Rattle.std.specs.Prelude.{◌≡◌, ◌+◌, IfOk, IfErr, OnOk, OnErr, length};
-ghost use Rattle.ledger_spec.specs.Bytes.{Lookup};
+ghost use Rattle.std.specs.Prelude.{◌≡◌, ◌+◌, All, IfOk, IfErr, OnOk, OnErr, length};
+ghost use Rattle.ledger_spec.specs.Bytes.{Half, Lookup};
 ghost use Rattle.shamap_node.specs.Nodes.{hashes_above};
 ghost use Rattle.tree_laws.specs.Walks.{at_place};
 ghost use Rattle.tree_cache.specs.Caching.{shown as shown_node, cached as cached_in, after_get};
-ghost use Rattle.missing_walk.specs.Pending.{above, branches_in};
-ghost use Rattle.missing_walk.specs.Views.{Tells, ShowsAs, KeepsMarks, HasLevels, MayPut};
+ghost use Rattle.missing_walk.specs.Pending.{above, branches_in, IsOpen, IsCachedTrue};
+ghost use Rattle.missing_walk.specs.Views.{Tells, ShowsAs, KeepsCache, KeepsMarks, HasLevels, MayPut};
 ghost use Rattle.shamap_node.specs.declared.Node.TheVariants as nodes;
 ghost use Rattle.missing_walk.specs.Leaving.{Asks, KeepsCached};
 ghost use Rattle.missing_walk.specs.Sights.{SeesAt, PassesMarked};
 
 use crate::sight::{View, judge_node, look};
-use crate::todo::Todo;
+use crate::todo::{Open, Todo};
 use full_below::Marks;
 use half_hash::{Hash32, NodeHash};
 use node_backend::{BackFault, Shelf};
@@ -46,7 +46,7 @@ pub(crate) fn see<H: NodeHash, Sh: Shelf>(
     }
     match cached(cache, &todo.at.hash)? {
         Some(node) => Ok(judge_node(node, todo.at.kind, inner_above(&todo.parent), &todo.at.id)),
-        None => Ok(fetch::<H, Sh>(alloc, store, cache, todo, room)?),
+        None => Ok(fetch::<H, Sh>(alloc, store, todo, room)?),
     }
 }
 
@@ -83,22 +83,20 @@ fn inner_in(node: &Node) -> Option<&Inner>
     }
 }
 
-// What is seen where the store is asked. An inner node is cached, where memory for that is there.
+// What is seen where the store is asked.
 fn fetch<H: NodeHash, Sh: Shelf>(
     alloc: Global,
     store: &mut RotStore<Sh>,
-    cache: &mut TreeCache,
     todo: &Todo,
     room: &mut Vec<u8>,
 ) -> Result<View, BackFault>
     ensures shows { (nodes : Lookup) → Tells Sh.B.tells H.half store.old nodes → IfOk result (λ v. ShowsAs v
         (at_place H.half nodes todo.now.at.kind (above todo.now.parent) todo.now.at.id todo.now.at.hash)) }
     ensures levels { IfOk result (HasLevels (length todo.now.at.id)) }
-    ensures cached { KeepsCached Sh.B.tells H.half store.old cache.old cache.new }
     ensures asks { Asks Sh.B.tells H.half BackFault.Fault (store.old.gets + 2) store.old store.new result }
 {
     let parent = inner_above(&todo.parent);
-    match look::<H, Sh>(
+    look::<H, Sh>(
         alloc,
         store,
         todo.at.kind,
@@ -106,23 +104,28 @@ fn fetch<H: NodeHash, Sh: Shelf>(
         &todo.at.id,
         &todo.at.hash,
         room,
-    )? {
-        View::Below(node) => Ok(View::Below(keep(cache, &todo.at.hash, node)?)),
-        other => Ok(other),
+    )
+}
+
+/// Puts inner nodes that are held under their hashes into the cache, where memory for that is there.
+pub(crate) fn keep_all(cache: &mut TreeCache, opened: &[Open])
+    ensures entries { (half : Half) (nodes : Lookup) → All (IsOpen half nodes) opened.now
+        → KeepsCache (IsCachedTrue half nodes) cache.old cache.new }
+    ensures generation { cache.new.generation ≡ cache.old.generation }
+{
+    for one in opened {
+        keep(cache, &one.at.hash, &one.node);
     }
 }
 
 // The inner node that is held under the hash, put into the cache where memory for that is there.
-fn keep(cache: &mut TreeCache, h: &Hash32, node: Arc<Node>) -> Result<Arc<Node>, BackFault>
-    ensures node { IfOk result (λ kept. kept.value ≡ node.value) }
-    ensures cache { MayPut cache.old h.now node.value cache.new }
+fn keep(cache: &mut TreeCache, h: &Hash32, node: &Arc<Node>)
+    ensures cache { MayPut cache.old h.now node.now.value cache.new }
     ensures generation { cache.new.generation ≡ cache.old.generation }
-    ensures fault { IfErr result (λ e. e ≡ BackFault.Memory) }
 {
-    let Ok(again) = Arc::try_clone(&node) else {
-        return Err(BackFault::Memory);
+    let Ok(again) = Arc::try_clone(node) else {
+        return;
     };
     let generation = cache.generation();
     let _kept = cache.put_hashed(h, again, generation);
-    Ok(node)
 }

@@ -21,7 +21,7 @@ use Rattle.missing_walk.specs.Sees.{IsHeaderOf}
 use Rattle.missing_walk.specs.Pending.{Pending, placed, Around}
 use Rattle.missing_walk.specs.Searching.{Kept, Rule}
 use Rattle.missing_walk.proofs.Meetings.{covers_grows}
-use Rattle.missing_walk.proofs.shared.Places.{full_grows, held_grows, inner_grows, found_grows}
+use Rattle.missing_walk.proofs.shared.Places.{full_grows, held_grows, open_grows, found_grows}
 use Rattle.missing_walk.proofs.Frames.{within_grows}
 
 module _ (half : Half) (m n : Lookup) (up : Grows m n) where
@@ -36,7 +36,7 @@ module _ (half : Half) (m n : Lookup) (up : Grows m n) where
   around_grows : (os : List Open) (ps : List Pending) → Around half m os ps → Around half n os ps
   around_grows [] ps a = tt
   around_grows (o ∷ os) ps a =
-      (a.0, inner_grows half m n o.at.hash up a.1, found_grows half m n (placed o.at None) _ up a.2, within_grows half m n up os _ a.3)
+      (a.0, open_grows half m n o up a.1, found_grows half m n (placed o.at None) _ up a.2, within_grows half m n up os _ a.3)
 
   kept_grows : (s : Search) → is_some s.header ≡ true → Kept half m s → Kept half n s
   kept_grows s there k = record {

@@ -15,9 +15,11 @@ use Rattle.ledger_spec.proofs.shared.Growth.{sight_same, walk_same}
 use Rattle.full_below.specs.declared.key.MarkKey.{MarkKey}
 use Rattle.tree_laws.specs.Walks.{at_place, finding_of, found_below, found_in}
 use Rattle.tree_laws.proofs.shared.Below.{below_zero, below_end, below_inner, found_any}
+use Rattle.shamap_node.specs.Nodes.{held}
+use Rattle.missing_walk.specs.declared.todo.Open.{Open}
 use Rattle.missing_walk.specs.Sees.{is_sound_leaf}
 use Rattle.missing_walk.specs.Pending.{Pending, placed, found_at, found_all, FoundAs, IsMet, Covers, AreBelow, kid}
-use Rattle.missing_walk.specs.Pending.{kids_from, IsHeldAt, IsInnerAt, IsFull}
+use Rattle.missing_walk.specs.Pending.{kids_from, IsHeldAt, IsInnerAt, IsFull, IsOpen}
 use Rattle.missing_walk.proofs.Walking.{leaf_end, leaf_bare}
 use Rattle.missing_walk.proofs.Apart.{met_step, apart_step}
 
@@ -68,6 +70,12 @@ module _ (half : Half) where
 
     pub inner_grows : (more : Lookup) (h : Hash) → Grows nodes more → IsInnerAt half nodes h → IsInnerAt half more h
     inner_grows more h up at = record { hashes = at.hashes; there = held_grows more h (inner at.hashes) up at.there }
+
+    pub open_grows : (more : Lookup) (o : Open) → Grows nodes more → IsOpen half nodes o → IsOpen half more o
+    open_grows more o up at = record {
+      inner_there = inner_grows more o.at.hash up at.inner_there;
+      held_there = held_grows more o.at.hash (held o.node.value) up at.held_there;
+    }
 
     -- a marked place stands for none, whatever is above it
     pub full_found : (key : MarkKey) (parent : Option (List Hash)) → IsFull half nodes key → FoundAs half nodes (placed key parent) []

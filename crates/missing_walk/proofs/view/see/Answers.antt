@@ -4,7 +4,7 @@ use Rattle.ledger_spec.specs.Rules.{fault_of}
 use Rattle.shamap_node.specs.Nodes.{held}
 use Rattle.missing_walk.specs.Views.{ShowsAs}
 use Rattle.missing_walk.specs.Pending.{pending_of, above}
-use Rattle.missing_walk.proofs.Seeing.{zero_found, views_marked, views_cached, views_from, use_keeps, same_keeps, get_keeps, keeps_then}
+use Rattle.missing_walk.proofs.Seeing.{zero_found, views_marked, views_cached, views_from, use_keeps, same_keeps, get_keeps}
 use Rattle.missing_walk.proofs.Passing.{use_still}
 use Rattle.missing_walk.proofs.Weights.{weight_some, weighs_seen, weighs_cached, true_false}
 use Rattle.missing_walk.proofs.view.see.Goals as goal
@@ -46,9 +46,8 @@ returns-in_err-node-clause-marks g c = use_keeps c.args.marks.now c.is_full.new.
 pub returns-in_err-fetch-in-None-clause-cached : goal.returns-in_err-fetch-in-None-clause-cached
 returns-in_err-fetch-in-None-clause-cached g c =
     record {
-      entries = λ nodes t. keeps_then g.H.NodeHash.half nodes c.args.cache.now c.cached.new.cache c.fetch.new.cache
-          (get_keeps g.H.NodeHash.half nodes c.args.cache.now c.cached.new.cache c.args.todo.now.at.hash _ c.in_ok-node.ensures.used)
-          (c.fetch.ensures.cached.entries nodes t);
+      entries = λ nodes t. get_keeps g.H.NodeHash.half nodes c.args.cache.now c.cached.new.cache c.args.todo.now.at.hash _
+          c.in_ok-node.ensures.used;
       generation = search rules;
     }
 
@@ -101,9 +100,8 @@ returns-in_ok-fetch-in-None-clause-seen g c =
 pub returns-in_ok-fetch-in-None-clause-cached : goal.returns-in_ok-fetch-in-None-clause-cached
 returns-in_ok-fetch-in-None-clause-cached g c =
     record {
-      entries = λ nodes t. keeps_then g.H.NodeHash.half nodes c.args.cache.now c.cached.new.cache c.fetch.new.cache
-          (get_keeps g.H.NodeHash.half nodes c.args.cache.now c.cached.new.cache c.args.todo.now.at.hash _ c.in_ok-node.ensures.used)
-          (c.fetch.ensures.cached.entries nodes t);
+      entries = λ nodes t. get_keeps g.H.NodeHash.half nodes c.args.cache.now c.cached.new.cache c.args.todo.now.at.hash _
+          c.in_ok-node.ensures.used;
       generation = search rules;
     }
 

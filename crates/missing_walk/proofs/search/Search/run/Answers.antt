@@ -1,4 +1,4 @@
-use Rattle.std.proofs.Common.{◌≡◌, ◌+◌, ◌≤◌, false, sym, ◌∙◌, arith, rules}
+use Rattle.std.proofs.Common.{sym, ◌∙◌, arith, rules}
 use Rattle.std.proofs.lemmas.Grind.{common_steps}
 use Rattle.missing_walk.proofs.shared.Seeing.{tells_after}
 use Rattle.missing_walk.proofs.shared.Heeding.{goes_on}
@@ -24,7 +24,8 @@ loop-preserved g c = record {
       (c.loop.invariant.going nodes t going) in
       record { fewer = λ unbroken. omega (arith, step.fewer unbroken, before.fewer more.0) };
   bounds = let more = goes_on c.loop.self (sym c.is_over.ensures ∙ c.if-is_over.false) in
-      record { fewer = λ unbroken. omega (arith, c.in_ok-turn.ensures.lighter.bounds.fewer unbroken, c.loop.invariant.bounds.fewer more.0) };
+      let step = c.in_ok-turn.ensures.lighter.bounds in
+      record { fewer = λ unbroken. omega (arith, step.fewer unbroken, c.loop.invariant.bounds.fewer more.0) };
   same = first_of (search rules, grind (arith, common_steps));
   few = first_of (search rules, grind (arith, common_steps));
   cache = first_of (search rules, grind (arith, common_steps));

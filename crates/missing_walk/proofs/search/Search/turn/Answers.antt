@@ -10,7 +10,7 @@ use Rattle.missing_walk.specs.Moves.{Heeds}
 use Rattle.missing_walk.proofs.Stacking.{length_stacked, EndsIn, last_is}
 use Rattle.missing_walk.proofs.Seeing.{fewer_marked}
 use Rattle.missing_walk.proofs.shared.Heeding.{goes_on}
-use Rattle.missing_walk.proofs.Heeding.{inside_of_going, inside_same, within_around, going_on}
+use Rattle.missing_walk.proofs.Heeding.{inside_of_going, inside_same, within_around, within_held, going_on}
 use Rattle.std.proofs.Common.{true, subst}
 use Rattle.full_below.specs.Marking.{is_marked}
 use Rattle.missing_walk.specs.Passes.{StillMarked}
@@ -56,7 +56,9 @@ returns-in_err-heed-clause-lighter g c =
           let heeds : Heeds half nodes _ c.heed.new.self = c.heed.ensures.goes.heeds half nodes last.rest c.in-Some.top.now last.is
           c.place-place.ensures
           (c.in_ok-view.ensures.seen.view nodes t marked going.cache) in
-          going_on half nodes s c.heed.new.self c.args.cache.now c.see.new.cache c.args.marks.now c.see.new.marks
+          let within = c.settle.ensures.within half nodes (stacked s.stack.items) len going.kept.around in
+          let held = within_held half nodes c.settle.new.opened.items (stacked s.stack.items) within in
+          going_on half nodes s c.heed.new.self c.args.cache.now c.heed.new.cache c.args.marks.now c.see.new.marks
           (record {
             target = c.heed.ensures.notes.same.target;
             generation = c.heed.ensures.notes.same.generation;
@@ -66,10 +68,10 @@ returns-in_err-heed-clause-lighter g c =
           going
           (heeds.inside more.0 more.1
           (inside_same half nodes s _ refl refl refl refl more.0 (inside_of_going half nodes s c.args.cache.now c.args.marks.now going)))
-          (heeds.around (c.settle.ensures.within half nodes (stacked s.stack.items) len going.kept.around))
+          (heeds.around within)
           (omega (arith, c.heed.ensures.notes.few, more.1))
           (fewer_marked (IsFull half nodes) c.settle.new.marks c.see.new.marks c.see.ensures.marks marked)
-          ((c.see.ensures.cached.entries nodes t).entries going.cache);
+          ((c.heed.ensures.cached.entries half nodes held).entries ((c.see.ensures.cached.entries nodes t).entries going.cache));
       rests = first_of (search rules, grind (arith, common_steps));
       bounds = first_of (search rules, grind (arith, common_steps));
     }
@@ -119,7 +121,9 @@ returns-clause-lighter g c =
           let heeds : Heeds half nodes _ c.heed.new.self = c.heed.ensures.goes.heeds half nodes last.rest c.in-Some.top.now last.is
           c.place-place.ensures
           (c.in_ok-view.ensures.seen.view nodes t marked going.cache) in
-          going_on half nodes s c.heed.new.self c.args.cache.now c.see.new.cache c.args.marks.now c.see.new.marks
+          let within = c.settle.ensures.within half nodes (stacked s.stack.items) len going.kept.around in
+          let held = within_held half nodes c.settle.new.opened.items (stacked s.stack.items) within in
+          going_on half nodes s c.heed.new.self c.args.cache.now c.heed.new.cache c.args.marks.now c.see.new.marks
           (record {
             target = c.heed.ensures.notes.same.target;
             generation = c.heed.ensures.notes.same.generation;
@@ -129,10 +133,10 @@ returns-clause-lighter g c =
           going
           (heeds.inside more.0 more.1
           (inside_same half nodes s _ refl refl refl refl more.0 (inside_of_going half nodes s c.args.cache.now c.args.marks.now going)))
-          (heeds.around (c.settle.ensures.within half nodes (stacked s.stack.items) len going.kept.around))
+          (heeds.around within)
           (omega (arith, c.heed.ensures.notes.few, more.1))
           (fewer_marked (IsFull half nodes) c.settle.new.marks c.see.new.marks c.see.ensures.marks marked)
-          ((c.see.ensures.cached.entries nodes t).entries going.cache);
+          ((c.heed.ensures.cached.entries half nodes held).entries ((c.see.ensures.cached.entries nodes t).entries going.cache));
       rests = λ nodes t going. let half = g.H.NodeHash.half in
           let s = c.args.self.now in
           let len : length (stacked s.stack.items) ≡ c.len.result = omega
