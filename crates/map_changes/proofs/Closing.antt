@@ -1,8 +1,9 @@
 -- Hashes that are known with all below them.
 use Rattle.std.proofs.Common.{◌≡◌, ℕ, zero, suc, ◌<◌, ◌≤◌, List, [], ◌∷◌, ◌++◌, length, Option, None, Some, refl, sym, ap, ◌∙◌, subst}
 use Rattle.std.proofs.Common.{arith, ◌+◌, ◌⊎◌, inl, inr, slice_index_or, map, take, Result, Ok, Err}
-use Rattle.std.specs.Prelude.{IfSome, OnOk}
-use Rattle.std.specs.List.{slice_get}
+use Rattle.std.specs.Prelude.{OnOk}
+use Rattle.std.specs.List.{slice_get, All}
+use Rattle.std.proofs.lemmas.List.Elements.{All-weaker}
 use Rattle.std.proofs.lemmas.List.{get_or_past, map-append, take_more}
 use Rattle.ledger_spec.specs.Bytes.{Hash}
 use Rattle.cow_map.specs.declared.link.Link.{Link}
@@ -10,7 +11,7 @@ use Rattle.cow_map.specs.declared.link.Link.TheVariants.{Empty, Own}
 use Rattle.cow_map.specs.Bodies.{Body, leaf, inner}
 use Rattle.cow_map.specs.Gathered.{branch_in}
 use Rattle.cow_map.proofs.shared.Leading.{get_within}
-use Rattle.map_changes.specs.Tracking.{place_of, kid_at, IsKnown, KnowsKids, AreClosed, KnowsAll}
+use Rattle.map_changes.specs.Tracking.{place_of, IsKnown, KnowsKids, AreClosed, KnowsAll}
 
 -- the hash to whose place a link leads
 pub known_there : (hashes : List (Option Hash)) (link : Link) (at i : ℕ) (h : Hash) → link ≡ Own at
@@ -54,22 +55,6 @@ pub no_kids : (nodes : List Body) (hashes : List (Option Hash)) (at : ℕ) → s
 no_kids nodes hashes at is b j leads =
     let none : None ≡ Some j = sym (ap (λ o. place_of (branch_in b o)) is) ∙ leads in cc
 
--- a hash more leaves those that are known
-still_known : (hashes : List (Option Hash)) (hash : Option Hash) (i : ℕ) (h : Hash) → slice_get hashes i ≡ Some (Some h)
-    → slice_get (hashes ++ hash ∷ []) i ≡ Some (Some h)
-still_known [] hash zero h is = cc
-still_known [] hash (suc i) h is = cc
-still_known (x ∷ hashes) hash zero h is = is
-still_known (x ∷ hashes) hash (suc i) h is = still_known hashes hash i h is
-
--- a hash that is known then was known, or it is the new one
-known_before : (hashes : List (Option Hash)) (hash : Option Hash) (i : ℕ) (h : Hash) → slice_get (hashes ++ hash ∷ []) i ≡ Some (Some h)
-    → (slice_get hashes i ≡ Some (Some h)) ⊎ ((i ≡ length hashes) × (hash ≡ Some h))
-known_before [] hash zero h e = inr (refl, cc)
-known_before [] hash (suc i) h e = cc
-known_before (x ∷ hashes) hash zero h e = inl e
-known_before (x ∷ hashes) hash (suc i) h e = elim (known_before hashes hash i h e) [ inl l ↦ inl l | inr r ↦ inr (ap suc r.0, r.1) ]
-
 -- no hashes
 pub none_closed : (nodes : List Body) → AreClosed nodes []
 none_closed nodes = record { kids = λ i h is. absurd (none [] i h refl is) }
@@ -78,19 +63,6 @@ none_closed nodes = record { kids = λ i h is. absurd (none [] i h refl is) }
     none [] zero h e is = cc
     none [] (suc i) h e is = cc
     none (x ∷ hashes) i h e is = cc
-
--- a hash more, where those below it are known
-pub closed_with : (nodes : List Body) (hashes : List (Option Hash)) (hash : Option Hash) → AreClosed nodes hashes
-    → IfSome hash (λ h. KnowsKids nodes hashes (length hashes)) → AreClosed nodes (hashes ++ hash ∷ [])
-closed_with nodes hashes hash closed kids = record {
-  kids = λ i h is b j leads.
-      let was : IsKnown hashes j = elim (known_before hashes hash i h is) [
-        | inl l ↦ closed.kids i h l b j leads
-        | inr r ↦ subst (λ o. IfSome o (λ h. KnowsKids nodes hashes (length hashes))) r.1 kids b j
-            (ap (λ n. kid_at nodes n b) (sym r.0) ∙ leads)
-      ] in
-      (was.0, still_known hashes hash j was.0 was.1);
-}
 
 -- more nodes
 pub closed_more : (nodes more : List Body) (hashes : List (Option Hash))
@@ -110,6 +82,16 @@ knows_all nodes hashes closed (suc steps) link own = λ i is. (
   own i is,
   λ b. knows_all nodes hashes closed steps (branch_in b (slice_get nodes i)) (closed.kids i (own i is).0 (own i is).1 b),
 )
+
+-- all below each of these links
+pub know_all : (nodes : List Body) (hashes : List (Option Hash)) → AreClosed nodes hashes → (tops : List Link) (same : List (Option Hash))
+    → same ≡ hashes → All (λ top. (i : ℕ) → place_of top ≡ Some i → IsKnown same i) tops
+    → All (λ top. (steps : ℕ) → KnowsAll nodes hashes steps top) tops
+know_all nodes hashes closed tops same is all =
+    All-weaker (λ (top : Link). (i : ℕ) → place_of top ≡ Some i → IsKnown same i)
+    (λ (top : Link). (steps : ℕ) → KnowsAll nodes hashes steps top)
+    (λ top own steps. knows_all nodes hashes closed steps top
+    (subst (λ (hs : List (Option Hash)). (i : ℕ) → place_of top ≡ Some i → IsKnown hs i) is own)) tops all
 
 -- the hashes of the links up to the next one
 pub hashes_more : (f : Link → Hash) (links : List Link) (b : ℕ) (before after : List Hash) (h : Hash) → b < length links

@@ -1,5 +1,6 @@
--- A hash that is set at a place.
-use Rattle.std.proofs.Common.{◌≡◌, ℕ, zero, suc, ◌<◌, List, [], ◌∷◌, length, Option, Some, refl, sym, ap, ◌∙◌, subst, ◌⊎◌, inl, inr}
+-- A place for a hash more, and a hash that is set at a place.
+use Rattle.std.proofs.Common.{◌≡◌, ℕ, zero, suc, ◌<◌, List, [], ◌∷◌, ◌++◌, length, Option, None, Some, refl}
+use Rattle.std.proofs.Common.{sym, ap, ◌∙◌, subst, ◌⊎◌, inl, inr}
 use Rattle.std.proofs.Math.ListN.{set}
 use Rattle.std.specs.List.{slice_get}
 use Rattle.ledger_spec.specs.declared.Kind.{Kind}
@@ -9,6 +10,34 @@ use Rattle.cow_map.specs.declared.link.Link.TheVariants.{Own}
 use Rattle.cow_map.specs.Bodies.{Body, AreBodies}
 use Rattle.map_changes.specs.Tracking.{link_hash, node_at, kid_at, IsKnown, KnowsKids, AreHashes, AreClosed}
 use Rattle.map_changes.proofs.Telling.{known_hash}
+
+-- in a place more no hash is known
+known_before : (hashes : List (Option Hash)) (i : ℕ) (h : Hash) → slice_get (hashes ++ None ∷ []) i ≡ Some (Some h)
+    → slice_get hashes i ≡ Some (Some h)
+known_before [] zero h is = cc
+known_before [] (suc i) h is = cc
+known_before (x ∷ hashes) zero h is = is
+known_before (x ∷ hashes) (suc i) h is = known_before hashes i h is
+
+known_after : (hashes : List (Option Hash)) (i : ℕ) (h : Hash) → slice_get hashes i ≡ Some (Some h)
+    → slice_get (hashes ++ None ∷ []) i ≡ Some (Some h)
+known_after [] zero h is = cc
+known_after [] (suc i) h is = cc
+known_after (x ∷ hashes) zero h is = is
+known_after (x ∷ hashes) (suc i) h is = known_after hashes i h is
+
+pub place_hashes : (half : Half) (kind : Kind) (nodes : List Body) (hashes : List (Option Hash)) → AreHashes half kind nodes hashes
+    → AreHashes half kind nodes (hashes ++ None ∷ [])
+place_hashes half kind nodes hashes are = record {
+  within = λ i h is. are.within i h (known_before hashes i h is);
+  each = λ i h is. are.each i h (known_before hashes i h is);
+}
+
+pub place_closed : (nodes : List Body) (hashes : List (Option Hash)) → AreClosed nodes hashes → AreClosed nodes (hashes ++ None ∷ [])
+place_closed nodes hashes closed = record {
+  kids = λ i h is b j leads.
+      let was = closed.kids i h (known_before hashes i h is) b j leads in (was.0, known_after hashes j was.0 was.1);
+}
 
 -- what is known then was known, or it is the hash that was set
 set_before : (hashes : List (Option Hash)) (at i : ℕ) (v h : Hash) → slice_get (set hashes at (Some v)) i ≡ Some (Some h)

@@ -1,8 +1,9 @@
--- What a map tells of its changes, and its root, and what it keeps once they were taken.
-use Rattle.std.proofs.Common.{◌≡◌, ◌≢◌, ℕ, zero, suc, ◌<◌, List, [], ◌++◌, length, map, Option, None, Some, refl, Bool, true, false}
+-- What a map tells of a version's changes and its root.
+use Rattle.std.proofs.Common.{◌≡◌, ◌≢◌, ℕ, zero, suc, ◌<◌, List, [], ◌∷◌, ◌++◌, length, map, Option, None, Some, refl, Bool, true, false}
 use Rattle.std.proofs.Common.{sym, ap, ◌∙◌, subst, arith}
 use Rattle.std.specs.Prelude.{MatchBool, not}
-use Rattle.std.specs.List.{slice_get}
+use Rattle.std.specs.List.{slice_get, slice_index_or}
+use Rattle.std.proofs.Math.ListN.{get_or-map}
 use Rattle.ledger_spec.specs.declared.Kind.{Kind}
 use Rattle.ledger_spec.specs.Bytes.{Bytes, Hash, Half, Items, same_bytes}
 use Rattle.ledger_spec.specs.Forms.{form_of, hash_of, hash_or_zero}
@@ -21,8 +22,8 @@ use Rattle.map_changes.specs.Given.{given, IsRoot}
 use Rattle.map_changes.specs.Placed.{root_blob}
 use Rattle.map_changes.specs.Trees as shared
 use Rattle.map_changes.specs.Walks.{shared_nodes, placed_at}
-use Rattle.map_changes.specs.Tracking.{place_of, link_hash, node_at, kid_at, entries_at, items_at, AreHashes, AreClosed, Tracking, Keeps}
-use Rattle.map_changes.specs.Tracking.{leaves_in, items_in, shown_in, HaveTwoHashes}
+use Rattle.map_changes.specs.Tracking.{place_of, link_hash, node_at, kid_at, entries_at, items_at, AreHashes, Tracking, Keeps}
+use Rattle.map_changes.specs.Tracking.{leaves_in, versions_in, version_at, nodes_at, under, IsVersion, HaveTwoHashes}
 use Rattle.map_changes.proofs.Linking.{hash_is}
 use Rattle.std.specs.Cmp.Lexicographic.{same_text}
 use Rattle.map_changes.proofs.Hashed.{some_within, hash_law}
@@ -57,101 +58,96 @@ no_entries nodes zero (Unloaded h) e = refl
 no_entries nodes (suc left) (Unloaded h) e = refl
 no_entries nodes left (Own i) e = cc
 
--- the root, where the top is the node at a place whose hash is known
-module _ (half : Half) (t : Tracking) (keeps : Keeps half t) (bodies : AreBodies t.tree.nodes)
-    (below : IsBelow (length t.tree.nodes) t.tree.top) where
-  abbrev items : Items
-  items = items_at t.tree.nodes t.tree.top
+-- the top of a version, and behind the last one
+pub top_some : (tops : List Link) (n : ℕ) (top : Link) → slice_get tops n ≡ Some top → slice_index_or tops n Empty ≡ top
+top_some [] n top is = cc
+top_some (x ∷ tops) zero top is = cc
+top_some (x ∷ tops) (suc n) top is = top_some tops n top is
 
-  -- there are items where the top leads to a node
-  pub not_empty : (at : ℕ) → place_of t.tree.top ≡ Some at → items ≢ []
-  not_empty at is nothing =
-      let stands = subst (λ (es : Items). StandsFor half nothing_held t.tree es) nothing keeps.now in
-      let none : place_of t.tree.top ≡ None =
-      nothing_there half t.tree.kind [] (node_at half t.tree.kind t.tree.nodes) (kid_at t.tree.nodes) 64 [] (place_of t.tree.top)
-      (share_law half t.tree.kind t.tree.nodes bodies [] 64 [] t.tree.top [] below stands refl) in
-      cc
+pub top_none : (tops : List Link) (n : ℕ) → slice_get tops n ≡ None → slice_index_or tops n Empty ≡ Empty
+top_none [] n is = refl
+top_none (x ∷ tops) zero is = cc
+top_none (x ∷ tops) (suc n) is = top_none tops n is
 
-  -- the link is the place's
-  own_is : (link : Link) (at : ℕ) → place_of link ≡ Some at → link ≡ Own at
-  own_is Empty at e = cc
-  own_is (Unloaded h) at e = cc
-  own_is (Own i) at e = let same : i ≡ at = cc in ap Own same
+-- version n, below its top
+pub version_is : (t : Tracking) (n : ℕ) → version_at t n ≡ items_at t.tree.nodes (slice_index_or t.tops n Empty)
+unfolding versions_in entries_at
+version_is t n = get_or-map (items_at t.tree.nodes) t.tops n Empty
 
-  root_hash : (at : ℕ) (h : Hash) → place_of t.tree.top ≡ Some at → slice_get t.hashes at ≡ Some (Some h)
-      → h ≡ root_of half t.tree.kind items
-  unfolding form_at
-  root_hash at h is known =
-      keeps.hashes.each at h known ∙ ap (link_hash half t.tree.kind t.tree.nodes) (sym (own_is t.tree.top at is))
-      ∙ hash_law half t.tree.kind t.tree.nodes bodies items 64 [] t.tree.top items keeps.now (part_root items)
-      ∙ ap (λ (es : Items). hash_or_zero half (form_of_part half t.tree.kind items 64 [] es)) (sym (part_root items))
+-- what is told of a top, by the items below it
+module _ (half : Half) (t : Tracking) (keeps : Keeps half t) (bodies : AreBodies t.tree.nodes) where
+  module _ (top : Link) (version : IsVersion half t.tree top) where
+    abbrev items : Items
+    items = items_at t.tree.nodes top
 
-  root_node : (at : ℕ) → place_of t.tree.top ≡ Some at
-      → wire_of (node_at half t.tree.kind t.tree.nodes at) ≡ root_blob (nodes_of half t.tree.kind items)
-  root_node at is =
-      let held = node_at half t.tree.kind t.tree.nodes in
-      let kid = kid_at t.tree.nodes in
-      ap root_blob (sym ((shared_say held kid).some at [] (omega arith)) ∙ ap (λ l. shared_nodes held kid l []) (sym is)
-      ∙ link_nodes half t.tree.kind t.tree.nodes t.tree.top items bodies below keeps.now)
+    -- there are items where the top leads to a node
+    not_empty : (at : ℕ) → place_of top ≡ Some at → items ≢ []
+    not_empty at is nothing =
+        let stands = subst (λ (es : Items). StandsFor half nothing_held (under t.tree top) es) nothing version.stands in
+        let none : place_of top ≡ None =
+        nothing_there half t.tree.kind [] (node_at half t.tree.kind t.tree.nodes) (kid_at t.tree.nodes) 64 [] (place_of top)
+        (share_law half t.tree.kind t.tree.nodes bodies [] 64 [] top [] version.below stands refl) in
+        cc
 
-  pub root_is : (at : ℕ) (root : Root) → place_of t.tree.top ≡ Some at → slice_get t.hashes at ≡ Some (Some root.hash)
-      → root.blob ≡ wire_of (node_at half t.tree.kind t.tree.nodes at) → IsRoot half t.tree.kind items root
-  root_is at root is known blob = record { is_hash = root_hash at root.hash is known; is_blob = blob ∙ root_node at is }
+    -- the link is the place's
+    own_is : (link : Link) (at : ℕ) → place_of link ≡ Some at → link ≡ Own at
+    own_is Empty at e = cc
+    own_is (Unloaded h) at e = cc
+    own_is (Own i) at e = let same : i ≡ at = cc in ap Own same
 
--- what a map tells, in the words of its clauses
-module _ (half : Half) (t : Tracking) (keeps : Keeps half t) (bodies : AreBodies t.tree.nodes)
-    (below : IsBelow (length t.tree.nodes) t.tree.top) where
-  pub root_told : (at : ℕ) (root : Root) → place_of t.tree.top ≡ Some at → slice_get t.hashes at ≡ Some (Some root.hash)
-      → root.blob ≡ wire_of (node_at half t.tree.kind t.tree.nodes at)
-      → (items_in t ≢ []) × IsRoot half (leaves_in t) (items_in t) root
-  unfolding items_in leaves_in
-  root_told at root is known blob = (not_empty half t keeps bodies below at is, root_is half t keeps bodies below at root is known blob)
+    root_hash : (at : ℕ) (h : Hash) → place_of top ≡ Some at → slice_get t.hashes at ≡ Some (Some h) → h ≡ root_of half t.tree.kind items
+    unfolding form_at
+    root_hash at h is known =
+        keeps.hashes.each at h known ∙ ap (link_hash half t.tree.kind t.tree.nodes) (sym (own_is top at is))
+        ∙ hash_law half t.tree.kind t.tree.nodes bodies items 64 [] top items version.stands (part_root items)
+        ∙ ap (λ (es : Items). hash_or_zero half (form_of_part half t.tree.kind items 64 [] es)) (sym (part_root items))
 
-  changes_are : changed (shared_nodes (node_at half t.tree.kind t.tree.nodes) (kid_at t.tree.nodes) (place_of t.last) [])
-      (shared_nodes (node_at half t.tree.kind t.tree.nodes) (kid_at t.tree.nodes) (place_of t.tree.top) [])
-      ≡ changed (shown_in half t) (nodes_of half (leaves_in t) (items_in t))
-  unfolding items_in leaves_in shown_in
-  changes_are = λ i. changed
-      (link_nodes half t.tree.kind t.tree.nodes t.last (items_at t.tree.nodes t.last) bodies keeps.below keeps.before i)
-      (link_nodes half t.tree.kind t.tree.nodes t.tree.top (items_at t.tree.nodes t.tree.top) bodies below keeps.now i)
+    root_node : (at : ℕ) → place_of top ≡ Some at
+        → wire_of (node_at half t.tree.kind t.tree.nodes at) ≡ root_blob (nodes_of half t.tree.kind items)
+    root_node at is =
+        let held = node_at half t.tree.kind t.tree.nodes in
+        let kid = kid_at t.tree.nodes in
+        ap root_blob (sym ((shared_say held kid).some at [] (omega arith)) ∙ ap (λ l. shared_nodes held kid l []) (sym is)
+        ∙ link_nodes half t.tree.kind t.tree.nodes top items bodies version.below version.stands)
 
-  pub changes_told : (old new : Option ℕ) (root : List ℕ) (before out : List PlacedNode) → before ≡ [] → root ≡ []
-      → old ≡ place_of t.last → new ≡ place_of t.tree.top
+    pub root_is : (at : ℕ) (root : Root) → place_of top ≡ Some at → slice_get t.hashes at ≡ Some (Some root.hash)
+        → root.blob ≡ wire_of (node_at half t.tree.kind t.tree.nodes at) → (items ≢ []) × IsRoot half t.tree.kind items root
+    root_is at root is known blob =
+        (not_empty at is, record { is_hash = root_hash at root.hash is known; is_blob = blob ∙ root_node at is })
+
+  -- what the map tells of version n, in the words of its clauses
+  pub root_told : (n at : ℕ) (root : Root) → place_of (slice_index_or t.tops n Empty) ≡ Some at
+      → slice_get t.hashes at ≡ Some (Some root.hash) → root.blob ≡ wire_of (node_at half t.tree.kind t.tree.nodes at)
+      → (version_at t n ≢ []) × IsRoot half (leaves_in t) (version_at t n) root
+  unfolding leaves_in
+  root_told n at root is known blob =
+      let top = slice_index_or t.tops n Empty in
+      subst (λ (es : Items). (es ≢ []) × IsRoot half t.tree.kind es root) (sym (version_is t n))
+      (root_is top (keeps.each n) at root is known blob)
+
+  nodes_are : (n : ℕ)
+      → shared_nodes (node_at half t.tree.kind t.tree.nodes) (kid_at t.tree.nodes) (place_of (slice_index_or t.tops n Empty)) []
+      ≡ nodes_at half t n
+  unfolding leaves_in
+  nodes_are n =
+      let top = slice_index_or t.tops n Empty in
+      let version = keeps.each n in
+      link_nodes half t.tree.kind t.tree.nodes top (items_at t.tree.nodes top) bodies version.below version.stands
+      ∙ ap (nodes_of half t.tree.kind) (sym (version_is t n))
+
+  pub changes_told : (n m : ℕ) (old new : Option ℕ) (root : List ℕ) (before out : List PlacedNode) → before ≡ [] → root ≡ []
+      → old ≡ place_of (slice_index_or t.tops m Empty) → new ≡ place_of (slice_index_or t.tops n Empty)
       → out ≡ before ++ map (given half) (changed (shared_nodes (node_at half t.tree.kind t.tree.nodes) (kid_at t.tree.nodes) old root)
       (shared_nodes (node_at half t.tree.kind t.tree.nodes) (kid_at t.tree.nodes) new root))
-      → out ≡ map (given half) (changed (shown_in half t) (nodes_of half (leaves_in t) (items_in t)))
-  changes_told old new root before out b r o n is =
+      → out ≡ map (given half) (changed (nodes_at half t m) (nodes_at half t n))
+  changes_told n m old new root before out b r o now is =
       let nodes = shared_nodes (node_at half t.tree.kind t.tree.nodes) (kid_at t.tree.nodes) in
-      is ∙ (λ i. b i ++ map (given half) (changed (nodes (o i) (r i)) (nodes (n i) (r i)))) ∙ ap (map (given half)) changes_are
+      is ∙ (λ i. b i ++ map (given half) (changed (nodes (o i) (r i)) (nodes (now i) (r i))))
+      ∙ (λ i. map (given half) (changed (nodes_are m i) (nodes_are n i)))
 
-  -- the changes are taken
-  pub taken_keeps : (next : Link) → next ≡ t.tree.top → Keeps half (record { tree = t.tree; last = next; hashes = t.hashes })
-  taken_keeps next is = record {
-    now = keeps.now;
-    before = subst (λ l. StandsAt half nothing_held t.tree.kind t.tree.nodes 64 [] l (items_at t.tree.nodes l)) (sym is) keeps.now;
-    below = subst (IsBelow (length t.tree.nodes)) (sym is) below;
-    hashes = keeps.hashes;
-    closed = keeps.closed;
-  }
-
-pub nothing_told : (t : Tracking) → place_of t.tree.top ≡ None → items_in t ≡ []
-unfolding items_in
-nothing_told t is = no_entries t.tree.nodes 64 t.tree.top is
-
--- other hashes
-pub hashed_keeps : (half : Half) (t : Tracking) (hashes : List (Option Hash)) → Keeps half t
-    → AreHashes half t.tree.kind t.tree.nodes hashes → AreClosed t.tree.nodes hashes
-    → Keeps half (record { tree = t.tree; last = t.last; hashes = hashes })
-hashed_keeps half t hashes keeps are closed =
-    record { now = keeps.now; before = keeps.before; below = keeps.below; hashes = are; closed = closed }
-
-pub hashed_changes : (half : Half) (old mid : Tracking) → mid.tree ≡ old.tree → mid.last ≡ old.last
-    → map (given half) (changed (shown_in half mid) (nodes_of half (leaves_in mid) (items_in mid)))
-    ≡ map (given half) (changed (shown_in half old) (nodes_of half (leaves_in old) (items_in old)))
-unfolding leaves_in items_in shown_in
-hashed_changes half old mid tree last =
-    λ i. map (given half) (changed (nodes_of half ((tree i).kind) (items_at ((tree i).nodes) (last i)))
-    (nodes_of half ((tree i).kind) (items_at ((tree i).nodes) ((tree i).top))))
+-- a version whose top leads nowhere is empty
+pub nothing_told : (t : Tracking) (n : ℕ) → place_of (slice_index_or t.tops n Empty) ≡ None → version_at t n ≡ []
+nothing_told t n is = version_is t n ∙ no_entries t.tree.nodes 64 (slice_index_or t.tops n Empty) is
 
 -- a node with its place, its hash and its wire form
 abbrev pub placed : List ℕ → Hash → Bytes → PlacedNode
@@ -170,15 +166,6 @@ node_told half t keeps bodies hashes others same same_too node place hash blob k
     let told : blob ≡ wire_of (node_at half t.tree.kind t.tree.nodes node) =
     wire half (subst (AreHashes half t.tree.kind t.tree.nodes) (sym same_too) keeps.hashes) in
     λ i. placed place (at i) (told i)
-
--- the hash of the next node, from its form
-pub next_told : (half : Half) (kind : Kind) (nodes : List Body) → AreBodies nodes → (hashes : List (Option Hash)) (at : ℕ)
-    → at ≡ length hashes → at < length nodes → (form bytes : Bytes) → form ≡ form_of (node_at half kind nodes at) → bytes ≡ form
-    → (h : Hash) → h ≡ half bytes → (length hashes < length nodes) × (h ≡ link_hash half kind nodes (Own (length hashes)))
-next_told half kind nodes bodies hashes at here low form bytes is same h e = (
-  subst (λ n. n < length nodes) here low,
-  e ∙ ap half (same ∙ is) ∙ sym (known_hash half kind nodes bodies at low) ∙ ap (λ n. link_hash half kind nodes (Own n)) here,
-)
 
 -- what isn't equal is two
 pub are_two : (P Q : Type 0) (same : Bool) → MatchBool same P Q → not same ≡ true → Q

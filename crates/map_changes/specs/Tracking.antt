@@ -1,6 +1,6 @@
--- A map that knows what it was when it was last asked for its changes, and the hashes of its nodes.
+-- A map of which versions are kept, and the hashes of its nodes.
 use Rattle.std.specs.Prelude.{◌≡◌, ◌≢◌, ℕ, zero, suc, ◌<◌, List, [], ◌∷◌, map, length, Option, None, Some}
-use Rattle.std.specs.List.{flat_map, slice_get}
+use Rattle.std.specs.List.{flat_map, slice_get, slice_index_or}
 use Rattle.ledger_spec.specs.declared.Kind.{Kind}
 use Rattle.ledger_spec.specs.Bytes.{Half, Hash, Items}
 use Rattle.ledger_spec.specs.Forms.{Held}
@@ -93,15 +93,15 @@ pub record AreHashes (half : Half) (kind : Kind) (nodes : List Body) (hashes : L
   pub within : (i : ℕ) (h : Hash) → slice_get hashes i ≡ Some (Some h) → i < length nodes
   pub each : (i : ℕ) (h : Hash) → slice_get hashes i ≡ Some (Some h) → h ≡ link_hash half kind nodes (Own i)
 
--- a map, the link to the node that was on top when it was last asked, and hashes
+-- a map, the links to the nodes on top of its versions, and hashes
 pub record Tracking : Type 0 where
   pub tree : CowTree
-  pub last : Link
+  pub tops : List Link
   pub hashes : List (Option Hash)
 
--- the map as it was when it was last asked
-abbrev pub last_tree : Tracking → CowTree
-last_tree t = record { kind = t.tree.kind; nodes = t.tree.nodes; top = t.last }
+-- the map with another node on top
+abbrev pub under : CowTree → Link → CowTree
+under tree top = record { kind = tree.kind; nodes = tree.nodes; top = top }
 
 -- the kind of its leaves
 unfoldable pub leaves_in : Tracking → Kind
@@ -111,14 +111,26 @@ leaves_in t = t.tree.kind
 unfoldable pub items_in : Tracking → Items
 items_in t = items_at t.tree.nodes t.tree.top
 
--- its nodes when it was last asked; none at first
-unfoldable pub shown_in : Half → Tracking → List Placed
-shown_in half t = nodes_of half t.tree.kind (items_at t.tree.nodes t.last)
+-- the finite maps that its versions are
+unfoldable pub versions_in : Tracking → List Items
+versions_in t = map (items_at t.tree.nodes) t.tops
 
--- what it keeps: it leaves nothing to a source, now and as it was, and its hashes are right, and known with all below them
+-- version n; behind the last one there is none, and the empty map stands for it
+abbrev pub version_at : Tracking → ℕ → Items
+version_at t n = slice_index_or (versions_in t) n []
+
+-- the nodes of version n
+abbrev pub nodes_at : Half → Tracking → ℕ → List Placed
+nodes_at half t n = nodes_of half (leaves_in t) (version_at t n)
+
+-- with this node on top it leaves nothing to a source
+pub record IsVersion (half : Half) (tree : CowTree) (top : Link) : Type 0 where
+  pub stands : StandsFor half nothing_held (under tree top) (items_at tree.nodes top)
+  pub below : IsBelow (length tree.nodes) top
+
+-- what it keeps: it leaves nothing to a source, now and in each version, and its hashes are right, and known with all below them
 pub record Keeps (half : Half) (t : Tracking) : Type 0 where
   pub now : StandsFor half nothing_held t.tree (items_at t.tree.nodes t.tree.top)
-  pub before : StandsFor half nothing_held (last_tree t) (items_at t.tree.nodes t.last)
-  pub below : IsBelow (length t.tree.nodes) t.last
+  pub each : (n : ℕ) → IsVersion half t.tree (slice_index_or t.tops n Empty)
   pub hashes : AreHashes half t.tree.kind t.tree.nodes t.hashes
   pub closed : AreClosed t.tree.nodes t.hashes

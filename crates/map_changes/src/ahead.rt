@@ -1,5 +1,5 @@
-//! Many new nodes, as those of a first ledger's map, are hashed side by side: in each round the forms of all whose kids have their hashes
-//! are made, and hashed on several threads. There are as many rounds as the map is high.
+//! Nodes are hashed in rounds: in each the forms of nodes whose kids have their hashes are made, and hashed on several threads where they
+//! are many. Of rounds that aren't full there are about as many as the highest version is high.
 ghost use Rattle.std.specs.Prelude.{◌≡◌, ◌<◌, ℕ, true, length, Some, IfOk, OnOk};
 ghost use Rattle.std.specs.List.{All, slice_index_or};
 ghost use Rattle.cow_map.specs.declared.link.Link.TheVariants.{Empty as empty_link};
@@ -7,7 +7,6 @@ ghost use Rattle.ledger_spec.specs.Forms.{form_of};
 ghost use Rattle.map_changes.specs.Tracking.{place_of, node_at, AreHashes, AreClosed, IsKnown, KnowsKids};
 ghost use Rattle.map_changes.specs.Rounds.{HasForm, HasHash};
 
-use crate::hashing::reached;
 use crate::nodes::form;
 use cow_map::{Cow, CowMap, Link, Links};
 use half_hash::{Blob, Hash32, Memory, NodeHash};
@@ -18,8 +17,11 @@ use std::thread::Threads;
 /// On so many threads.
 const THREADS: usize = 4;
 
-/// The most rounds: a map is at most so many levels high.
-const LEVELS: usize = 65;
+/// From so many nodes in a round on. Fewer are hashed before a thread has started.
+const MANY: usize = 256;
+
+/// The most forms that a round makes. An inner node's takes half a kilobyte, and all of a round stand at once.
+const PORTION: usize = 2048;
 
 /// The form of the node at a place, and its hash, once it is made.
 #[derive(Drop)]
@@ -89,24 +91,30 @@ fn add_due<H: NodeHash>(
     Ok(())
 }
 
-/// The forms of the marked nodes from `start` on that are to be hashed next.
+/// The forms of the marked nodes that are to be hashed next.
 fn next_dues<H: NodeHash>(
     alloc: Global,
     map: &CowMap,
     hashes: &[Option<Hash32>],
     marks: &[bool],
-    start: usize,
 ) -> Result<Vec<Due>, Memory>
     requires { AreHashes H.half map.now.kind map.now.nodes hashes.now }
     ensures { IfOk result (λ dues. All (HasForm H.half map.now.kind map.now.nodes) dues.items) }
 {
     let mut dues = Vec::new(alloc);
-    for at in start..map.node_count() {
-        if let Some(true) = marks.get(at - start) {
+    for at in 0..marks.len() {
+        if marks[at] && dues.len() < PORTION {
             add_due::<H>(alloc, map, hashes, at, &mut dues)?;
         }
     }
     Ok(dues)
+}
+
+/// On how many threads so many nodes are hashed.
+fn threads_for(n: usize) -> usize
+    ensures { 0 < result }
+{
+    if n < MANY { 1 } else { THREADS }
 }
 
 /// Makes the hashes, side by side.
@@ -114,10 +122,11 @@ fn halve<R: Threads + Sync, H: NodeHash>(rt: &R, map: &CowMap, dues: &mut [Due])
     requires { All (HasForm H.half map.now.kind map.now.nodes) dues.old }
     ensures { All (HasHash H.half map.now.kind map.now.nodes) dues.new }
 {
+    let threads = threads_for(dues.len());
     thread::for_each_mut(
         rt,
         dues,
-        THREADS,
+        threads,
         &|_, due: &mut Due|
             ensures { (due.new.place ≡ due.old.place) × (due.new.hash ≡ H.half due.old.form) }
         {
@@ -154,24 +163,12 @@ fn settle_all<H: NodeHash>(map: &CowMap, hashes: &mut Vec<Option<Hash32>>, dues:
     }
 }
 
-/// A place for the hash of each node that has none yet.
-fn make_places<H: NodeHash>(map: &CowMap, hashes: &mut Vec<Option<Hash32>>) -> Result<(), Memory>
-    requires hashes { AreHashes H.half map.now.kind map.now.nodes hashes.old.items }
-    requires closed { AreClosed map.now.nodes hashes.old.items }
-    ensures hashes { AreHashes H.half map.now.kind map.now.nodes hashes.new.items }
-    ensures closed { AreClosed map.now.nodes hashes.new.items }
-{
-    for _ in hashes.len()..map.node_count() {
-        hashes.push(None)?;
-    }
-    Ok(())
-}
-
-/// Adds the hashes of the nodes that have none yet and that the top reaches, side by side. After want of memory some may be there.
-pub(crate) fn hash_many<R: Threads + Sync, H: NodeHash>(
+/// Adds the hashes of the marked nodes that have none yet, round by round. After want of memory some may be there.
+pub(crate) fn hash_reached<R: Threads + Sync, H: NodeHash>(
     rt: &R,
     alloc: Global,
     map: &CowMap,
+    marks: &[bool],
     hashes: &mut Vec<Option<Hash32>>,
 ) -> Result<(), Memory>
     requires hashes { AreHashes H.half map.now.kind map.now.nodes hashes.old.items }
@@ -179,11 +176,8 @@ pub(crate) fn hash_many<R: Threads + Sync, H: NodeHash>(
     ensures hashes { AreHashes H.half map.now.kind map.now.nodes hashes.new.items }
     ensures closed { AreClosed map.now.nodes hashes.new.items }
 {
-    let start = hashes.len();
-    let marks = reached(alloc, map, start)?;
-    make_places::<H>(map, hashes)?;
-    for _ in 0..LEVELS {
-        let mut dues = next_dues::<H>(alloc, map, hashes, &marks, start)?;
+    for _ in 0..marks.len() {
+        let mut dues = next_dues::<H>(alloc, map, hashes, marks)?;
         if dues.is_empty() {
             return Ok(());
         }

@@ -1,5 +1,5 @@
 -- What a ledger that is made has: its header and hash, its roots, and the nodes that changed.
-use Rattle.std.specs.Prelude.{◌||◌, Option, Some, MatchOption, ◌≡◌, ◌≢◌, ℕ, zero, suc, ◌-◌, ◌*◌, ◌≤◌, ◌&&◌, not, Bool}
+use Rattle.std.specs.Prelude.{◌||◌, Option, None, Some, MatchOption, ◌≡◌, ◌≢◌, ℕ, zero, suc, ◌-◌, ◌*◌, ◌≤◌, ◌&&◌, not, Bool}
 use Rattle.std.specs.Prelude.{true, false, if◌then◌else◌, List, [], ◌∷◌, ◌++◌, map, refl}
 use Rattle.std.proofs.Common.{sym, ap, ◌∙◌, subst, arith, append-nil}
 use Rattle.std.specs.List.{list_all, list_any}
@@ -122,6 +122,27 @@ some_entries (e ∷ items) h = refl
 -- what is said of what is there
 pub some_case : {A : Type 0} (P : Type 0) (Q : A → Type 0) (o : Option A) (x : A) → o ≡ Some x → MatchOption o P Q → Q x
 some_case {A} P Q o x e m = subst (λ (y : Option A). MatchOption y P Q) e m
+
+-- and of what isn't
+pub none_case : {A : Type 0} (P : Type 0) (Q : A → Type 0) (o : Option A) → o ≡ None → MatchOption o P Q → P
+none_case {A} P Q o e m = subst (λ (y : Option A). MatchOption y P Q) e m
+
+-- a ledger with an empty map isn't made
+pub unmade_state : (half : Half) (plan : Plan) (seq : ℕ) → state_of half plan seq ≡ [] → is_made half plan seq ≡ false
+unmade_state half plan seq e =
+    ap (λ (es : Items). has_entries es && has_entries (txs_of half plan seq) && are_nonzero half (state_nodes half plan seq)
+    && are_nonzero half (tx_nodes half plan seq) && is_nonzero (hash_of_ledger half plan seq)) e
+
+one_false : (b n m h : Bool) → (b && false && n && m && h) ≡ false
+one_false true n m h = refl
+one_false false n m h = refl
+
+pub unmade_tx : (half : Half) (plan : Plan) (seq : ℕ) → txs_of half plan seq ≡ [] → is_made half plan seq ≡ false
+unmade_tx half plan seq e =
+    ap (λ (es : Items). has_entries (state_of half plan seq) && has_entries es && are_nonzero half (state_nodes half plan seq)
+    && are_nonzero half (tx_nodes half plan seq) && is_nonzero (hash_of_ledger half plan seq)) e
+    ∙ one_false (has_entries (state_of half plan seq)) (are_nonzero half (state_nodes half plan seq))
+    (are_nonzero half (tx_nodes half plan seq)) (is_nonzero (hash_of_ledger half plan seq))
 
 -- what is told of a map's nodes
 pub nodes_as : (half : Half) (shown shown' : List Placed) (kind kind' : Kind) (items items' : Items) → shown ≡ shown' → kind ≡ kind'

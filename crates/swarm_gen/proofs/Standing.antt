@@ -1,13 +1,17 @@
 -- How a script goes on, ledger by ledger.
-use Rattle.std.specs.Prelude.{◌≡◌, ℕ, suc, ◌+◌, ◌-◌, ◌<◌, ◌≤◌, ◌==◌, Bool, true, false, if◌then◌else◌, List, [], ◌∷◌, ◌++◌}
+use Rattle.std.specs.Prelude.{◌≡◌, ℕ, zero, suc, ◌+◌, ◌-◌, ◌<◌, ◌≤◌, ◌==◌, Bool, true, false, if◌then◌else◌, List, [], ◌∷◌, ◌++◌}
 use Rattle.std.specs.Prelude.{map, length}
 use Rattle.std.proofs.Common.{sym, ap, ◌∙◌, subst, arith, append_assoc, append-nil}
-use Rattle.std.specs.List.{range_with_len}
+use Rattle.std.specs.List.{range_with_len, slice_index_or}
+use Rattle.std.proofs.lemmas.List.FromFn.{get_or-map-range_with_len}
 use Rattle.std.proofs.lemmas.Bool.Decides.{nat_tests}
-use Rattle.ledger_spec.specs.Bytes.{Hash, Half}
+use Rattle.ledger_spec.specs.declared.Kind.TheVariants.{State}
+use Rattle.ledger_spec.specs.Bytes.{Hash, Half, Items}
 use Rattle.ledger_machine.specs.declared.commands.Line.{Line}
 use Rattle.swarm_gen.specs.declared.plan.Plan.{Plan}
-use Rattle.swarm_gen.specs.Ledgers.{state_nodes, is_made, front}
+use Rattle.map_changes.specs.Placed.{nodes_of}
+use Rattle.map_changes.proofs.shared.Changed.{no_nodes}
+use Rattle.swarm_gen.specs.Ledgers.{state_of, state_nodes, is_made, front}
 use Rattle.swarm_gen.specs.Script.{Said, Ledger, numbered, ledger_lines, lines_of, next_waits}
 use Rattle.swarm_gen.specs.Adding.{Adds}
 use Rattle.swarm_gen.specs.Swarm.{ledger_of, read_keys, nodes_before, swarm}
@@ -89,3 +93,26 @@ before_next half plan j low =
     let f : ((j + 1) == 1) ≡ false = grind (arith, nat_tests) in
     let m : j + 1 - 1 ≡ j = omega arith in
     ap (λ b. if b then [] else state_nodes half plan (j + 1 - 1)) f ∙ ap (state_nodes half plan) m
+
+-- the account state of a ledger among those of all
+pub state_at : (half : Half) (plan : Plan) (count seq : ℕ) (versions : List Items)
+    → versions ≡ [] ∷ map (state_of half plan) (range_with_len 1 count) → 1 ≤ seq → seq ≤ count
+    → slice_index_or versions seq [] ≡ state_of half plan seq
+state_at half plan count zero versions is low high = absurd (omega arith)
+state_at half plan count (suc j) versions is low high =
+    ap (λ (vs : List Items). slice_index_or vs (suc j) []) is
+    ∙ get_or-map-range_with_len (state_of half plan) 1 count j (suc j) [] (omega arith) (omega arith)
+
+-- and the nodes of the one before it
+pub before_at : (half : Half) (plan : Plan) (count seq : ℕ) (versions : List Items)
+    → versions ≡ [] ∷ map (state_of half plan) (range_with_len 1 count) → 1 ≤ seq → seq ≤ count
+    → nodes_of half State (slice_index_or versions (seq - 1) []) ≡ nodes_before half plan seq
+before_at half plan count zero versions is low high = absurd (omega arith)
+before_at half plan count (suc zero) versions is low high =
+    ap (λ (vs : List Items). nodes_of half State (slice_index_or vs 0 [])) is ∙ no_nodes half State
+before_at half plan count (suc (suc j)) versions is low high =
+    let n : suc (suc j) - 1 ≡ suc j = omega arith in
+    let m : suc j + 1 ≡ suc (suc j) = omega arith in
+    ap (λ k. nodes_of half State (slice_index_or versions k [])) n
+    ∙ ap (nodes_of half State) (state_at half plan count (suc j) versions is (omega arith) (omega arith))
+    ∙ sym (before_next half plan (suc j) (omega arith)) ∙ ap (nodes_before half plan) m

@@ -1,19 +1,19 @@
-//! The script of a plan, ledger by ledger. One map of account state goes from ledger to ledger, and is asked for what changed.
+//! The script of a plan, ledger by ledger, over the account states of all of them: they are versions of one map, which are hashed together.
 ghost use Rattle.std.specs.Prelude.{◌≡◌, ◌≤◌, [], length, IfOk, IsTrue};
 ghost use Rattle.std.specs.List.{All};
 ghost use Rattle.ledger_spec.specs.Bytes.{is_nonzero};
 ghost use Rattle.swarm_gen.specs.Plans.{IsPlan};
 ghost use Rattle.swarm_gen.specs.Swarm.{swarm};
-ghost use Rattle.swarm_gen.specs.Standing.{IsBehind, IsDue};
-ghost use Rattle.map_changes.specs.Tracking.{leaves_in, items_in, shown_in};
+ghost use Rattle.swarm_gen.specs.Standing.{IsBehind, IsDue, AreStates};
+ghost use Rattle.map_changes.specs.Tracking.{leaves_in, versions_in};
 ghost use Rattle.script_form.specs.Servable.{AreServable};
 
 use crate::next::{Next, next_ledger};
-use crate::state::{advance, first_state, listed, owners, read_keys};
+use crate::state::{all_states, read_keys};
 use crate::{Lines, Plan};
 use half_hash::{Hash32, Memory, NodeHash};
 use ledger_machine::Script;
-use map_changes::TrackedMap;
+use map_changes::Versions;
 use std::alloc::Global;
 use std::thread::Threads;
 
@@ -32,18 +32,17 @@ fn add_next<R: Threads + Sync, H: NodeHash>(
     alloc: Global,
     plan: &Plan,
     keys: &[Hash32],
-    state: &mut TrackedMap<H>,
+    states: &Versions<H>,
     lines: &mut Lines,
     behind: &mut Behind,
     seq: u32,
 ) -> Result<bool, Memory>
-    requires due { IsDue H.half plan.now seq behind.old.parent (leaves_in state.old) (items_in state.old) (shown_in H.half state.old) }
+    requires due { IsDue H.half plan.now seq behind.old.parent (leaves_in states.now) (versions_in states.now) }
     requires keys { All (λ k. IsTrue (is_nonzero k)) keys.now }
     requires earlier { behind.old.waits ≤ length lines.old }
-    ensures { IfOk result (λ more. IsBehind H.half plan.now keys.now seq more lines.old lines.new behind.old behind.new
-        (leaves_in state.new) (items_in state.new) (shown_in H.half state.new)) }
+    ensures { IfOk result (λ more. IsBehind H.half plan.now keys.now seq more lines.old lines.new behind.old behind.new) }
 {
-    let Some(next) = next_ledger::<R, H>(rt, alloc, plan, state, behind.parent, seq)? else {
+    let Some(next) = next_ledger::<R, H>(rt, alloc, plan, states, behind.parent, seq)? else {
         return Ok(false);
     };
     let Next {
@@ -61,46 +60,31 @@ fn add_next<R: Threads + Sync, H: NodeHash>(
     Ok(true)
 }
 
-/// The lines of a plan's script. They end before the first ledger that isn't made: one with an empty map or
-/// a form with the zero hash.
-fn all_lines<R: Threads + Sync, H: NodeHash>(
+/// The lines of a plan's script, over the account states of its ledgers. They end before the first ledger that isn't made: one with an
+/// empty map or a form with the zero hash.
+fn lines_over<R: Threads + Sync, H: NodeHash>(
     rt: &R,
     alloc: Global,
     plan: &Plan,
+    states: &Versions<H>,
 ) -> Result<Lines, Memory>
-    requires { IsPlan plan.now }
+    requires plan { IsPlan plan.now }
+    requires states { AreStates H.half plan.now plan.now.ledgers (leaves_in states.now) (versions_in states.now) }
     ensures { IfOk result (λ lines. lines ≡ swarm H.half plan.now) }
 {
     let keys = read_keys::<H>(alloc, plan)?;
-    let owners = owners::<H>(alloc, plan)?;
-    let mut state = first_state::<H>(alloc, plan, &owners)?;
-    let owners = listed(alloc, &owners)?;
     let mut lines = Lines::new(alloc);
     let mut behind = Behind {
         parent: Hash32::zero(),
         waits: 0,
     };
-    let first = add_next::<R, H>(
-        rt,
-        alloc,
-        plan,
-        &keys,
-        &mut state,
-        &mut lines,
-        &mut behind,
-        1,
-    )?;
-    if !first {
-        return Ok(lines);
-    }
-    for j in 1..plan.ledgers {
-        advance::<H>(alloc, plan, &owners, &mut state, j + 1)?;
+    for j in 0..plan.ledgers {
         let more = add_next::<R, H>(
             rt,
             alloc,
             plan,
             &keys,
-            &mut state,
+            states,
             &mut lines,
             &mut behind,
             j + 1,
@@ -112,11 +96,26 @@ fn all_lines<R: Threads + Sync, H: NodeHash>(
     Ok(lines)
 }
 
+/// The lines of a plan's script.
+fn all_lines<R: Threads + Sync, H: NodeHash>(
+    rt: &R,
+    alloc: Global,
+    plan: &Plan,
+) -> Result<Lines, Memory>
+    requires { IsPlan plan.now }
+    ensures { IfOk result (λ lines. lines ≡ swarm H.half plan.now) }
+{
+    let mut states = all_states::<H>(alloc, plan)?;
+    states.hash_all(rt, alloc)?;
+    lines_over::<R, H>(rt, alloc, plan, &states)
+}
+
 /// The script of a plan. It has no records.
 ///
-/// The account state is one map that goes from ledger to ledger. Of each ledger it hashes and gives the
-/// nodes that the ledger's edits have made, and shares the others with the ledger before: the cost is that
-/// of the keys, of a look at each item in each ledger, and of what changes.
+/// The account states are versions of one map, which goes from ledger to ledger and shares with each what no edit replaced. First all
+/// edits of all ledgers are made, then the nodes that any of them left are hashed, each once and side by side where they are many, and
+/// then each ledger is listed against the one before: the cost is that of the keys, of a look at each item in each ledger, and of what
+/// changes.
 pub fn make<R: Threads + Sync, H: NodeHash>(
     rt: &R,
     alloc: Global,

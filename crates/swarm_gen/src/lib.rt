@@ -1,7 +1,7 @@
 //! The script that a swarm's plan makes: its ledgers one after another, each acquired from peers of whom
 //! some lie, read, and now and then a rotation.
 //!
-//! Its maps are asked for two things: the nodes that changed since they were last asked, and the root.
+//! The maps of its ledgers are versions of one, and asked for two things: the nodes that the version before hasn't, and the root.
 #![tactic(auto)]
 
 mod acquiring;

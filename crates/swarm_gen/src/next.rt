@@ -1,14 +1,14 @@
 //! The next ledger, as it is sent: its header over the state's root and that of four transactions, and of both maps the nodes that are
 //! others than in the ledger before.
-ghost use Rattle.std.specs.Prelude.{◌&&◌, ◌≡◌, [], true, false, map, IfOk, IfSome, OnOk, MatchOption};
+ghost use Rattle.std.specs.Prelude.{◌&&◌, ◌≡◌, [], ◌∷◌, true, false, map, IfOk, IfSome, MatchOption};
 ghost use Rattle.std.specs.List.{list_all, All};
 ghost use Rattle.ledger_spec.specs.declared.Kind.TheVariants.{State, Tx};
 ghost use Rattle.ledger_spec.specs.Bytes.{is_nonzero};
-ghost use Rattle.swarm_gen.specs.Ledgers.{state_of, txs_of, state_nodes, are_nonzero, is_made};
-ghost use Rattle.swarm_gen.specs.Standing.{IsDue, IsNext, IsUnshown};
+ghost use Rattle.swarm_gen.specs.Ledgers.{txs_of, state_nodes, are_nonzero, is_made};
+ghost use Rattle.swarm_gen.specs.Standing.{IsAmong, IsDue, IsNext};
 ghost use Rattle.swarm_gen.specs.Changed.{IsChange};
 ghost use Rattle.swarm_gen.specs.Sending.{sent as sent_as, below};
-ghost use Rattle.map_changes.specs.Tracking.{leaves_in, items_in, shown_in};
+ghost use Rattle.map_changes.specs.Tracking.{leaves_in, versions_in};
 ghost use Rattle.swarm_gen.specs.Serving.{IsOfLedger};
 ghost use Rattle.ledger_machine.specs.Scripts.{IsLedgerMap};
 
@@ -17,7 +17,7 @@ use crate::lines::{Head, Sent};
 use crate::state::{key, set_number};
 use half_hash::{Blob, Hash32, Memory, NodeHash};
 use ledger_header::Header;
-use map_changes::{PlacedNode, Root, TrackedMap};
+use map_changes::{PlacedNode, Root, Versions};
 use shamap_node::Kind;
 use std::alloc::Global;
 use std::thread::Threads;
@@ -36,15 +36,16 @@ pub(crate) struct Next {
     pub(crate) tx_nodes: Vec<Sent>,
 }
 
-/// The transactions of a ledger.
-fn txs<H: NodeHash>(alloc: Global, plan: &Plan, seq: u32) -> Result<TrackedMap<H>, Memory>
-    ensures { IfOk result (λ txs. (leaves_in txs ≡ Tx) × (items_in txs ≡ txs_of H.half plan.now seq) × (shown_in H.half txs ≡ [])) }
+/// The transactions of a ledger, as the version behind the empty map.
+fn txs<H: NodeHash>(alloc: Global, plan: &Plan, seq: u32) -> Result<Versions<H>, Memory>
+    ensures { IfOk result (λ txs. (leaves_in txs ≡ Tx) × (versions_in txs ≡ [] ∷ txs_of H.half plan.now seq ∷ [])) }
 {
-    let mut txs = TrackedMap::<H>::new(alloc, Kind::Tx);
+    let mut txs = Versions::<H>::new(alloc, Kind::Tx)?;
     for m in 0..4 {
         let key = key::<H>(plan, TX_BASE + 16 * u64::from(seq) + m);
         set_number::<H>(alloc, &mut txs, key, m)?;
     }
+    txs.keep()?;
     Ok(txs)
 }
 
@@ -125,23 +126,21 @@ fn take_all<R: Threads + Sync, H: NodeHash>(
     rt: &R,
     alloc: Global,
     plan: &Plan,
-    state: &mut TrackedMap<H>,
+    states: &Versions<H>,
     seq: u32,
 ) -> Result<Option<Changes>, Memory>
-    requires { IsUnshown H.half plan.now seq (leaves_in state.old) (items_in state.old) (shown_in H.half state.old) }
-    ensures made { IfOk result (λ changes. MatchOption changes (is_made H.half plan.now seq ≡ false)
+    requires { IsAmong H.half plan.now seq (leaves_in states.now) (versions_in states.now) }
+    ensures { IfOk result (λ changes. MatchOption changes (is_made H.half plan.now seq ≡ false)
         (λ c. IsChange H.half plan.now seq c.state_root c.tx_root c.state_nodes.items c.tx_nodes.items)) }
-    ensures leaves { OnOk result (leaves_in state.new ≡ State) }
-    ensures items { OnOk result (items_in state.new ≡ state_of H.half plan.now seq) }
-    ensures shown { OnOk result (shown_in H.half state.new ≡ state_nodes H.half plan.now seq) }
 {
     let mut txs = txs::<H>(alloc, plan, seq)?;
-    let state_nodes = state.take_changes(rt, alloc)?;
-    let tx_nodes = txs.take_changes(rt, alloc)?;
-    let Some(state_root) = state.root(alloc)? else {
+    txs.hash_all(rt, alloc)?;
+    let state_nodes = states.changes(alloc, seq as usize)?;
+    let tx_nodes = txs.changes(alloc, 1)?;
+    let Some(state_root) = states.root(alloc, seq as usize)? else {
         return Ok(None);
     };
-    let Some(tx_root) = txs.root(alloc)? else {
+    let Some(tx_root) = txs.root(alloc, 1)? else {
         return Ok(None);
     };
     Ok(Some(Changes {
@@ -157,18 +156,15 @@ pub(crate) fn next_ledger<R: Threads + Sync, H: NodeHash>(
     rt: &R,
     alloc: Global,
     plan: &Plan,
-    state: &mut TrackedMap<H>,
+    states: &Versions<H>,
     parent: Hash32,
     seq: u32,
 ) -> Result<Option<Next>, Memory>
-    requires { IsDue H.half plan.now seq parent (leaves_in state.old) (items_in state.old) (shown_in H.half state.old) }
+    requires { IsDue H.half plan.now seq parent (leaves_in states.now) (versions_in states.now) }
     ensures made { IfOk result (λ next. MatchOption next (is_made H.half plan.now seq ≡ false) (IsNext H.half plan.now seq)) }
-    ensures leaves { OnOk result (leaves_in state.new ≡ State) }
-    ensures items { OnOk result (items_in state.new ≡ state_of H.half plan.now seq) }
-    ensures shown { IfOk result (λ next. IfSome next (λ _. (shown_in H.half state.new ≡ state_nodes H.half plan.now seq)
-        × (are_nonzero H.half (state_nodes H.half plan.now seq) ≡ true))) }
+    ensures nonzero { IfOk result (λ next. IfSome next (λ _. are_nonzero H.half (state_nodes H.half plan.now seq) ≡ true)) }
 {
-    let Some(changes) = take_all::<R, H>(rt, alloc, plan, state, seq)? else {
+    let Some(changes) = take_all::<R, H>(rt, alloc, plan, states, seq)? else {
         return Ok(None);
     };
     let Changes {

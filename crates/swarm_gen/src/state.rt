@@ -9,12 +9,12 @@ ghost use Rattle.cow_map.specs.Gathered.{entries_of};
 ghost use Rattle.swarm_gen.specs.Plans.{IsPlan};
 ghost use Rattle.swarm_gen.specs.Ledgers.{key as key_of, eight, owners_of, state_of};
 ghost use Rattle.swarm_gen.specs.Swarm.{read_keys as keys_read};
-ghost use Rattle.swarm_gen.specs.Standing.{IsUnshown, KeepsShown};
-ghost use Rattle.map_changes.specs.Tracking.{leaves_in, items_in, shown_in};
+ghost use Rattle.swarm_gen.specs.Standing.{IsState, AreStates, KeepsVersions};
+ghost use Rattle.map_changes.specs.Tracking.{leaves_in, items_in, versions_in};
 
 use crate::Plan;
 use half_hash::{Blob, Hash32, Memory, NodeHash};
-use map_changes::TrackedMap;
+use map_changes::Versions;
 use shamap_node::{Item, Kind};
 use std::alloc::Global;
 use std::collections::BTreeMap;
@@ -57,11 +57,11 @@ fn push_nonzero(keys: &mut Vec<Hash32>, key: Hash32) -> Result<(), Memory>
 /// Sets an item whose data is a number of eight bytes; a zero key is left out.
 pub(crate) fn set_number<H: NodeHash>(
     alloc: Global,
-    map: &mut TrackedMap<H>,
+    map: &mut Versions<H>,
     key: Hash32,
     n: u64,
 ) -> Result<(), Memory>
-    ensures rest { OnOk result (KeepsShown H.half map.old map.new) }
+    ensures rest { OnOk result (KeepsVersions map.old map.new) }
     ensures items { OnOk result (items_in map.new
         ≡ (if is_zero key then items_in map.old else insert_in hash_cmp (items_in map.old) key (eight n))) }
 {
@@ -106,16 +106,16 @@ pub(crate) fn first_state<H: NodeHash>(
     alloc: Global,
     plan: &Plan,
     owners: &BTreeMap<Hash32, u32>,
-) -> Result<TrackedMap<H>, Memory>
+) -> Result<Versions<H>, Memory>
     requires { owners.now.entries ≡ owners_of H.half plan.now }
-    ensures { IfOk result (λ state. IsUnshown H.half plan.now 1 (leaves_in state) (items_in state) (shown_in H.half state)) }
+    ensures { IfOk result (λ state. IsState H.half plan.now 1 (leaves_in state) (items_in state) (versions_in state)) }
 {
     let mut items = Vec::new(alloc);
     for (key, _) in owners {
         let data = Blob::from_slice(alloc, &1u64.to_be_bytes())?;
         push_item(&mut items, *key, data)?;
     }
-    TrackedMap::from_sorted(alloc, Kind::State, items)
+    Versions::from_sorted(alloc, Kind::State, items)
 }
 
 /// Puts an item behind the others, where its key isn't zero.
@@ -150,14 +150,14 @@ pub(crate) fn advance<H: NodeHash>(
     alloc: Global,
     plan: &Plan,
     owners: &[(Hash32, u32)],
-    state: &mut TrackedMap<H>,
+    state: &mut Versions<H>,
     seq: u32,
 ) -> Result<(), Memory>
     requires owners { owners.now ≡ owners_of H.half plan.now }
     requires sorted { IsMap hash_cmp owners.now }
     requires seq { 2 ≤ seq }
     requires items { items_in state.old ≡ state_of H.half plan.now (seq - 1) }
-    ensures rest { OnOk result (KeepsShown H.half state.old state.new) }
+    ensures rest { OnOk result (KeepsVersions state.old state.new) }
     ensures items { OnOk result (items_in state.new ≡ state_of H.half plan.now seq) }
 {
     for (key, item) in owners {
@@ -169,12 +169,12 @@ pub(crate) fn advance<H: NodeHash>(
 /// Sets the data of an item where the ledger changes it.
 fn set_where_due<H: NodeHash>(
     alloc: Global,
-    state: &mut TrackedMap<H>,
+    state: &mut Versions<H>,
     key: Hash32,
     item: u32,
     seq: u32,
 ) -> Result<(), Memory>
-    ensures rest { OnOk result (KeepsShown H.half state.old state.new) }
+    ensures rest { OnOk result (KeepsVersions state.old state.new) }
     ensures items { OnOk result (items_in state.new ≡ (if (item + seq) % 97 == 0
         then (if is_zero key then items_in state.old else insert_in hash_cmp (items_in state.old) key (eight seq))
         else items_in state.old)) }
@@ -183,4 +183,20 @@ fn set_where_due<H: NodeHash>(
         set_number::<H>(alloc, state, key, u64::from(seq))?;
     }
     Ok(())
+}
+
+/// The account states of all ledgers, one version each.
+pub(crate) fn all_states<H: NodeHash>(alloc: Global, plan: &Plan) -> Result<Versions<H>, Memory>
+    requires { IsPlan plan.now }
+    ensures { IfOk result (λ states. AreStates H.half plan.now plan.now.ledgers (leaves_in states) (versions_in states)) }
+{
+    let owners = owners::<H>(alloc, plan)?;
+    let mut states = first_state::<H>(alloc, plan, &owners)?;
+    let owners = listed(alloc, &owners)?;
+    states.keep()?;
+    for j in 1..plan.ledgers {
+        advance::<H>(alloc, plan, &owners, &mut states, j + 1)?;
+        states.keep()?;
+    }
+    Ok(states)
 }

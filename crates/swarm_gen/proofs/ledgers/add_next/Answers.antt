@@ -20,5 +20,5 @@ returns g c =
         c.in_ok-waits.ensures.number ∙ ap (λ (l : Ledger). next_waits plan keys l n waits) m.ledger,
       );
       parent = search rules;
-      state = search rules;
+      nonzero = search rules;
     }

@@ -16,7 +16,7 @@ returns-then-not-is_fine-clause-made g c =
     let plan = c.args.plan.now in
     let seq = c.args.seq in
     let x = c.in-Some.changes in
-    let r = some_case _ _ _ x c.in-Some.is c.in_ok-changes.ensures.made in
+    let r = some_case _ _ _ x c.in-Some.is c.in_ok-changes.ensures in
     let bytes = header_is half plan seq c.args.parent x.tx_root.hash x.state_root.hash r.tx_root.is_hash r.state_root.is_hash in
     let known : Known half plan seq x.state_root x.tx_root x.state_nodes.items x.tx_nodes.items c.hash-hash.result = record {
       some_state = r.some_state;
@@ -27,7 +27,7 @@ returns-then-not-is_fine-clause-made g c =
       tx_changes = r.tx_changes;
       nonzero = c.requires.nonzero;
       is_hash = c.hash-hash.ensures ∙ ap (λ (b : Bytes). half (header_prefix ++ b)) bytes
-          ∙ hash_is half plan seq c.args.parent c.requires.seq.0 c.requires.parent;
+          ∙ hash_is half plan seq c.args.parent c.requires.among.seq.0 c.requires.parent;
     } in
     let made = made_where half plan seq x.state_root x.tx_root x.state_nodes.items x.tx_nodes.items c.hash-hash.result known in
     let fine = c.is_fine.ensures ∙ (λ i. list_all (λ (p : PlacedNode). is_nonzero p.hash) (c.deref.ensures.value i)
@@ -41,7 +41,7 @@ returns-clause-made g c =
     let plan = c.args.plan.now in
     let seq = c.args.seq in
     let x = c.in-Some.changes in
-    let r = some_case _ _ _ x c.in-Some.is c.in_ok-changes.ensures.made in
+    let r = some_case _ _ _ x c.in-Some.is c.in_ok-changes.ensures in
     let bytes = header_is half plan seq c.args.parent x.tx_root.hash x.state_root.hash r.tx_root.is_hash r.state_root.is_hash in
     let known : Known half plan seq x.state_root x.tx_root x.state_nodes.items x.tx_nodes.items c.hash-hash.result = record {
       some_state = r.some_state;
@@ -52,7 +52,7 @@ returns-clause-made g c =
       tx_changes = r.tx_changes;
       nonzero = c.requires.nonzero;
       is_hash = c.hash-hash.ensures ∙ ap (λ (b : Bytes). half (header_prefix ++ b)) bytes
-          ∙ hash_is half plan seq c.args.parent c.requires.seq.0 c.requires.parent;
+          ∙ hash_is half plan seq c.args.parent c.requires.among.seq.0 c.requires.parent;
     } in
     let made = made_where half plan seq x.state_root x.tx_root x.state_nodes.items x.tx_nodes.items c.hash-hash.result known in
     let fine = c.is_fine.ensures ∙ (λ i. list_all (λ (p : PlacedNode). is_nonzero p.hash) (c.deref.ensures.value i)
@@ -69,14 +69,14 @@ returns-clause-made g c =
       tx = c.in_ok-next_of.ensures.maps.1;
     }
 
--- the changes were taken, so all nodes of the state are shown, and in a ledger that is made none has the zero hash
-pub returns-clause-shown : goal.returns-clause-shown
-returns-clause-shown g c =
+-- in a ledger that is made no node of the state has the zero hash
+pub returns-clause-nonzero : goal.returns-clause-nonzero
+returns-clause-nonzero g c =
     let half = g.H.NodeHash.half in
     let plan = c.args.plan.now in
     let seq = c.args.seq in
     let x = c.in-Some.changes in
-    let r = some_case _ _ _ x c.in-Some.is c.in_ok-changes.ensures.made in
+    let r = some_case _ _ _ x c.in-Some.is c.in_ok-changes.ensures in
     let bytes = header_is half plan seq c.args.parent x.tx_root.hash x.state_root.hash r.tx_root.is_hash r.state_root.is_hash in
     let known : Known half plan seq x.state_root x.tx_root x.state_nodes.items x.tx_nodes.items c.hash-hash.result = record {
       some_state = r.some_state;
@@ -87,11 +87,9 @@ returns-clause-shown g c =
       tx_changes = r.tx_changes;
       nonzero = c.requires.nonzero;
       is_hash = c.hash-hash.ensures ∙ ap (λ (b : Bytes). half (header_prefix ++ b)) bytes
-          ∙ hash_is half plan seq c.args.parent c.requires.seq.0 c.requires.parent;
+          ∙ hash_is half plan seq c.args.parent c.requires.among.seq.0 c.requires.parent;
     } in
     let made = made_where half plan seq x.state_root x.tx_root x.state_nodes.items x.tx_nodes.items c.hash-hash.result known in
     let fine = c.is_fine.ensures ∙ (λ i. list_all (λ (p : PlacedNode). is_nonzero p.hash) (c.deref.ensures.value i)
-    && list_all (λ (p : PlacedNode). is_nonzero p.hash) (c.deref-2.ensures.value i) && is_nonzero c.hash-hash.result) in (
-      c.in_ok-changes.ensures.shown,
-      state_made half plan seq (made ∙ sym fine ∙ c.if-not-is_fine.false),
-    )
+    && list_all (λ (p : PlacedNode). is_nonzero p.hash) (c.deref-2.ensures.value i) && is_nonzero c.hash-hash.result) in
+    state_made half plan seq (made ∙ sym fine ∙ c.if-not-is_fine.false)

@@ -1,5 +1,5 @@
-use Rattle.std.proofs.Common.{◌≡◌, ◌<◌, ◌≤◌, ℕ, ◌+◌, ◌++◌, ◌∷◌, ◌-◌, List, [], length, drop, map, take, ap, sym, ◌∙◌, subst, refl, append-nil, arith}
-use Rattle.std.proofs.Common.{take-append-drop}
+use Rattle.std.proofs.Common.{◌≡◌, ◌<◌, ◌≤◌, ℕ, ◌+◌, ◌++◌, ◌∷◌, ◌-◌, List, [], length, drop, map, take, ap, sym, ◌∙◌, subst, refl, arith}
+use Rattle.std.proofs.Common.{append-nil, take-append-drop}
 use Rattle.std.proofs.lemmas.List.{drop_all, drop_more, take_all, take_more}
 use Rattle.ledger_spec.specs.Bytes.{Hash}
 use Rattle.ledger_spec.specs.Maps.{hash_cmp, IsMap}
@@ -16,7 +16,7 @@ loop-key-init g c =
     record {
       leaves = refl;
       items = c.requires.items ∙ state_is half plan (seq - 1) ∙ ap (map (on (data_in (seq - 1)))) (sym c.requires.owners);
-      shown = refl;
+      versions = refl;
     }
 
 -- one owner more is brought to this ledger, at its own place behind those visited and before the others
@@ -43,7 +43,7 @@ loop-key-preserved g c =
       leaves = s.rest.leaves ∙ i.leaves;
       items = advance_step half plan seq ys rest e.0 e.1 _ _ c.requires.seq (sym c.requires.owners ∙ split) sorted before s.items
           ∙ ap (λ (x : List (Hash × ℕ)). map (on (data_in seq)) x ++ map (on (data_in (seq - 1))) rest) (sym more);
-      shown = s.rest.shown ∙ i.shown;
+      versions = s.rest.versions ∙ i.versions;
     }
 
 -- no owner is left, so all have this ledger's data, and an account state is just the owners with their data

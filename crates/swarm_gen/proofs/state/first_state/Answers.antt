@@ -7,9 +7,9 @@ use Rattle.ledger_spec.specs.Bytes.{Bytes, Half, Hash, is_nonzero}
 use Rattle.ledger_spec.specs.Maps.{hash_cmp, IsMap}
 use Rattle.ledger_spec.specs.Tree.{Entry}
 use Rattle.cow_map.specs.Gathered.{entries_of}
-use Rattle.map_changes.specs.Tracking.{Tracking, leaves_in, items_in, shown_in}
+use Rattle.map_changes.specs.Tracking.{Tracking, leaves_in, items_in, versions_in}
 use Rattle.swarm_gen.specs.declared.plan.Plan.{Plan}
-use Rattle.swarm_gen.specs.Standing.{IsUnshown}
+use Rattle.swarm_gen.specs.Standing.{IsState}
 use Rattle.swarm_gen.specs.Ledgers.{eight, state_of}
 use Rattle.swarm_gen.proofs.Owners.{on, data_in, state_is, first_step, sorted_mapped, split_more, split_on, split_end}
 use Rattle.swarm_gen.proofs.state.first_state.Goals as goal
@@ -46,11 +46,11 @@ from_sorted-requires-after_bounds g c alive here =
     subst (λ (es : List Entry). IsMap hash_cmp es) (sym (i.items ∙ ap (map (on (data_in 1))) all))
     (sorted_mapped (data_in 1) c.args.owners.now.entries c.into_iter-key-iterator.ensures.into_iter_gives.5)
 
-unshown : {E : Type 0} (half : Half) (plan : Plan) (r : Result Tracking E) (entries : List Entry) → entries ≡ state_of half plan 1
-    → IfOk r (λ m. leaves_in m ≡ State) → IfOk r (λ m. items_in m ≡ entries) → IfOk r (λ m. shown_in half m ≡ [])
-    → IfOk r (λ m. IsUnshown half plan 1 (leaves_in m) (items_in m) (shown_in half m))
-unshown half plan (Ok m) entries is leaves items shown = record { leaves = leaves; is_state = items ∙ is; nodes = shown }
-unshown half plan (Err e) entries is leaves items shown = tt
+first : {E : Type 0} (half : Half) (plan : Plan) (r : Result Tracking E) (entries : List Entry) → entries ≡ state_of half plan 1
+    → IfOk r (λ m. leaves_in m ≡ State) → IfOk r (λ m. items_in m ≡ entries) → IfOk r (λ m. versions_in m ≡ [] ∷ [])
+    → IfOk r (λ m. IsState half plan 1 (leaves_in m) (items_in m) (versions_in m))
+first half plan (Ok m) entries is leaves items versions = record { leaves = leaves; is_state = items ∙ is; before = versions }
+first half plan (Err e) entries is leaves items versions = tt
 
 -- no owner is left, so each has ledger 1's data, and an account state is just the owners with their data
 pub returns : goal.returns
@@ -62,5 +62,5 @@ returns g c =
     c.in-None.ensures.steps.0 in
     let is : entries_of c.loop-key.items.items ≡ state_of half plan 1 =
     i.items ∙ ap (map (on (data_in 1))) (all ∙ c.requires) ∙ sym (state_is half plan 1) in
-    unshown half plan c.from_sorted.result (entries_of c.loop-key.items.items) is c.from_sorted.ensures.kind c.from_sorted.ensures.items
-    c.from_sorted.ensures.shown
+    first half plan c.from_sorted.result (entries_of c.loop-key.items.items) is c.from_sorted.ensures.kind c.from_sorted.ensures.items
+    c.from_sorted.ensures.versions
