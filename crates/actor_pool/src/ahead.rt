@@ -8,7 +8,7 @@ use std::alloc::Global;
 use store_core::ReadJob;
 
 /// How many lines behind a read are looked at, those of other actors among them.
-const AHEAD: usize = 128;
+const AHEAD: usize = 256;
 
 /// For how many reads there is room from the start.
 const ROOM: usize = 32;

@@ -66,9 +66,10 @@ impl<H: NodeHash> Descent<H> {
         self.going
     }
 
-    /// The node that it lacks.
-    pub(crate) fn lack(&self) -> Lack {
+    /// The node that it lacks, as the read of this number.
+    pub(crate) fn lack(&self, read: usize) -> Lack {
         Lack {
+            read,
             hash: *self.going.reading.wanted(),
             depth: self.going.depth,
             key: self.going.job.key,

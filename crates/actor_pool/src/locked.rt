@@ -54,7 +54,7 @@ pub(crate) fn forms_below_locked<H: NodeHash, Sh: Shelf, J: Pinned>(
     shared: &Mutex<Shared<H, Sh, J>>,
     actor: u8,
     lacks: &[Lack],
-) -> Vec<Given<H, Sh>> {
+) -> Given<H, Sh> {
     take_lock(rt, shared).forms_below(alloc, actor, lacks)
 }
 

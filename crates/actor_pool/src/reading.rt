@@ -12,7 +12,7 @@ ghost use Rattle.actor_pool.specs.Descents.{IsDescent};
 
 use crate::descent::{Descent, Going, Way};
 use crate::gate::{Gate, Point};
-use crate::given::{Given, given_for};
+use crate::given::Given;
 use crate::locked::{form_locked, forms_below_locked};
 use crate::near::Near;
 use crate::shared::Pinned;
@@ -42,8 +42,8 @@ pub(crate) fn read_outside<R: Wait, H: NodeHash, Sh: Shelf, G: Gate, J: Pinned>(
     let given = given_to(worker, near, &ways);
     let mut got = Vec::new(worker.alloc);
     let _ = got.reserve(ways.len());
-    for way in ways {
-        if got.push(followed(worker, near, way, &given)).is_err() {
+    for (read, way) in ways.into_iter().enumerate() {
+        if got.push(followed(worker, near, way, read, &given)).is_err() {
             break;
         }
     }
@@ -101,18 +101,18 @@ fn given_to<R: Wait, H: NodeHash, Sh: Shelf, G: Gate, J: Pinned>(
     worker: &Worker<R, H, Sh, G, J>,
     near: &Near<H>,
     ways: &[Way<H>],
-) -> Vec<Given<H, Sh>> {
+) -> Given<H, Sh> {
     let mut lacks = Vec::new(worker.alloc);
     if worker.stride.reads < 2 || near.is_alone() {
-        return Vec::new(worker.alloc);
+        return Given::new(worker.alloc, 0);
     }
-    for way in ways {
+    for (read, way) in ways.iter().enumerate() {
         if let Way::Lacks(descent) = way {
-            let _ = lacks.push(descent.lack());
+            let _ = lacks.push(descent.lack(read));
         }
     }
     if lacks.is_empty() {
-        return Vec::new(worker.alloc);
+        return Given::new(worker.alloc, 0);
     }
     forms_below_locked(worker.rt, worker.alloc, worker.shared, worker.actor, &lacks)
 }
@@ -122,14 +122,15 @@ fn followed<R: Wait, H: NodeHash, Sh: Shelf, G: Gate, J: Pinned>(
     worker: &Worker<R, H, Sh, G, J>,
     near: &mut Near<H>,
     way: Way<H>,
-    given: &[Given<H, Sh>],
+    read: usize,
+    given: &Given<H, Sh>,
 ) -> Followed<H> {
     match way {
         Way::Ended(followed) => followed,
         Way::Lacks(descent) => {
             let going = descent.into_going();
             let job = going.job;
-            let got = go_down(worker, near, going, given);
+            let got = go_down(worker, near, going, read, given);
             Followed::new(job, got)
         }
     }
@@ -140,7 +141,8 @@ fn go_down<R: Wait, H: NodeHash, Sh: Shelf, G: Gate, J: Pinned>(
     worker: &Worker<R, H, Sh, G, J>,
     near: &mut Near<H>,
     going: Going,
-    given: &[Given<H, Sh>],
+    read: usize,
+    given: &Given<H, Sh>,
 ) -> Result<Answer, ReadFault>
     requires { IsDescent H.half going.job going.reading }
     ensures { IsSaid H.half going.job result }
@@ -151,7 +153,7 @@ fn go_down<R: Wait, H: NodeHash, Sh: Shelf, G: Gate, J: Pinned>(
         mut depth,
     } = going;
     loop {
-        let node = node_of(worker, near, depth, reading.wanted(), given);
+        let node = node_of(worker, near, depth, reading.wanted(), read, given);
         depth = depth.saturating_add(1);
         match reading.go_on::<H>(node, job.kind, &job.key)? {
             Progress::More(next) => reading = next,
@@ -198,14 +200,15 @@ fn node_of<R: Wait, H: NodeHash, Sh: Shelf, G: Gate, J: Pinned>(
     near: &mut Near<H>,
     depth: u8,
     h: &Hash32,
-    given: &[Given<H, Sh>],
+    read: usize,
+    given: &Given<H, Sh>,
 ) -> Result<Option<Arc<Node>>, FetchFault>
     ensures { HasHash H.half h.now result }
 {
     if let Some(node) = near.find(depth, h) {
         return Ok(Some(node));
     }
-    let Some(form) = given_for(given, h) else {
+    let Some(form) = given.find(read, h) else {
         return elsewhere(worker, near, depth, h);
     };
     let node = decoded::<H, Sh>(worker.alloc, h, form.bytes())?;

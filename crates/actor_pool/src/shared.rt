@@ -3,7 +3,7 @@ ghost use Rattle.std.specs.Prelude.{◌≡◌, ◌<◌, IfOk, IfSome, IsTrue};
 ghost use Rattle.actor_pool.specs.Order.{IsOf};
 
 use crate::ahead::{are_few, reads_from};
-use crate::given::{Given, Lack, given_for};
+use crate::given::{Given, Lack};
 use half_hash::{Blob, Hash32, NodeHash};
 use ledger_machine::Line;
 use nib_path::nibble;
@@ -18,7 +18,7 @@ use store_core::{Core, Followed, ReadJob, Stepped};
 pub(crate) const ACTORS: u8 = 64;
 
 /// For how many reads an actor goes down before it hands in what it got, where no gate is passed between them.
-pub(crate) const READS: usize = 64;
+pub(crate) const READS: usize = 128;
 
 /// Which run it is: the script, the interval, the count of faults at opening and what was missed. Each
 /// call picks it.
@@ -223,58 +223,28 @@ impl<H: NodeHash, Sh: Shelf, J: Pinned> Shared<H, Sh, J> {
     }
 
     /// The bytes that these reads lack, each down to the end of its path. Where memory is refused, or the device fails, some are left out.
-    pub(crate) fn forms_below(
-        &mut self,
-        alloc: Global,
-        actor: u8,
-        lacks: &[Lack],
-    ) -> Vec<Given<H, Sh>> {
-        let mut given = Vec::new(alloc);
-        let _ = given.reserve(lacks.len());
+    pub(crate) fn forms_below(&mut self, alloc: Global, actor: u8, lacks: &[Lack]) -> Given<H, Sh> {
+        let mut given = Given::new(alloc, lacks.len());
         for lack in lacks {
             self.path_below(alloc, actor, lack, &mut given);
         }
         given
     }
 
-    // The bytes below a place on the way to a key, each once.
-    fn path_below(&mut self, alloc: Global, actor: u8, lack: &Lack, given: &mut Vec<Given<H, Sh>>) {
+    // The bytes below a place on the way to a key.
+    fn path_below(&mut self, alloc: Global, actor: u8, lack: &Lack, given: &mut Given<H, Sh>) {
         let mut hash = lack.hash;
         for depth in lack.depth..64 {
             let branch = nibble(&lack.key.bytes, depth);
-            match self.branch_below(alloc, actor, &hash, branch, given) {
+            let Ok(Some(form)) = self.form_at(alloc, actor, &hash) else {
+                return;
+            };
+            let below = branch_of_form(form.bytes(), branch);
+            given.put(lack.read, &hash, form);
+            match below {
                 Some(next) if !next.is_zero() => hash = next,
                 _ => return,
             }
-        }
-    }
-
-    // What a node has at a branch, by its bytes, which are given then. None where it is a leaf, or can't be given.
-    fn branch_below(
-        &mut self,
-        alloc: Global,
-        actor: u8,
-        h: &Hash32,
-        branch: u8,
-        given: &mut Vec<Given<H, Sh>>,
-    ) -> Option<Hash32>
-        requires { branch < 16 }
-    {
-        if let Some(form) = given_for(given, h) {
-            return branch_of_form(form.bytes(), branch);
-        }
-        let Ok(Some(form)) = self.form_at(alloc, actor, h) else {
-            return None;
-        };
-        let below = branch_of_form(form.bytes(), branch);
-        let one = Given {
-            hash: *h,
-            form,
-            of: PhantomData,
-        };
-        match given.push(one) {
-            Ok(()) => below,
-            Err(_) => None,
         }
     }
 
