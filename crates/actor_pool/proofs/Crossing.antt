@@ -12,6 +12,7 @@ use Rattle.half_hash.proofs.shared.Crossing.{Hash32-send, Hash32-sync}
 use Rattle.shamap_node.proofs.shared.Crossing.{Node-send, Node-sync}
 use Rattle.node_backend.specs.declared.back.Shelf as shelves
 use Rattle.node_backend.specs.declared.back.Backend as backends
+use Rattle.ledger_machine.specs.contracts.base_box.BaseBox as BaseBox
 use Rattle.tree_cache.specs.contracts.cache.TreeCache as TreeCache
 use Rattle.full_below.specs.contracts.marks.Marks as Marks
 use Rattle.ledger_searches.specs.contracts.hunt.Hunt as Hunt
@@ -34,6 +35,9 @@ use Rattle.store_core.specs.contracts.core_calls.Core as Core
 use Rattle.store_core.specs.contracts.core_calls.Core.TheInside as CoreIn
 use Rattle.actor_pool.specs.declared.shared.Pinned as pins
 use Rattle.actor_pool.specs.contracts.shared.Shared as Shared
+
+BaseBox-send : IsSend BaseBox.the_row
+BaseBox-send = search (Hash32-send, crosses, sendable) depth 60 fits 100000
 
 TreeCache-send : IsSend (TreeCache.the_field).row
 TreeCache-send =
@@ -158,7 +162,7 @@ module _ (H Sh B : RattleType) (h : hashes.Ghosts H.Denot) (s : shelves.Ghosts S
                 (
                   search (crosses, sendable) depth 40,
                   (
-                    search (Hash32-send, Node-send, Node-sync, crosses, send, sendable) depth 60 fits 100000,
+                    search (Hash32-send, BaseBox-send, Node-send, Node-sync, crosses, send, sendable) depth 60 fits 100000,
                     (Hall-send x y q, (Searches-send, tt)),
                   ),
                 ),
