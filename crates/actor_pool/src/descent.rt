@@ -8,12 +8,13 @@ use path_proof::Reading;
 use std::marker::{Model, PhantomData};
 use store_core::{Followed, ReadJob};
 
-/// A job's read, and the depth to which it came.
+/// A job's read, and the depth and the place to which it came.
 #[derive(Drop)]
 pub(crate) struct Going {
     pub(crate) job: ReadJob,
     pub(crate) reading: Reading,
     pub(crate) depth: u8,
+    pub(crate) place: usize,
 }
 
 /// The same, where the read is known to be on its way below the job's root. Contracts see the read.

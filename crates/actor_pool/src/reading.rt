@@ -14,7 +14,7 @@ use crate::descent::{Descent, Going, Way};
 use crate::gate::{Gate, Point};
 use crate::given::Given;
 use crate::locked::{form_locked, forms_below_locked};
-use crate::near::Near;
+use crate::near::{Near, place_below};
 use crate::shared::Pinned;
 use crate::worker::Worker;
 use half_hash::{Hash32, NodeHash};
@@ -79,14 +79,17 @@ fn go_near<R: Wait, H: NodeHash, Sh: Shelf, G: Gate, J: Pinned>(
 {
     let mut reading = Reading::at_root(worker.alloc, &job.root);
     let mut depth: u8 = 0;
+    let mut place: usize = 0;
     loop {
-        let Some(node) = kept(worker, near, depth, reading.wanted()) else {
+        let Some(node) = kept(worker, near, place, reading.wanted()) else {
             return Ok(Way::Lacks(Descent::new(Going {
                 job: *job,
                 reading,
                 depth,
+                place,
             })));
         };
+        place = place_below(place, depth, &job.key);
         depth = depth.saturating_add(1);
         match reading.go_on::<H>(Ok(Some(node)), job.kind, &job.key)? {
             Progress::More(next) => reading = next,
@@ -151,9 +154,11 @@ fn go_down<R: Wait, H: NodeHash, Sh: Shelf, G: Gate, J: Pinned>(
         job,
         mut reading,
         mut depth,
+        mut place,
     } = going;
     loop {
-        let node = node_of(worker, near, depth, reading.wanted(), read, given);
+        let node = node_of(worker, near, place, reading.wanted(), read, given);
+        place = place_below(place, depth, &job.key);
         depth = depth.saturating_add(1);
         match reading.go_on::<H>(node, job.kind, &job.key)? {
             Progress::More(next) => reading = next,
@@ -166,22 +171,22 @@ fn go_down<R: Wait, H: NodeHash, Sh: Shelf, G: Gate, J: Pinned>(
 fn kept<R: Wait, H: NodeHash, Sh: Shelf, G: Gate, J: Pinned>(
     worker: &Worker<R, H, Sh, G, J>,
     near: &mut Near<H>,
-    depth: u8,
+    place: usize,
     h: &Hash32,
 ) -> Option<Arc<Node>>
     ensures { IfSome result (λ a. hash_of H.half (held a.value) ≡ h.now) }
 {
-    if let Some(node) = near.find(depth, h) {
+    if let Some(node) = near.find(place, h) {
         return Some(node);
     }
-    shared_with(worker, near, depth, h)
+    shared_with(worker, near, place, h)
 }
 
 // The node of a hash, where the cache of all readers has it; want of memory is passed over.
 fn shared_with<R: Wait, H: NodeHash, Sh: Shelf, G: Gate, J: Pinned>(
     worker: &Worker<R, H, Sh, G, J>,
     near: &mut Near<H>,
-    depth: u8,
+    place: usize,
     h: &Hash32,
 ) -> Option<Arc<Node>>
     ensures { IfSome result (λ a. hash_of H.half (held a.value) ≡ h.now) }
@@ -190,7 +195,7 @@ fn shared_with<R: Wait, H: NodeHash, Sh: Shelf, G: Gate, J: Pinned>(
         Ok(found) => found?,
         Err(_) => return None,
     };
-    near.keep(worker.alloc, depth, h, &node);
+    near.keep(worker.alloc, place, h, &node);
     Some(node)
 }
 
@@ -198,21 +203,21 @@ fn shared_with<R: Wait, H: NodeHash, Sh: Shelf, G: Gate, J: Pinned>(
 fn node_of<R: Wait, H: NodeHash, Sh: Shelf, G: Gate, J: Pinned>(
     worker: &Worker<R, H, Sh, G, J>,
     near: &mut Near<H>,
-    depth: u8,
+    place: usize,
     h: &Hash32,
     read: usize,
     given: &Given<H, Sh>,
 ) -> Result<Option<Arc<Node>>, FetchFault>
     ensures { HasHash H.half h.now result }
 {
-    if let Some(node) = near.find(depth, h) {
+    if let Some(node) = near.find(place, h) {
         return Ok(Some(node));
     }
     let Some(form) = given.find(read, h) else {
-        return elsewhere(worker, near, depth, h);
+        return elsewhere(worker, near, place, h);
     };
     let node = decoded::<H, Sh>(worker.alloc, h, form.bytes())?;
-    noted(worker, near, depth, h, &node);
+    noted(worker, near, place, h, &node);
     Ok(node)
 }
 
@@ -220,16 +225,16 @@ fn node_of<R: Wait, H: NodeHash, Sh: Shelf, G: Gate, J: Pinned>(
 fn elsewhere<R: Wait, H: NodeHash, Sh: Shelf, G: Gate, J: Pinned>(
     worker: &Worker<R, H, Sh, G, J>,
     near: &mut Near<H>,
-    depth: u8,
+    place: usize,
     h: &Hash32,
 ) -> Result<Option<Arc<Node>>, FetchFault>
     ensures { HasHash H.half h.now result }
 {
-    if let Some(node) = shared_with(worker, near, depth, h) {
+    if let Some(node) = shared_with(worker, near, place, h) {
         return Ok(Some(node));
     }
     let node = fetched(worker, h)?;
-    noted(worker, near, depth, h, &node);
+    noted(worker, near, place, h, &node);
     Ok(node)
 }
 
@@ -238,7 +243,7 @@ fn elsewhere<R: Wait, H: NodeHash, Sh: Shelf, G: Gate, J: Pinned>(
 fn noted<R: Wait, H: NodeHash, Sh: Shelf, G: Gate, J: Pinned>(
     worker: &Worker<R, H, Sh, G, J>,
     near: &mut Near<H>,
-    depth: u8,
+    place: usize,
     h: &Hash32,
     node: &Option<Arc<Node>>,
 )
@@ -247,7 +252,7 @@ fn noted<R: Wait, H: NodeHash, Sh: Shelf, G: Gate, J: Pinned>(
     let Some(node) = node else {
         return;
     };
-    near.keep(worker.alloc, depth, h, node);
+    near.keep(worker.alloc, place, h, node);
     if near.is_alone() || is_inner(node) {
         keep(worker, h, node);
     }
