@@ -1,5 +1,6 @@
 -- The first line that is left is the next one of its actor, and isn't blocked.
 use Rattle.std.proofs.Common.{◌≡◌, ℕ, ◌+◌, ◌<◌, ◌≤◌, Some, List, [], ◌∷◌, ◌++◌, map, length, take, drop, get_or, Bool, true, false, cond}
+use Rattle.std.proofs.Common.{length-append}
 use Rattle.std.proofs.Common.{refl, sym, ◌∙◌, ap, subst, arith}
 use Rattle.std.specs.Prelude.{◌==◌, ◌||◌, nat_lt}
 use Rattle.std.specs.List.{filter, list_any, All, Contains}
@@ -14,6 +15,7 @@ use Rattle.ledger_machine.specs.Runs.{answered_by, Projects, IsFull}
 use Rattle.ledger_machine.specs.Scripts.{numbers_of, Rises}
 use Rattle.script_form.specs.Servable.{AreServable, WaitsForEarlier}
 use Rattle.ledger_machine.specs.Runs.{IsDone, IsBlocked, is_answered, next_line}
+use Rattle.store_core.proofs.Counting.{part, parts_total, total-lt}
 use Rattle.store_core.proofs.Finding.{rising}
 use Rattle.store_core.proofs.Journals.{numbers-append}
 use Rattle.store_core.proofs.Waiting.{answered_any, any_answered, number_at, same_place, next_at, next_left, blocked_at, drop_at}
@@ -85,6 +87,12 @@ same_front n (x ∷ xs) rest (y ∷ ys) more up same all none =
     (λ z later e. not_later x z xs (none z later e)) in
     cc
 
+entries_part : (a : ℕ) (es : List Entry) → part (λ (e : Entry). e.actor) es a ≡ length (answered_by a es)
+entries_part a es = sym (length-map (filter (λ e. e.actor == a) es) (λ (e : Entry). e.line))
+
+lines_part : (a : ℕ) (ls : List Line) → part (λ (l : Line). l.actor) ls a ≡ length (numbers_of a ls)
+lines_part a ls = sym (length-map (filter (λ l. l.actor == a) ls) (λ (l : Line). l.number))
+
 module _ (lines : List Line) (journal : List Entry) (servable : AreServable lines) (projects : Projects lines journal)
     (known : All (λ e. e.actor < 64) journal) where
   -- the entry of a line is one of its actor
@@ -124,6 +132,28 @@ module _ (lines : List Line) (journal : List Entry) (servable : AreServable line
       (λ y h. front_answered (length lines) all a y
       (ap (λ (w : List Line). has y (numbers_of a w)) (take_all (length lines) lines (omega arith)) ∙ h))
       (λ y later e. cc)
+
+  at_most : (a : ℕ) → a < 64 → part (λ (e : Entry). e.actor) journal a ≤ part (λ (l : Line). l.actor) lines a
+  at_most a lt =
+      let front = projects.fronts a lt in
+      omega (arith, entries_part a journal, lines_part a lines, ap length front.1, length-append (answered_by a journal) front.0)
+
+  -- where there are as many entries as lines, the projection is full
+  pub counted_full : length lines ≤ length journal → IsFull lines journal
+  counted_full enough a lt = whole (projects.fronts a lt).0 (projects.fronts a lt).1
+    where
+      whole : (rest : List ℕ) → answered_by a journal ++ rest ≡ numbers_of a lines → answered_by a journal ≡ numbers_of a lines
+      whole [] is = sym (append-nil (answered_by a journal)) ∙ is
+      whole (x ∷ rest) is =
+          let fewer : part (λ (e : Entry). e.actor) journal a < part (λ (l : Line). l.actor) lines a =
+          omega (arith, entries_part a journal, lines_part a lines, ap length is, length-append (answered_by a journal) (x ∷ rest)) in
+          absurd (omega (
+            arith,
+            enough,
+            parts_total 64 (λ (e : Entry). e.actor) journal known,
+            parts_total 64 (λ (l : Line). l.actor) lines servable.actors_known,
+            total-lt 64 (part (λ (e : Entry). e.actor) journal) (part (λ (l : Line). l.actor) lines) at_most a lt fewer,
+          ))
 
   module _ (at : ℕ) (line : Line) (lt : at < length lines) (is : line ≡ get_or lines at line) (all : AreAnswered lines journal at)
       (left : is_answered journal line.number ≡ false) where

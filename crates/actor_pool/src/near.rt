@@ -103,7 +103,7 @@ impl<H: NodeHash> Kept<H> {
 }
 
 /// The number of the place below this one on the way to a key. The root's is 0, and those of the sixteen below number p are 16 p + 1 to
-/// 16 p + 16.
+/// 16 p + 16. Below the last level nothing stands: there the place stays, and no node is looked for at it.
 pub(crate) fn place_below(place: usize, depth: u8, key: &Hash32) -> usize {
     if depth >= LEVELS {
         return place;

@@ -23,7 +23,7 @@ use std::thread;
 use std::thread::Threads;
 use store_core::{Core, Stepped};
 
-/// How long the caller leaves the lock free between two sections beside workers, in turns of a loop: a microsecond or two.
+/// How long the caller leaves the lock free between two sections beside workers, in turns of a loop: 0.15 to 2 microseconds, by the processor.
 const PAUSE: u32 = 32;
 
 /// Answers every line of the core's script, over the core under one lock: each actor's by a worker of its own, but that where the gate is
@@ -181,10 +181,33 @@ fn pause() {
     }
 }
 
-/// Answers every line that has no entry yet, in line order.
+/// Answers every line that has no entry yet, in line order. Mostly there is none, which the number of entries tells.
 fn run_rest<H: NodeHash, Sh: Shelf, G: Gate>(alloc: Global, core: &mut Core<H, Sh>, gate: &G)
     ensures same { IsSameRun core.old core.new }
     ensures projects { Projects core.new.lines core.new.journal }
+    ensures full { IsFull core.new.lines core.new.journal }
+{
+    if has_fewer_entries(core) {
+        run_left(alloc, core, gate);
+    }
+    // For its contract.
+    let _ = core.journal();
+}
+
+/// Whether there are fewer entries than lines; else each line has its own.
+fn has_fewer_entries<H: NodeHash, Sh: Shelf>(core: &Core<H, Sh>) -> bool
+    ensures { result ≡ false → IsFull core.now.lines core.now.journal }
+{
+    let entries = core.journal().len();
+    if entries < core.script().lines.len() {
+        return true;
+    }
+    false
+}
+
+/// Answers every line that has no entry yet, by a look at each.
+fn run_left<H: NodeHash, Sh: Shelf, G: Gate>(alloc: Global, core: &mut Core<H, Sh>, gate: &G)
+    ensures same { IsSameRun core.old core.new }
     ensures full { IsFull core.new.lines core.new.journal }
 {
     for at in 0..core.script().lines.len() {

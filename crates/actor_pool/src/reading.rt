@@ -182,7 +182,7 @@ fn kept<R: Wait, H: NodeHash, Sh: Shelf, G: Gate, J: Pinned>(
     shared_with(worker, near, place, h)
 }
 
-// The node of a hash, where the cache of all readers has it; want of memory is passed over.
+// The node of a hash, where the cache of all readers has it. The reader keeps it too.
 fn shared_with<R: Wait, H: NodeHash, Sh: Shelf, G: Gate, J: Pinned>(
     worker: &Worker<R, H, Sh, G, J>,
     near: &mut Near<H>,
@@ -191,12 +191,22 @@ fn shared_with<R: Wait, H: NodeHash, Sh: Shelf, G: Gate, J: Pinned>(
 ) -> Option<Arc<Node>>
     ensures { IfSome result (λ a. hash_of H.half (held a.value) ≡ h.now) }
 {
-    let node = match worker.cache.get(worker.rt, h) {
-        Ok(found) => found?,
-        Err(_) => return None,
-    };
+    let node = cached(worker, h)?;
     near.keep(worker.alloc, place, h, &node);
     Some(node)
+}
+
+// The node of a hash, where the cache of all readers has it; want of memory is passed over.
+fn cached<R: Wait, H: NodeHash, Sh: Shelf, G: Gate, J: Pinned>(
+    worker: &Worker<R, H, Sh, G, J>,
+    h: &Hash32,
+) -> Option<Arc<Node>>
+    ensures { IfSome result (λ a. hash_of H.half (held a.value) ≡ h.now) }
+{
+    match worker.cache.get(worker.rt, h) {
+        Ok(found) => found,
+        Err(_) => None,
+    }
 }
 
 // The node of a hash: a copy that the reader keeps, or that of the bytes which are given for it, or one from elsewhere.

@@ -1,5 +1,5 @@
 use Rattle.actor_pool.specs.Order.{IsSameRun, AreAnswered}
-use Rattle.actor_pool.proofs.pool.run_rest.Given as goal
+use Rattle.actor_pool.proofs.pool.run_left.Given as goal
 
 abbrev pub invariant-loop-at : goal.invariant-loop-at
 invariant-loop-at g l = record {

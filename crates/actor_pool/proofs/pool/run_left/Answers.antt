@@ -1,7 +1,7 @@
 use Rattle.std.proofs.Common.{◌≡◌, subst, ℕ, length, arith, ap}
 use Rattle.actor_pool.specs.Order.{AreAnswered}
 use Rattle.actor_pool.proofs.Order.{answered_full}
-use Rattle.actor_pool.proofs.pool.run_rest.Goals as goal
+use Rattle.actor_pool.proofs.pool.run_left.Goals as goal
 
 -- the loop has gone over every line, so each has its entry
 pub returns-clause-full : goal.returns-clause-full
