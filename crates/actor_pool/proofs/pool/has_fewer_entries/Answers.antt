@@ -7,5 +7,11 @@ pub returns : goal.returns
 returns g c = λ none.
     counted_full c.args.core.now.lines c.args.core.now.journal c.script.ensures.servable c.journal-entries.ensures.kept.projects
     c.journal-entries.ensures.kept.known
-    (omega (arith, c.if-entries-len.false, c.len.ensures, c.script.result.now.lines.ok.0, ap length c.script.ensures.lines,
-    ap length c.journal-entries.ensures.journal))
+    (omega (
+      arith,
+      c.if-entries-len.false,
+      c.len.ensures,
+      c.script.result.now.lines.ok.0,
+      ap length c.script.ensures.lines,
+      ap length c.journal-entries.ensures.journal,
+    ))
