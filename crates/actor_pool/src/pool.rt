@@ -23,7 +23,7 @@ use std::thread;
 use std::thread::Threads;
 use store_core::{Core, Stepped};
 
-/// How long the caller leaves the lock free between two sections beside workers, in turns of a loop: 0.15 to 2 microseconds, by the processor.
+/// How long the caller leaves the lock free between two sections beside workers, in turns of a loop, which take 0.15 to 2 microseconds.
 const PAUSE: u32 = 32;
 
 /// Answers every line of the core's script, over the core under one lock: each actor's by a worker of its own, but that where the gate is
