@@ -34,7 +34,12 @@ use Rattle.store_core.specs.contracts.hall.Hall.TheInside as HallIn
 use Rattle.store_core.specs.contracts.core_calls.Core as Core
 use Rattle.store_core.specs.contracts.core_calls.Core.TheInside as CoreIn
 use Rattle.actor_pool.specs.declared.shared.Pinned as pins
+use Rattle.actor_pool.specs.contracts.shared.Hold as Hold
 use Rattle.actor_pool.specs.contracts.shared.Shared as Shared
+use Rattle.actor_pool.specs.contracts.shared.Shared.TheInside as SharedIn
+
+Hold-send : IsSend Hold.the_row
+Hold-send = search sendable depth 30
 
 BaseBox-send : IsSend BaseBox.the_row
 BaseBox-send = search (Hash32-send, crosses, sendable) depth 60 fits 100000
@@ -179,5 +184,14 @@ module _ (H Sh B : RattleType) (h : hashes.Ghosts H.Denot) (s : shelves.Ghosts S
     pub Shared-sync : IsSend H → IsSend Sh → IsSend B → IsSend J → IsSync (Mutex.the_row (Shared.the_row H Sh J B h s b p))
     Shared-sync x y q z =
         let core = Core-send x y q in
+        let all : AllSend (fields (SharedIn.the_type H Sh J B h s b p)) = (
+          core,
+          (
+            search sendable,
+            (search sendable, (search (Hold-send, sendable) depth 30, (search sendable, (search sendable depth 20, tt)))),
+          ),
+        ) in
+        let i : IsSend (SharedIn.the_row H Sh J B h s b p) =
+        recorded_send _ _ _ (SharedIn.the_type H Sh J B h s b p).to_one (struct_send (shape (SharedIn.the_type H Sh J B h s b p)) all) in
         let shared : IsSend (Shared.the_row H Sh J B h s b p) = search sendable depth 20 in
         search crosses depth 5

@@ -3,7 +3,7 @@ ghost use Rattle.std.specs.Prelude.{◌≡◌, IfOk, IfSome, IsTrue};
 ghost use Rattle.actor_pool.specs.Order.{IsOf};
 
 use crate::given::{Given, Lack};
-use crate::shared::{Pinned, Section, Served, Shared, Stride};
+use crate::shared::{Pinned, Section, Served, Shared, Stride, Turn};
 use half_hash::{Blob, Hash32, NodeHash};
 use node_backend::{Backend, Shelf};
 use path_proof::FetchFault;
@@ -70,7 +70,39 @@ pub(crate) fn commit_locked<H: NodeHash, Sh: Shelf, J: Pinned>(
     take_lock(rt, shared).commit(alloc, actor, handed, stride)
 }
 
-/// One section for lines of actors that have no worker.
+/// A turn for the caller.
+pub(crate) fn turn_locked<H: NodeHash, Sh: Shelf, J: Pinned>(
+    rt: &impl Wait,
+    alloc: Global,
+    shared: &Mutex<Shared<H, Sh, J>>,
+    stride: Stride,
+) -> Option<Turn> {
+    take_lock(rt, shared).turn(alloc, stride)
+}
+
+/// A worker's first turn.
+pub(crate) fn worker_turn_locked<H: NodeHash, Sh: Shelf, J: Pinned>(
+    rt: &impl Wait,
+    alloc: Global,
+    shared: &Mutex<Shared<H, Sh, J>>,
+    stride: Stride,
+) -> Option<Turn> {
+    take_lock(rt, shared).worker_turn(alloc, stride)
+}
+
+/// A worker's turn behind one in which it got this for an actor.
+pub(crate) fn next_turn_locked<H: NodeHash, Sh: Shelf, J: Pinned>(
+    rt: &impl Wait,
+    alloc: Global,
+    shared: &Mutex<Shared<H, Sh, J>>,
+    actor: u8,
+    handed: Vec<Followed<H>>,
+    stride: Stride,
+) -> Option<Turn> {
+    take_lock(rt, shared).next_turn(alloc, actor, handed, stride)
+}
+
+/// One section for lines of actors at whose lines nobody is.
 pub(crate) fn serve_locked<H: NodeHash, Sh: Shelf, J: Pinned>(
     rt: &impl Wait,
     alloc: Global,
@@ -80,13 +112,13 @@ pub(crate) fn serve_locked<H: NodeHash, Sh: Shelf, J: Pinned>(
     take_lock(rt, shared).serve(alloc, lines)
 }
 
-/// Notes that an actor's worker has ended.
+/// Notes that nobody is at an actor's lines any more.
 pub(crate) fn free_locked<H: NodeHash, Sh: Shelf, J: Pinned>(
     rt: &impl Wait,
     shared: &Mutex<Shared<H, Sh, J>>,
     actor: u8,
 ) {
-    take_lock(rt, shared).set_free(actor, true);
+    take_lock(rt, shared).set_free(actor);
 }
 
 /// How many lines have their entries.

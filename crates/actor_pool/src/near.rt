@@ -38,18 +38,11 @@ pub(crate) struct Near<H: NodeHash> {
 }
 
 impl<H: NodeHash> Near<H> {
-    /// Without nodes, for a reader beside others. Where memory is refused there are fewer places.
+    /// Without nodes, for a reader beside others.
     pub(crate) fn new(alloc: Global) -> Near<H> {
-        let mut kept = Vec::new(alloc);
-        let _ = kept.reserve(PLACES);
-        for _ in 0..PLACES {
-            if kept.push(None).is_err() {
-                break;
-            }
-        }
         Near {
             is_alone: false,
-            kept,
+            kept: Vec::new(alloc),
         }
     }
 
@@ -73,10 +66,23 @@ impl<H: NodeHash> Near<H> {
         self.kept.get(place)?.as_ref()?.node_of(h)
     }
 
-    /// Keeps an inner node with this hash at a place; want of memory is passed over.
+    // Makes places, without nodes. Where memory is refused there are fewer.
+    fn make_places(&mut self) {
+        let _ = self.kept.reserve(PLACES);
+        for _ in 0..PLACES {
+            if self.kept.push(None).is_err() {
+                break;
+            }
+        }
+    }
+
+    /// Keeps an inner node with this hash at a place; want of memory is passed over. Places are made as the first node is kept.
     pub(crate) fn keep(&mut self, alloc: Global, place: usize, h: &Hash32, node: &Arc<Node>)
         requires { hash_of H.half (held node.now.value) ≡ h.now }
     {
+        if self.kept.is_empty() && !self.is_alone {
+            self.make_places();
+        }
         let Some(slot) = self.kept.get_mut(place) else {
             return;
         };

@@ -10,7 +10,7 @@ use crate::locked::{answered_locked, is_left_locked, serve_locked, unlocked};
 use crate::near::Near;
 use crate::shared::{ACTORS, Pinned, Served, Shared};
 use crate::worker::Worker;
-use crate::working::{LINES, SECTIONS, read_few, stride_of, work};
+use crate::working::{LINES, SECTIONS, read_few, read_turn, stride_of, work};
 use half_hash::NodeHash;
 use ledger_machine::Line;
 use node_backend::Shelf;
@@ -95,8 +95,10 @@ fn run_workers<R: Threads + Wait + Sync, H: NodeHash, Sh: Shelf, G: Gate, J: Pin
     unlocked(shared)
 }
 
-/// Runs workers for actors that have lines left, and waits for them: one for each where a gate is passed, and else one whenever an actor's
-/// lines ask for many reads, while the lines of the others are answered here. One that can't be started leaves its actor's lines undone.
+/// Runs workers for actors that have lines left, and waits for them: one for each where a gate is passed. Else they read for all actors
+/// whose lines ask for many reads, one worker for the first of those and for each behind the second, while the lines of the others are
+/// answered here, and then reads too: so there are as many threads as readers, but two at least. What one that can't be started leaves
+/// undone is done by the others, or later.
 fn run_round<R: Threads + Wait + Sync, H: NodeHash, Sh: Shelf, G: Gate, J: Pinned + Send + Sync>(
     rt: &R,
     alloc: Global,
@@ -137,8 +139,9 @@ fn next_worker<R: Wait, H: NodeHash, Sh: Shelf, G: Gate, J: Pinned>(
     None
 }
 
-// Answers lines that ask for no read, or for few, until an actor asks for many, which is that actor. Beside workers the lock is left free
-// for a moment behind each section: who takes it again at once takes it from those who have tried for it meanwhile.
+// Answers lines that ask for no read, or for few, until one more worker is to read for actors that ask for many, with one of those actors;
+// where there is nothing else to do it reads for them itself. Beside workers the lock is left free for a moment behind each section: who
+// takes it again at once takes it from those who have tried for it meanwhile.
 fn next_reader<R: Wait, H: NodeHash, Sh: Shelf, G: Gate, J: Pinned>(
     rt: &R,
     alloc: Global,
@@ -147,28 +150,30 @@ fn next_reader<R: Wait, H: NodeHash, Sh: Shelf, G: Gate, J: Pinned>(
     gate: &G,
     beside: bool,
 ) -> Option<u8> {
-    let mut near = Near::alone(alloc);
-    let stride = stride_of(gate);
+    let caller = Worker {
+        rt,
+        alloc,
+        shared,
+        cache,
+        gate,
+        actor: 0,
+        stride: stride_of(gate),
+    };
+    let mut alone = Near::alone(alloc);
+    let mut near = Near::new(alloc);
     for _ in 0..SECTIONS {
         if beside {
             pause();
         }
         match serve_locked(rt, alloc, shared, LINES) {
             Served::Reader(actor) => return Some(actor),
-            Served::Few(actor) => {
-                let worker = Worker {
-                    rt,
-                    alloc,
-                    shared,
-                    cache,
-                    gate,
-                    actor,
-                    stride,
-                };
-                read_few(&worker, &mut near);
-            }
+            Served::Few(actor) => read_few(&caller.of(actor), &mut alone),
             Served::Line | Served::Slice => {}
-            Served::Nothing => return None,
+            Served::Nothing => {
+                if !read_turn(&caller, &mut near) {
+                    return None;
+                }
+            }
         }
     }
     None

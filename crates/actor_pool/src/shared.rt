@@ -53,7 +53,27 @@ pub(crate) struct Section {
     pub(crate) jobs: Vec<ReadJob>,
 }
 
-/// What a section for actors without a worker came to.
+/// An actor whose turn it is, and the reads that its next lines ask for.
+#[derive(Drop)]
+pub(crate) struct Turn {
+    pub(crate) actor: u8,
+    pub(crate) jobs: Vec<ReadJob>,
+}
+
+/// Who is at an actor's lines.
+#[derive(Clone, Copy, Debug)]
+enum Hold {
+    /// Nobody, and it has none.
+    Absent,
+    /// Nobody. The caller serves them.
+    Free,
+    /// Nobody. The next ones ask for reads, for which the actor waits.
+    Waits,
+    /// A worker, or the caller, with reads that the actor's next lines ask for.
+    Held,
+}
+
+/// What a section for actors at whose lines nobody is came to.
 #[derive(Clone, Copy, Debug)]
 pub(crate) enum Served {
     /// Lines were answered.
@@ -62,9 +82,9 @@ pub(crate) enum Served {
     Slice,
     /// This actor's next lines ask for reads, fewer than a worker goes down for at once.
     Few(u8),
-    /// This actor's next lines ask for more.
+    /// This actor's next lines ask for more, and there are too few workers for all actors whose lines do.
     Reader(u8),
-    /// There was nothing to do.
+    /// There was nothing to do but such reads.
     Nothing,
 }
 
@@ -74,8 +94,12 @@ pub(crate) struct Shared<H: NodeHash, Sh: Shelf, J: Pinned> {
     core: Core<H, Sh>,
     /// Whose line is served next.
     turn: u8,
-    /// Which actors have lines, and no worker.
-    free: [bool; ACTORS as usize],
+    /// For whom is read next, if he waits for it.
+    reader: u8,
+    /// Who is at each actor's lines.
+    holds: [Hold; ACTORS as usize],
+    /// How many workers read for actors in turn.
+    workers: u32,
     of: PhantomData<J>,
 }
 
@@ -95,16 +119,18 @@ impl<H: NodeHash, Sh: Shelf, J: Pinned> Model for Shared<H, Sh, J> {
 }
 
 impl<H: NodeHash, Sh: Shelf, J: Pinned> Shared<H, Sh, J> {
-    /// A core of whose actors none has a worker.
+    /// A core at the lines of whose actors nobody is.
     pub(crate) fn new(core: Core<H, Sh>) -> Self
         requires { IsOf J.run core }
         ensures { result ≡ core }
     {
-        let free = actors_of(&core.script().lines);
+        let holds = actors_of(&core.script().lines);
         Shared {
             core,
             turn: 0,
-            free,
+            reader: 0,
+            holds,
+            workers: 0,
             of: PhantomData,
         }
     }
@@ -121,8 +147,8 @@ impl<H: NodeHash, Sh: Shelf, J: Pinned> Shared<H, Sh, J> {
         self.section(alloc, actor, stepped, stride)
     }
 
-    /// One section for lines that ask for no read, of actors that have no worker: up to so many, until a line of one asks for a read. Who
-    /// calls reads for that actor, or has a worker do so, and none of its lines is served here meanwhile.
+    /// One section for lines that ask for no read, of actors at whose lines nobody is: up to so many, until a line of one asks for a read.
+    /// Who calls reads for that actor if it is few, and has a worker more if it is told so; none of its lines is served here meanwhile.
     pub(crate) fn serve(&mut self, alloc: Global, lines: u32) -> Served {
         for _ in 0..lines {
             match self.serve_next(alloc) {
@@ -150,12 +176,7 @@ impl<H: NodeHash, Sh: Shelf, J: Pinned> Shared<H, Sh, J> {
             return Served::Nothing;
         }
         if let Some(first) = self.core.read_job(actor) {
-            self.set_free(actor, false);
-            return if are_few(&self.core.script().lines, actor, &first, READS) {
-                Served::Few(actor)
-            } else {
-                Served::Reader(actor)
-            };
+            return self.serve_reader(actor, &first);
         }
         match self.line(alloc, actor) {
             Stepped::Answered => Served::Line,
@@ -164,18 +185,93 @@ impl<H: NodeHash, Sh: Shelf, J: Pinned> Shared<H, Sh, J> {
         }
     }
 
-    // Whether an actor has lines, and no worker.
+    // The same for an actor whose next line asks for a read.
+    fn serve_reader(&mut self, actor: u8, first: &ReadJob) -> Served {
+        if are_few(&self.core.script().lines, actor, first, READS) {
+            self.set_hold(actor, Hold::Held);
+            return Served::Few(actor);
+        }
+        self.set_hold(actor, Hold::Waits);
+        if self.workers >= self.readers().saturating_sub(1).max(1) {
+            return Served::Nothing;
+        }
+        self.workers = self.workers.saturating_add(1);
+        Served::Reader(actor)
+    }
+
+    // How many actors wait for reads, or have somebody who reads for them.
+    fn readers(&self) -> u32 {
+        let mut readers: u32 = 0;
+        for hold in &self.holds {
+            if matches!(hold, Hold::Waits | Hold::Held) {
+                readers = readers.saturating_add(1);
+            }
+        }
+        readers
+    }
+
+    // Whether an actor has lines, and nobody is at them.
     fn is_free(&self, actor: u8) -> bool {
-        match self.free.get(actor as usize) {
-            Some(free) => *free,
-            None => false,
+        matches!(self.holds.get(actor as usize), Some(Hold::Free))
+    }
+
+    // Notes who is at an actor's lines.
+    fn set_hold(&mut self, actor: u8, hold: Hold) {
+        if let Some(own) = self.holds.get_mut(actor as usize) {
+            *own = hold;
         }
     }
 
-    /// Notes that an actor has a worker, or none any more.
-    pub(crate) fn set_free(&mut self, actor: u8, is_free: bool) {
-        if let Some(free) = self.free.get_mut(actor as usize) {
-            *free = is_free;
+    /// Notes that nobody is at an actor's lines any more.
+    pub(crate) fn set_free(&mut self, actor: u8) {
+        self.set_hold(actor, Hold::Free);
+    }
+
+    /// A turn for the caller: the reads of an actor that waits for them, if one does. Each that waits has its turn before one has two.
+    pub(crate) fn turn(&mut self, alloc: Global, stride: Stride) -> Option<Turn> {
+        for _ in 0..ACTORS {
+            let actor = self.reader;
+            self.reader = actor.saturating_add(1) % ACTORS;
+            if matches!(self.holds.get(actor as usize), Some(Hold::Waits)) {
+                self.set_hold(actor, Hold::Held);
+                let jobs = self.reads(alloc, actor, stride);
+                return Some(Turn { actor, jobs });
+            }
+        }
+        None
+    }
+
+    /// The same for a worker, which ends where none waits.
+    pub(crate) fn worker_turn(&mut self, alloc: Global, stride: Stride) -> Option<Turn> {
+        let turn = self.turn(alloc, stride);
+        if turn.is_none() {
+            self.workers = self.workers.saturating_sub(1);
+        }
+        turn
+    }
+
+    /// Takes what a worker got in an actor's turn, and gives it another turn: for an actor that waits, or else for the same one.
+    pub(crate) fn next_turn(
+        &mut self,
+        alloc: Global,
+        actor: u8,
+        handed: Vec<Followed<H>>,
+        stride: Stride,
+    ) -> Option<Turn> {
+        let section = self.commit(alloc, actor, handed, stride);
+        if section.jobs.is_empty() {
+            self.set_free(actor);
+            return self.worker_turn(alloc, stride);
+        }
+        match self.turn(alloc, stride) {
+            Some(turn) => {
+                self.set_hold(actor, Hold::Waits);
+                Some(turn)
+            }
+            None => Some(Turn {
+                actor,
+                jobs: section.jobs,
+            }),
         }
     }
 
@@ -290,15 +386,15 @@ impl<H: NodeHash, Sh: Shelf, J: Pinned> Shared<H, Sh, J> {
     }
 }
 
-// Which actors have lines.
-fn actors_of(lines: &[Line]) -> [bool; ACTORS as usize] {
-    let mut actors = [false; ACTORS as usize];
+// Who is at each actor's lines in the beginning: nobody.
+fn actors_of(lines: &[Line]) -> [Hold; ACTORS as usize] {
+    let mut holds = [Hold::Absent; ACTORS as usize];
     for line in lines {
-        if let Some(has) = actors.get_mut(line.actor as usize) {
-            *has = true;
+        if let Some(hold) = holds.get_mut(line.actor as usize) {
+            *hold = Hold::Free;
         }
     }
-    actors
+    holds
 }
 
 // Whether a section came to an entry.

@@ -18,3 +18,18 @@ pub(crate) struct Worker<'a, R, H: NodeHash, Sh: Shelf, G, J: Pinned> {
     pub(crate) actor: u8,
     pub(crate) stride: Stride,
 }
+
+impl<'a, R, H: NodeHash, Sh: Shelf, G, J: Pinned> Worker<'a, R, H, Sh, G, J> {
+    /// The same for another actor.
+    pub(crate) fn of(&self, actor: u8) -> Worker<'a, R, H, Sh, G, J> {
+        Worker {
+            rt: self.rt,
+            alloc: self.alloc,
+            shared: self.shared,
+            cache: self.cache,
+            gate: self.gate,
+            actor,
+            stride: self.stride,
+        }
+    }
+}

@@ -1,10 +1,13 @@
 //! What a worker does: its actor's lines, one section after another.
 
 use crate::gate::{Gate, Point};
-use crate::locked::{commit_locked, free_locked, reads_locked, step_locked};
+use crate::locked::{
+    commit_locked, free_locked, next_turn_locked, reads_locked, step_locked, turn_locked,
+    worker_turn_locked,
+};
 use crate::near::Near;
 use crate::reading::read_outside;
-use crate::shared::{Pinned, READS, Section, Shared, Stride};
+use crate::shared::{Pinned, READS, Section, Shared, Stride, Turn};
 use crate::worker::Worker;
 use half_hash::NodeHash;
 use node_backend::Shelf;
@@ -23,8 +26,8 @@ pub(crate) const LINES: u32 = 16;
 /// How often a worker tries a line that waits before it leaves it to the next round, where a gate is passed.
 const TRIES: u32 = 64;
 
-/// Runs an actor's lines, of which there are at most so many, until it has none, or its next one
-/// waits each time that it is tried.
+/// What a worker does: where a gate is passed, an actor's lines, of which there are at most so many; and else the reads that actors wait
+/// for.
 pub(crate) fn work<R: Wait, H: NodeHash, Sh: Shelf, G: Gate, J: Pinned>(
     rt: &R,
     alloc: Global,
@@ -34,7 +37,6 @@ pub(crate) fn work<R: Wait, H: NodeHash, Sh: Shelf, G: Gate, J: Pinned>(
     actor: u8,
     lines: usize,
 ) {
-    let mut near = Near::new(alloc);
     let worker = Worker {
         rt,
         alloc,
@@ -44,14 +46,74 @@ pub(crate) fn work<R: Wait, H: NodeHash, Sh: Shelf, G: Gate, J: Pinned>(
         actor,
         stride: stride_of(gate),
     };
-    let mut jobs = reads_locked(rt, alloc, shared, actor, worker.stride);
+    let mut near = Near::new(alloc);
+    if gate.is_open() {
+        read_turns(&worker, &mut near);
+    } else {
+        run_lines(&worker, &mut near, lines);
+    }
+}
+
+// Runs an actor's lines until it has none, or its next one waits each time that it is tried.
+fn run_lines<R: Wait, H: NodeHash, Sh: Shelf, G: Gate, J: Pinned>(
+    worker: &Worker<R, H, Sh, G, J>,
+    near: &mut Near<H>,
+    lines: usize,
+) {
+    let mut jobs = reads_locked(
+        worker.rt,
+        worker.alloc,
+        worker.shared,
+        worker.actor,
+        worker.stride,
+    );
     for _ in 0..lines {
-        match answer(&worker, &mut near, jobs) {
+        match answer(worker, near, jobs) {
             Some(next) => jobs = next,
             None => break,
         }
     }
-    free_locked(rt, shared, actor);
+    free_locked(worker.rt, worker.shared, worker.actor);
+}
+
+// Reads for one actor after the other, each in its turn, until none waits for it.
+fn read_turns<R: Wait, H: NodeHash, Sh: Shelf, G: Gate, J: Pinned>(
+    worker: &Worker<R, H, Sh, G, J>,
+    near: &mut Near<H>,
+) {
+    let mut next = worker_turn_locked(worker.rt, worker.alloc, worker.shared, worker.stride);
+    for _ in 0..SECTIONS {
+        let Some(Turn { actor, jobs }) = next else {
+            return;
+        };
+        let handed = read_outside(&worker.of(actor), near, jobs);
+        next = next_turn_locked(
+            worker.rt,
+            worker.alloc,
+            worker.shared,
+            actor,
+            handed,
+            worker.stride,
+        );
+    }
+}
+
+/// Reads for an actor that waits for it, for one turn, as the caller does that has nothing else to do. False where none waits.
+pub(crate) fn read_turn<R: Wait, H: NodeHash, Sh: Shelf, G: Gate, J: Pinned>(
+    worker: &Worker<R, H, Sh, G, J>,
+    near: &mut Near<H>,
+) -> bool {
+    let Some(Turn { actor, jobs }) = turn_locked(
+        worker.rt,
+        worker.alloc,
+        worker.shared,
+        worker.stride,
+    ) else {
+        return false;
+    };
+    let _ = answer(&worker.of(actor), near, jobs);
+    free_locked(worker.rt, worker.shared, actor);
+    true
 }
 
 /// Answers what an actor's next lines ask to be read, and some of its lines behind those, for one that has no worker.
