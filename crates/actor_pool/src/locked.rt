@@ -112,6 +112,15 @@ pub(crate) fn serve_locked<H: NodeHash, Sh: Shelf, J: Pinned>(
     take_lock(rt, shared).serve(alloc, lines)
 }
 
+/// The same where the lock is free.
+pub(crate) fn try_serve_locked<H: NodeHash, Sh: Shelf, J: Pinned>(
+    alloc: Global,
+    shared: &Mutex<Shared<H, Sh, J>>,
+    lines: u32,
+) -> Option<Served> {
+    Some(shared.try_lock()?.serve(alloc, lines))
+}
+
 /// Notes that nobody is at an actor's lines any more.
 pub(crate) fn free_locked<H: NodeHash, Sh: Shelf, J: Pinned>(
     rt: &impl Wait,

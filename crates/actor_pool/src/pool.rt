@@ -6,7 +6,7 @@ ghost use Rattle.store_core.specs.Journal.{IsJournal};
 ghost use Rattle.actor_pool.specs.Order.{IsOf, IsSameRun, AreAnswered, AreOfOne};
 
 use crate::gate::{Gate, Point};
-use crate::locked::{answered_locked, is_left_locked, serve_locked, unlocked};
+use crate::locked::{answered_locked, is_left_locked, serve_locked, try_serve_locked, unlocked};
 use crate::near::Near;
 use crate::shared::{ACTORS, Pinned, Served, Shared};
 use crate::worker::Worker;
@@ -16,15 +16,18 @@ use ledger_machine::Line;
 use node_backend::Shelf;
 use read_cache::ReadCache;
 use std::alloc::Global;
-use std::hint::spin_loop;
 use std::marker::Brand;
 use std::sync::{Mutex, Wait};
 use std::thread;
 use std::thread::Threads;
 use store_core::{Core, Stepped};
 
-/// How long the caller leaves the lock free between two sections beside workers, in turns of a loop, which take 0.15 to 2 microseconds.
-const PAUSE: u32 = 32;
+/// How often the caller gives way before each of its tries at the lock beside workers. A worker that waits gives way once between two, so
+/// it tries more often, and sooner behind a section of the caller, however long giving way takes.
+const PAUSES: u32 = 3;
+
+/// How often the caller tries the lock in this way before it waits for it as a worker does.
+const TRIES: u32 = 1_000;
 
 /// Answers every line of the core's script, over the core under one lock: each actor's by a worker of its own, but that where the gate is
 /// open lines that ask for no read, or for few in a row, are answered here; and what is left undone then here too, in line order. Where
@@ -140,8 +143,7 @@ fn next_worker<R: Wait, H: NodeHash, Sh: Shelf, G: Gate, J: Pinned>(
 }
 
 // Answers lines that ask for no read, or for few, until one more worker is to read for actors that ask for many, with one of those actors;
-// where there is nothing else to do it reads for them itself. Beside workers the lock is left free for a moment behind each section: who
-// takes it again at once takes it from those who have tried for it meanwhile.
+// where there is nothing else to do it reads for them itself.
 fn next_reader<R: Wait, H: NodeHash, Sh: Shelf, G: Gate, J: Pinned>(
     rt: &R,
     alloc: Global,
@@ -162,10 +164,7 @@ fn next_reader<R: Wait, H: NodeHash, Sh: Shelf, G: Gate, J: Pinned>(
     let mut alone = Near::alone(alloc);
     let mut near = Near::new(alloc);
     for _ in 0..SECTIONS {
-        if beside {
-            pause();
-        }
-        match serve_locked(rt, alloc, shared, LINES) {
+        match caller_section(rt, alloc, shared, beside) {
             Served::Reader(actor) => return Some(actor),
             Served::Few(actor) => read_few(&caller.of(actor), &mut alone),
             Served::Line | Served::Slice => {}
@@ -179,10 +178,29 @@ fn next_reader<R: Wait, H: NodeHash, Sh: Shelf, G: Gate, J: Pinned>(
     None
 }
 
-// Does nothing for a moment.
+// One section of the caller, for lines that ask for no read. Beside workers it gives way before each of its tries, so that they have the
+// lock first: who takes it again at once takes it from those who wait for it.
+fn caller_section<R: Wait, H: NodeHash, Sh: Shelf, J: Pinned>(
+    rt: &R,
+    alloc: Global,
+    shared: &Mutex<Shared<H, Sh, J>>,
+    beside: bool,
+) -> Served {
+    if beside {
+        for _ in 0..TRIES {
+            pause();
+            if let Some(served) = try_serve_locked(alloc, shared, LINES) {
+                return served;
+            }
+        }
+    }
+    serve_locked(rt, alloc, shared, LINES)
+}
+
+// Gives way for as long as a worker takes that waits to try again.
 fn pause() {
-    for _ in 0..PAUSE {
-        spin_loop();
+    for _ in 0..PAUSES {
+        thread::yield_now();
     }
 }
 
