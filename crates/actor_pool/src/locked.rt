@@ -90,6 +90,18 @@ pub(crate) fn worker_turn_locked<H: NodeHash, Sh: Shelf, J: Pinned>(
     take_lock(rt, shared).worker_turn(alloc, stride)
 }
 
+/// Hands in what the caller got in an actor's turn.
+pub(crate) fn hand_in_locked<H: NodeHash, Sh: Shelf, J: Pinned>(
+    rt: &impl Wait,
+    alloc: Global,
+    shared: &Mutex<Shared<H, Sh, J>>,
+    actor: u8,
+    handed: Vec<Followed<H>>,
+    stride: Stride,
+) {
+    take_lock(rt, shared).hand_in(alloc, actor, handed, stride);
+}
+
 /// A worker's turn behind one in which it got this for an actor.
 pub(crate) fn next_turn_locked<H: NodeHash, Sh: Shelf, J: Pinned>(
     rt: &impl Wait,

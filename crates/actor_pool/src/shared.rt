@@ -137,6 +137,12 @@ impl<H: NodeHash, Sh: Shelf, J: Pinned> Shared<H, Sh, J> {
 
     /// One section for the actor's next lines. It ends behind one that isn't answered, and before one that asks for a read.
     pub(crate) fn step(&mut self, alloc: Global, actor: u8, stride: Stride) -> Section {
+        let stepped = self.steps(alloc, actor, stride);
+        self.section(alloc, actor, stepped, stride)
+    }
+
+    // The same, without the reads that are asked for behind it.
+    fn steps(&mut self, alloc: Global, actor: u8, stride: Stride) -> Stepped {
         let mut stepped = self.line(alloc, actor);
         for _ in 1..stride.lines {
             if !is_answered(stepped) || self.asks(actor) {
@@ -144,7 +150,7 @@ impl<H: NodeHash, Sh: Shelf, J: Pinned> Shared<H, Sh, J> {
             }
             stepped = self.line(alloc, actor);
         }
-        self.section(alloc, actor, stepped, stride)
+        stepped
     }
 
     /// One section for lines that ask for no read, of actors at whose lines nobody is: up to so many, until a line of one asks for a read.
@@ -250,7 +256,23 @@ impl<H: NodeHash, Sh: Shelf, J: Pinned> Shared<H, Sh, J> {
         turn
     }
 
-    /// Takes what a worker got in an actor's turn, and gives it another turn: for an actor that waits, or else for the same one.
+    /// Takes what a reader got in an actor's turn. Where the actor's next line asks for a read again, it waits for the next one.
+    pub(crate) fn hand_in(
+        &mut self,
+        alloc: Global,
+        actor: u8,
+        handed: Vec<Followed<H>>,
+        stride: Stride,
+    ) {
+        let _ = self.take_lines(alloc, actor, handed, stride);
+        if self.asks(actor) {
+            self.set_hold(actor, Hold::Waits);
+        } else {
+            self.set_free(actor);
+        }
+    }
+
+    /// The same for a worker, which has another turn then: for another actor that waits, or else for the same one.
     pub(crate) fn next_turn(
         &mut self,
         alloc: Global,
@@ -258,21 +280,8 @@ impl<H: NodeHash, Sh: Shelf, J: Pinned> Shared<H, Sh, J> {
         handed: Vec<Followed<H>>,
         stride: Stride,
     ) -> Option<Turn> {
-        let section = self.commit(alloc, actor, handed, stride);
-        if section.jobs.is_empty() {
-            self.set_free(actor);
-            return self.worker_turn(alloc, stride);
-        }
-        match self.turn(alloc, stride) {
-            Some(turn) => {
-                self.set_hold(actor, Hold::Waits);
-                Some(turn)
-            }
-            None => Some(Turn {
-                actor,
-                jobs: section.jobs,
-            }),
-        }
+        self.hand_in(alloc, actor, handed, stride);
+        self.worker_turn(alloc, stride)
     }
 
     // One step of the actor.
@@ -352,8 +361,20 @@ impl<H: NodeHash, Sh: Shelf, J: Pinned> Shared<H, Sh, J> {
         handed: Vec<Followed<H>>,
         stride: Stride,
     ) -> Section {
+        let stepped = self.take_lines(alloc, actor, handed, stride);
+        self.section(alloc, actor, stepped, stride)
+    }
+
+    // The same, without the reads that are asked for behind it.
+    fn take_lines(
+        &mut self,
+        alloc: Global,
+        actor: u8,
+        handed: Vec<Followed<H>>,
+        stride: Stride,
+    ) -> Stepped {
         if handed.is_empty() {
-            return self.step(alloc, actor, stride);
+            return self.steps(alloc, actor, stride);
         }
         let mut last = Stepped::Answered;
         for one in handed {
@@ -363,9 +384,9 @@ impl<H: NodeHash, Sh: Shelf, J: Pinned> Shared<H, Sh, J> {
             }
         }
         if is_answered(last) && stride.lines > 1 && !self.asks(actor) {
-            return self.step(alloc, actor, stride);
+            return self.steps(alloc, actor, stride);
         }
-        self.section(alloc, actor, last, stride)
+        last
     }
 
     /// How many lines have their entries.

@@ -2,8 +2,8 @@
 
 use crate::gate::{Gate, Point};
 use crate::locked::{
-    commit_locked, free_locked, next_turn_locked, reads_locked, step_locked, turn_locked,
-    worker_turn_locked,
+    commit_locked, free_locked, hand_in_locked, next_turn_locked, reads_locked, step_locked,
+    turn_locked, worker_turn_locked,
 };
 use crate::near::Near;
 use crate::reading::read_outside;
@@ -111,8 +111,15 @@ pub(crate) fn read_turn<R: Wait, H: NodeHash, Sh: Shelf, G: Gate, J: Pinned>(
     ) else {
         return false;
     };
-    let _ = answer(&worker.of(actor), near, jobs);
-    free_locked(worker.rt, worker.shared, actor);
+    let handed = read_outside(&worker.of(actor), near, jobs);
+    hand_in_locked(
+        worker.rt,
+        worker.alloc,
+        worker.shared,
+        actor,
+        handed,
+        worker.stride,
+    );
     true
 }
 
